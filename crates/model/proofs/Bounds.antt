@@ -1,0 +1,222 @@
+-- How long the lists grow: a local pool holds at most B ranges, a queued one 1 to 2B, a flush has at most 4B in hand. Each step keeps it.
+use mathlib.Core.Path.{_≡_, refl, subst}
+use mathlib.Core.Bool.{Bool, true, false, not, cond}
+use mathlib.Core.Logic.{_≢_}
+use mathlib.Core.List.{List, [], _∷_, _++_, map}
+use Prim.Native.Nat.{ℕ, zero, suc, _+_, _*_, _≤_, _<_, _/_}
+use native.Mathlib.Omega.{arith}
+use lib.Dec.{ltb, leb, eqb}
+use lib.ListN.{length, getD, set, take, drop, length-append, length-take, length-drop}
+use borrow.Author.Tests as Tests
+use Rattle.model.specs.Store.{absent, Reading, Range, Doing, Idle, PutPublish, PutStamp, PutHandIn, FlushTake, FlushRead, FlushFree, OpenAnnounce, OpenPass, ReadEnter, ReadStand, CloseWithdraw, GetShow, Worker, startWorker, Store, workerAt, slotAt, rangeOf, withWorker, withDoing, place}
+use Rattle.model.specs.Answer.{Stepped}
+use Rattle.model.specs.Versions.{stamp}
+use Rattle.model.specs.Ranges.{needed, filter, mergeInto, merge, firstTwo, neededPools, joining, queuedPool}
+use Rattle.model.specs.Steps.{putPublish, putStamp, putHandIn, flushTake, readTimes, flushSplit, flushRead, moveOff, workerOff, flushFree, openAnnounce, openPass, readEnter, readStand, getShow, closeWithdraw, stepAt}
+use Rattle.model.specs.Record.{Operation, Put, Open, Read, Close, Get, Collect}
+use Rattle.model.specs.Apply.{firstPlace}
+use Rattle.model.specs.Demand.{All}
+use Rattle.model.proofs.Basic.{cond-both, All-append}
+
+------------------------------------------------------------------------
+-- Lengths
+
+len-mergeInto : (a : Range) (rest : List Range → List Range) (n : ℕ) → ((b : List Range) → length (rest b) ≡ n + length b) → (b : List Range) → length (mergeInto a rest b) ≡ 1 + n + length b
+unfolding mergeInto
+len-mergeInto a rest n e [] = omega (arith, e [])
+len-mergeInto a rest n e (b ∷ bs) =
+    cond-both (λ l. length l ≡ 1 + n + (suc (length bs))) (leb (a .high) (b .high)) (a ∷ rest (b ∷ bs)) (b ∷ mergeInto a rest bs)
+    (λ u. omega (arith, e (b ∷ bs))) (λ u. omega (arith, len-mergeInto a rest n e bs))
+
+len-merge : (a b : List Range) → length (merge a b) ≡ length a + length b
+unfolding merge
+len-merge [] b = omega arith
+len-merge (x ∷ a) b = omega (arith, len-mergeInto x (merge a) (length a) (len-merge a) b)
+
+len-filter : (p : Range → Bool) (l : List Range) → length (filter p l) ≤ length l
+unfolding filter
+len-filter p [] = omega arith
+len-filter p (x ∷ l) = cond-both (λ q. length q ≤ suc (length l)) (p x) (x ∷ filter p l) (filter p l) (λ u. omega (arith, len-filter p l)) (λ u. omega (arith, len-filter p l))
+
+abbrev Short : ℕ → List Range → Type 0
+Short n l = length l ≤ n
+
+-- a queued pool
+abbrev pub Sized : ℕ → List Range → Type 0
+Sized n l = (1 ≤ length l) × (length l ≤ n)
+
+module _ (b : ℕ) where
+  len-firstTwo : (q : List (List Range)) → All (Sized (2 * b)) q → length (firstTwo q) ≤ 4 * b
+  unfolding firstTwo
+  len-firstTwo [] t = omega arith
+  len-firstTwo (p ∷ []) t = omega (arith, t .0 .1)
+  len-firstTwo (p ∷ q ∷ l) t = omega (arith, t .0 .1, t .1 .0 .1, len-merge p q)
+
+  rest-sized : (q : List (List Range)) → All (Sized (2 * b)) q → All (Sized (2 * b)) (drop 2 q)
+  rest-sized [] t = tt
+  rest-sized (p ∷ []) t = tt
+  rest-sized (p ∷ q ∷ l) t = t .1 .1
+
+  needed-sized : 0 < b → (l : List Range) → length l ≤ 4 * b → All (Sized (2 * b)) (neededPools b l)
+  unfolding neededPools
+  needed-sized pos l t =
+      cond-both (All (Sized (2 * b))) (ltb (2 * b) (length l)) (take h l ∷ drop h l ∷ []) (cond (ltb b (length l)) (l ∷ []) [])
+      (λ u.
+      let long = Tests.ltb-true (2 * b) (length l) u in (
+        (omega (arith, length-take h l, half, long), omega (arith, length-take h l, half)),
+        ((omega (arith, length-drop h l, half, long), omega (arith, length-drop h l, half)), tt),
+      ))
+      (λ u. cond-both (All (Sized (2 * b))) (ltb b (length l)) (l ∷ []) []
+      (λ v. ((omega (arith, Tests.ltb-true b (length l) v), omega (arith, Tests.ltb-false (2 * b) (length l) u)), tt)) (λ v. tt))
+    where
+      h : ℕ
+      h = (length l + 1) / 2
+
+      half : (h + h ≤ length l + 1) × (length l ≤ h + h)
+      half = (omega arith, omega arith)
+
+  local-short : (l : List Range) → length (joining b l) ≤ b
+  unfolding joining
+  local-short l = cond-both (Short b) (ltb b (length l)) [] l (λ u. omega arith) (λ u. omega (arith, Tests.ltb-false b (length l) u))
+
+  queued-sized : (n : ℕ) (l : List Range) → length l ≤ n → All (Sized n) (queuedPool l)
+  unfolding queuedPool
+  queued-sized n [] t = tt
+  queued-sized n (x ∷ l) t = ((omega arith, t), tt)
+
+  ------------------------------------------------------------------------
+  -- A worker: its pool, and what it has in hand
+
+  abbrev pub Fit : ℕ → Doing → Type 0
+  Fit n Idle = n < b
+  Fit n (PutPublish r y) = n < b
+  Fit n (PutStamp r c) = n < b
+  Fit n (PutHandIn r c) = n < b
+  Fit n FlushTake = n ≤ b
+  Fit n (FlushRead m ts) = (n ≤ b) × (length m ≤ 4 * b)
+  Fit n (FlushFree m) = (n < b) × (length m ≤ 4 * b)
+  Fit n OpenAnnounce = n < b
+  Fit n OpenPass = n < b
+  Fit n (ReadEnter r) = n < b
+  Fit n (ReadStand r c) = n < b
+  Fit n CloseWithdraw = n < b
+  Fit n (GetShow r) = n < b
+
+  abbrev pub FitW : Worker → Type 0
+  FitW y = Fit (length (y .pool)) (y .doing)
+
+  fit-off : (c o n : ℕ) (d : Doing) → Fit n d → Fit n (moveOff c o d)
+  unfolding moveOff
+  fit-off c o n Idle a = a
+  fit-off c o n (PutPublish r y) a = a
+  fit-off c o n (PutStamp r e) a = a
+  fit-off c o n (PutHandIn r e) a = a
+  fit-off c o n FlushTake a = a
+  fit-off c o n (FlushRead m ts) a = a
+  fit-off c o n (FlushFree m) a = a
+  fit-off c o n OpenAnnounce a = a
+  fit-off c o n OpenPass a = a
+  fit-off c o n (ReadEnter r) a = a
+  fit-off c o n (ReadStand r e) a = a
+  fit-off c o n CloseWithdraw a = a
+  fit-off c o n (GetShow r) a = a
+
+pub record Within (b : ℕ) (s : Store) : Type 0 where
+  pub workers : All (FitW b) (s .workers)
+  pub pools : All (Sized (2 * b)) (s .queue)
+
+All-set {ℓ} : {A : Type ℓ} (Q : A → Type 0) (l : List A) (i : ℕ) (y : A) → Q y → All Q l → All Q (set l i y)
+All-set Q [] i y a t = tt
+All-set Q (x ∷ l) zero y a t = (a, t .1)
+All-set Q (x ∷ l) (suc i) y a t = (t .0, All-set Q l i y a (t .1))
+
+All-nth {ℓ} : {A : Type ℓ} (Q : A → Type 0) (l : List A) (i : ℕ) (d : A) → Q d → All Q l → Q (getD l i d)
+All-nth Q [] i d a t = a
+All-nth Q (x ∷ l) zero d a t = t .0
+All-nth Q (x ∷ l) (suc i) d a t = All-nth Q l i d a (t .1)
+
+All-through {ℓ} : {A : Type ℓ} (Q : A → Type 0) (f : A → A) → ((x : A) → Q x → Q (f x)) → (l : List A) → All Q l → All Q (map f l)
+All-through Q f g [] t = tt
+All-through Q f g (x ∷ l) t = (g x (t .0), All-through Q f g l (t .1))
+
+module _ (batch : ℕ → ℕ) (s : Store) (pos : 0 < batch (s .P)) (W : Within (batch (s .P)) s) (w : ℕ) where
+  abbrev b : ℕ
+  b = batch (s .P)
+
+  abbrev n : ℕ
+  n = length (workerAt s w .pool)
+
+  own : (d : Doing) → workerAt s w .doing ≡ d → Fit b n d
+  own d e = subst (Fit b n) e (All-nth (FitW b) (s .workers) w startWorker pos (W .workers))
+
+  -- the worker's record changes, and perhaps the queue
+  to : (y : Worker) → FitW b y → All (FitW b) (set (s .workers) w y)
+  to y a = All-set (FitW b) (s .workers) w y a (W .workers)
+
+  put-within : (r : ℕ) (y : Reading) → workerAt s w .doing ≡ PutPublish r y → (l : List ℕ) → Within b (putPublish s w r y l .store)
+  unfolding putPublish stamp
+  put-within r y e [] = record { workers = to (withDoing (workerAt s w) Idle) (own (PutPublish r y) e); pools = W .pools }
+  put-within r y e (f ∷ fs) = record { workers = to (withDoing (workerAt s w) (PutStamp r _)) (own (PutPublish r y) e); pools = W .pools }
+
+  pub step-within : (d : Doing) → workerAt s w .doing ≡ d → Within b (stepAt batch s w d .store)
+  unfolding stepAt putStamp putHandIn flushTake flushRead flushSplit flushFree openAnnounce openPass readEnter readStand getShow closeWithdraw stamp workerOff
+  step-within Idle e = W
+  step-within (PutPublish r y) e = put-within r y e (s .free)
+  step-within (PutStamp r c) e =
+      cond-both (λ (q : Store). Within b (place q w (PutHandIn r c))) (eqb (slotAt s c .high) absent) (stamp s r) s
+      (λ u. record { workers = to (withDoing (workerAt s w) (PutHandIn r c)) (own (PutStamp r c) e); pools = W .pools })
+      (λ u. record { workers = to (withDoing (workerAt s w) (PutHandIn r c)) (own (PutStamp r c) e); pools = W .pools })
+  step-within (PutHandIn r c) e = go (eqb (length (workerAt s w .pool ++ (rangeOf s c ∷ []))) b) refl
+    where
+      len : length (workerAt s w .pool ++ (rangeOf s c ∷ [])) ≡ n + 1
+      len = length-append (workerAt s w .pool) (rangeOf s c ∷ [])
+
+      go : (full : Bool) → eqb (length (workerAt s w .pool ++ (rangeOf s c ∷ []))) b ≡ full
+          → Within b (withWorker s w (record { doing = cond full FlushTake Idle; announced = workerAt s w .announced; pool = workerAt s w .pool ++ (rangeOf s c ∷ []) }))
+      go true u = record { workers = to _ (omega (arith, len, own (PutHandIn r c) e)); pools = W .pools }
+      go false u = record { workers = to _ (let ne : length (workerAt s w .pool ++ (rangeOf s c ∷ [])) ≢ b = Tests.eqb-false (length (workerAt s w .pool ++ (rangeOf s c ∷ []))) b u in omega (arith, len, own (PutHandIn r c) e)); pools = W .pools }
+  step-within FlushTake e =
+      record { workers = to (withDoing (workerAt s w) (FlushRead (firstTwo (s .queue)) [])) (own FlushTake e, len-firstTwo b (s .queue) (W .pools)); pools = rest-sized b (s .queue) (W .pools) }
+  step-within (FlushRead m ts) e =
+      cond-both (λ (q : Stepped). Within b (q .store)) (ltb (length ts) (s .P)) _ _
+      (λ u. record { workers = to (withDoing (workerAt s w) (FlushRead m (ts ++ readTimes s (length ts)))) (own (FlushRead m ts) e); pools = W .pools })
+      (λ u.
+      let a = own (FlushRead m ts) e in
+      let stay = filter (needed ts) m in
+      record {
+        workers = to (record { doing = FlushFree (filter (λ ρ. not (needed ts ρ)) m); announced = workerAt s w .announced; pool = [] }) (pos, omega (arith, a .1, len-filter (λ ρ. not (needed ts ρ)) m));
+        pools =
+            All-append (Sized (2 * b)) (s .queue ++ neededPools b stay) _
+            (All-append (Sized (2 * b)) (s .queue) _ (W .pools) (needed-sized b pos stay (omega (arith, a .1, len-filter (needed ts) m))))
+            (queued-sized b (2 * b) _ (omega (arith, a .0, len-merge (workerAt s w .pool) (joining b stay), local-short b stay)));
+      })
+  step-within (FlushFree []) e = record { workers = to (withDoing (workerAt s w) Idle) (own (FlushFree []) e .0); pools = W .pools }
+  step-within (FlushFree (ρ ∷ l)) e =
+      let a = own (FlushFree (ρ ∷ l)) e in
+      record {
+        workers =
+            All-through (FitW b) (workerOff (ρ .slot) (slotAt s (ρ .slot) .older)) (λ y z. fit-off b (ρ .slot) (slotAt s (ρ .slot) .older) (length (y .pool)) (y .doing) z)
+            (set (s .workers) w (withDoing (workerAt s w) (FlushFree l))) (to (withDoing (workerAt s w) (FlushFree l)) (a .0, omega (arith, a .1)));
+        pools = W .pools;
+      }
+  step-within OpenAnnounce e =
+      cond-both (λ (q : Stepped). Within b (q .store)) (eqb (s .clock) 4294967295) _ _
+      (λ u. record { workers = to (withDoing (workerAt s w) Idle) (own OpenAnnounce e); pools = W .pools })
+      (λ u. record { workers = to (record { doing = OpenPass; announced = s .clock; pool = workerAt s w .pool }) (own OpenAnnounce e); pools = W .pools })
+  step-within OpenPass e = record { workers = to (withDoing (workerAt s w) Idle) (own OpenPass e); pools = W .pools }
+  step-within (ReadEnter r) e = record { workers = to (withDoing (workerAt s w) (ReadStand r _)) (own (ReadEnter r) e); pools = W .pools }
+  step-within (ReadStand r c) e =
+      cond-both (λ (q : Stepped). Within b (q .store)) (leb (slotAt s c .low) (workerAt s w .announced)) _ _
+      (λ u. record { workers = to (withDoing (workerAt s w) Idle) (own (ReadStand r c) e); pools = W .pools })
+      (λ u. record { workers = to (withDoing (workerAt s w) (ReadStand r (slotAt s c .older))) (own (ReadStand r c) e); pools = W .pools })
+  step-within CloseWithdraw e = record { workers = to (record { doing = Idle; announced = absent; pool = workerAt s w .pool }) (own CloseWithdraw e); pools = W .pools }
+  step-within (GetShow r) e = record { workers = to (withDoing (workerAt s w) Idle) (own (GetShow r) e); pools = W .pools }
+
+  pub begin-within : (c : Operation) → workerAt s w .doing ≡ Idle → Within b (place s w (firstPlace c))
+  unfolding firstPlace
+  begin-within (Put r y) e = record { workers = to (withDoing (workerAt s w) (PutPublish r y)) (own Idle e); pools = W .pools }
+  begin-within Open e = record { workers = to (withDoing (workerAt s w) OpenAnnounce) (own Idle e); pools = W .pools }
+  begin-within (Read r) e = record { workers = to (withDoing (workerAt s w) (ReadEnter r)) (own Idle e); pools = W .pools }
+  begin-within Close e = record { workers = to (withDoing (workerAt s w) CloseWithdraw) (own Idle e); pools = W .pools }
+  begin-within (Get r) e = record { workers = to (withDoing (workerAt s w) (GetShow r)) (own Idle e); pools = W .pools }
+  begin-within Collect e = record { workers = to (withDoing (workerAt s w) FlushTake) (omega (arith, own Idle e)); pools = W .pools }

@@ -1,0 +1,58 @@
+-- The starred cases hold, and so do the log example and the runs of specs/Runs.antt: each by computation.
+use mathlib.Core.Path.{refl}
+use mathlib.Core.List.{List}
+use Prim.Native.Nat.{ℕ}
+use Rattle.model.specs.Store as Store
+use Rattle.model.specs.Batch as Batch
+use Rattle.model.specs.Versions as Versions
+use Rattle.model.specs.Ranges as Ranges
+use Rattle.model.specs.Steps as Steps
+use Rattle.model.specs.Record as Record
+use Rattle.model.specs.Apply as Apply
+use Rattle.model.specs.Log as Log
+use Rattle.model.specs.Cases.{Stars, Example}
+use Rattle.model.specs.Cases as Cases
+use Rattle.model.specs.Demand as Demand
+use Rattle.model.specs.Runs.{Runs}
+
+-- a name whose unfolding unfolds the whole model
+unfoldable wholeModel : (ℕ → ℕ) → List Store.Slot → List ℕ → List ℕ
+unfolding Store.upFrom Store.rangeOf Batch.leastFrom Batch.logUp Batch.batchOf Versions.stampSlots Versions.stamp Versions.linkSlots Versions.unlinkSlots Ranges.needs Ranges.needed Ranges.filter Ranges.mergeInto Ranges.merge Ranges.firstTwo Ranges.neededPools Ranges.joining Ranges.queuedPool Steps.putPublish Steps.putStamp Steps.putHandIn Steps.flushTake Steps.readTimes Steps.flushSplit Steps.flushRead Steps.moveOff Steps.workerOff Steps.flushFree Steps.openAnnounce Steps.openPass Steps.shown Steps.readEnter Steps.readStand Steps.getShow Steps.closeWithdraw Steps.stepAt Record.zeros Record.commandOf Record.unusedZero Record.decode Record.cut Record.recordsOf Apply.inRanges Apply.firstSlots Apply.fresh Apply.setUp Apply.registerBelow Apply.isIdle Apply.mayOpen Apply.mayUseTime Apply.firstPlace Apply.begin Apply.step Apply.obey Apply.applyDecoded Apply.apply Apply.answersTo Log.text Log.digits Log.decimal Log.words Log.line Log.lines Log.logOf Cases.recordOf Cases.hubAfter Cases.clockOf Cases.slotsOf Cases.joined Demand.events Demand.isOk Demand.ends Demand.endAs Demand.endOnce Demand.endFor Demand.observe Demand.isUnfinished Demand.runningOf Demand.takesEffect Demand.filterBelow Demand.atEnd Demand.finishes Demand.endEffects Demand.stepEffects Demand.effects Demand.order
+wholeModel = Log.logOf
+
+pub stars : Stars
+unfolding wholeModel
+stars =
+    record {
+      workers-17 = refl;
+      workers-16 = refl;
+      few-slots = refl;
+      batches = refl;
+      announced-5 = refl;
+      none-announced = refl;
+      merged = refl;
+      five-needed = refl;
+      four-needed = refl;
+      two-needed = refl;
+      last-clock = refl;
+      both-at-5 = refl;
+      clock-6 = refl;
+      older-shown = refl;
+      low-6 = refl;
+    }
+
+pub example : Example
+unfolding wholeModel
+example = refl
+
+pub runs : Runs
+unfolding wholeModel
+runs =
+    record {
+      moved-log = refl;
+      moved-order = refl;
+      late-log = refl;
+      late-order = refl;
+      get-log = refl;
+      get-order = refl;
+    }

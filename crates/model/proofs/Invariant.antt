@@ -1,0 +1,214 @@
+-- The invariant: what holds of a store that records left, together with what demand 3 follows along with it. Its parts are the fields of
+-- `Inv` and, for one worker, of `Works`; each names what it says. A change of a step has to show again those parts that speak of what the
+-- step changes: a worker's place (`PlaceHolds`, `Fits`), slots (`linked`, `stamps`, `freeAlone`), pools and queue (`once`, `pendingOld`, `queue`).
+--
+-- Besides the store the invariant speaks of: `olds`, for each register the slots of its versions below the newest, newest first; the calls
+-- of the history so far; their order so far; and the plain registers that this order has led to.
+use mathlib.Core.Path.{_≡_}
+use mathlib.Core.Bool.{cond}
+use mathlib.Core.Logic.{_⊎_}
+use mathlib.Core.List.{List, [], _∷_}
+use mathlib.Core.Option.{some}
+use Prim.Native.Nat.{ℕ, _+_, _≤_, _<_}
+use lib.Dec.{ltb}
+use lib.ListN.{length, getD}
+use Rattle.model.specs.Store.{absent, Reading, Slot, Range, Doing, Idle, PutPublish, PutStamp, PutHandIn, FlushTake, FlushRead, FlushFree, OpenAnnounce, OpenPass, ReadEnter, ReadStand, CloseWithdraw, GetShow, Worker, Store, workerAt, newestOf, holders, held}
+use Rattle.model.specs.Record.{Operation, Put, Open, Read, Close, Get, Collect}
+use Rattle.model.specs.Demand.{Unfinished, Call, Plain, occurrences, All, callAt}
+use Rattle.model.specs.Reached.{sumBy}
+use Rattle.model.proofs.Basic.{hit}
+use Rattle.model.proofs.Linear.{Lin}
+use Rattle.model.proofs.Slots.{nth}
+use Rattle.model.proofs.Chain.{Linked, Sees, On, Fine}
+use Rattle.model.proofs.Count.{cnt}
+
+-- What most parts look at: the store without its queue, free slots and workers' places. So a part is carried over a change that leaves these.
+pub record Ctx : Type 0 where
+  pub slots : List Slot
+  pub clock : ℕ
+  pub newest : List ℕ
+  pub olds : List (List ℕ)
+  pub held : ℕ → ℕ
+  pub registers : ℕ
+  pub holders : ℕ
+
+abbrev pub ctx : Store → List (List ℕ) → Ctx
+ctx s olds = record { slots = s .slots; clock = s .clock; newest = s .newest; olds = olds; held = held s; registers = s .V'; holders = holders s }
+
+-- the slot of register r's newest version
+abbrev pub top : Ctx → ℕ → ℕ
+top x r = getD (x .newest) r absent
+
+-- the slots of its older versions, newest first
+abbrev pub old : Ctx → ℕ → List ℕ
+old x r = getD (x .olds) r []
+
+-- register r's versions, newest first
+abbrev pub chain : Ctx → ℕ → List ℕ
+chain x r = top x r ∷ old x r
+
+------------------------------------------------------------------------
+-- Pending versions: covered, and on their way to be freed
+
+-- how often slot c is held by a worker's place
+abbrev pub inDoing : ℕ → Doing → ℕ
+inDoing c Idle = 0
+inDoing c (PutPublish r y) = 0
+inDoing c (PutStamp r d) = hit d c
+inDoing c (PutHandIn r d) = hit d c
+inDoing c FlushTake = 0
+inDoing c (FlushRead m ts) = cnt c m
+inDoing c (FlushFree m) = cnt c m
+inDoing c OpenAnnounce = 0
+inDoing c OpenPass = 0
+inDoing c (ReadEnter r) = 0
+inDoing c (ReadStand r d) = 0
+inDoing c CloseWithdraw = 0
+inDoing c (GetShow r) = 0
+
+-- by a worker
+abbrev pub pendW : ℕ → Worker → ℕ
+pendW c y = inDoing c (y .doing) + cnt c (y .pool)
+
+-- how often slot c is pending: with a worker or in a queued pool
+abbrev pub pend : ℕ → List Worker → List (List Range) → ℕ
+pend c ws q = sumBy (pendW c) ws + sumBy (cnt c) q
+
+-- 1 for a slot of the hub, else 0
+abbrev pub below : ℕ → ℕ → ℕ
+below c n = cond (ltb c n) 1 0
+
+------------------------------------------------------------------------
+-- One worker
+
+-- a range has its slot's own low and high, and both have been reached by the clock: the version is stamped and covered
+abbrev pub Good : Ctx → Range → Type 0
+Good x ρ = (ρ .low ≡ nth (x .slots) (ρ .slot) .low) × (ρ .high ≡ nth (x .slots) (ρ .slot) .high) × (ρ .high ≤ x .clock) × (ρ .low ≤ x .clock)
+
+-- an announced time that the clock has passed, or none: where no open is between its steps
+abbrev pub Settled : Ctx → ℕ → Type 0
+Settled x t = (t ≡ absent) ⊎ (t < x .clock)
+
+-- While a flush reads the times: each holder read so far has now no time, or some time that was read, or one that no merged range covers. The
+-- last is the heart of demand 3: a time announced after the pools were taken is the clock, and the clock is at least every high in them.
+abbrev pub Asked : Ctx → List ℕ → Range → Type 0
+Asked x ts ρ = (v : ℕ) → v < length ts → (x .held v ≡ absent) ⊎ ((0 < occurrences (x .held v) ts) ⊎ (ρ .high ≤ x .held v))
+
+-- no time held needs the range: what the split leaves to be freed
+abbrev pub Spared : Ctx → Range → Type 0
+Spared x ρ = (v : ℕ) → v < x .holders → x .held v < absent → ρ .low ≤ x .held v → x .held v < ρ .high → ⊥
+
+-- the worker's snapshot at time t: it has a copy, and in each register's list the version that the time needs has the copy's value
+abbrev pub Snap : Ctx → Plain → ℕ → ℕ → Type 0
+Snap x p w t = (f : ℕ → Reading) × (p .copy w ≡ some f) × ((r : ℕ) → r < x .registers → Sees (x .slots) t (f r) (chain x r))
+
+-- what holds at a worker's place, whose announced time is t
+abbrev pub PlaceHolds : Ctx → Plain → ℕ → ℕ → Doing → Type 0
+PlaceHolds x p w t Idle = Settled x t
+PlaceHolds x p w t (PutPublish r y) = (r < x .registers) × Settled x t
+PlaceHolds x p w t (PutStamp r c) = (r < x .registers) × Settled x t × (0 < occurrences c (old x r))
+PlaceHolds x p w t (PutHandIn r c) = (r < x .registers) × Settled x t × (0 < occurrences c (old x r)) × (nth (x .slots) c .high ≤ x .clock)
+PlaceHolds x p w t FlushTake = Settled x t
+PlaceHolds x p w t (FlushRead m ts) = Settled x t × All (Good x) m × (length ts ≤ x .holders) × All (Asked x ts) m
+PlaceHolds x p w t (FlushFree m) = Settled x t × All (Good x) m × All (Spared x) m
+PlaceHolds x p w t OpenAnnounce = t ≡ absent
+PlaceHolds x p w t OpenPass = (t ≤ x .clock) × (t < 4294967295)
+PlaceHolds x p w t (ReadEnter r) = (r < x .registers) × (t < x .clock)
+PlaceHolds x p w t (ReadStand r c) = (r < x .registers) × (t < x .clock) × ((f : ℕ → Reading) × (p .copy w ≡ some f) × On (x .slots) t c (f r) (chain x r))
+PlaceHolds x p w t CloseWithdraw = t < x .clock
+PlaceHolds x p w t (GetShow r) = (r < x .registers) × Settled x t
+
+-- call k is the one that worker w is performing
+pub record Running (h : List Call) (w k : ℕ) : Type 0 where
+  pub within : k < length h
+  pub own : callAt h k .worker ≡ w
+  pub unfinished : callAt h k .ending ≡ Unfinished
+  pub only : (i : ℕ) → i < length h → callAt h i .worker ≡ w → callAt h i .ending ≡ Unfinished → i ≡ k
+
+-- worker w performs none
+abbrev pub NoneRunning : List Call → ℕ → Type 0
+NoneRunning h w = (i : ℕ) → i < length h → callAt h i .worker ≡ w → callAt h i .ending ≡ Unfinished → ⊥
+
+abbrev pub IsPut : Operation → Type 0
+IsPut c = (r : ℕ) × (y : Reading) × (c ≡ Put r y)
+
+-- The operation that is performed fits the worker's place, and n, how often its call stands in the order, says whether it has taken effect: a
+-- put once its version is stamped, an open once the clock is past its time, all others at their end.
+abbrev pub Fits : Ctx → ℕ → Operation → Doing → ℕ → Type 0
+Fits x t c Idle n = ⊥
+Fits x t c (PutPublish r y) n = (c ≡ Put r y) × (n ≡ 0)
+Fits x t c (PutStamp r d) n =
+    (y : Reading) × (c ≡ Put r y) × (((nth (x .slots) d .high ≡ absent) × (n ≡ 0) × (nth (x .slots) (top x r) .value ≡ y)) ⊎ ((nth (x .slots) d .high ≤ x .clock) × (n ≡ 1)))
+Fits x t c (PutHandIn r d) n = IsPut c × (n ≡ 1)
+Fits x t c FlushTake n = (IsPut c × (n ≡ 1)) ⊎ ((c ≡ Collect) × (n ≡ 0))
+Fits x t c (FlushRead m ts) n = (IsPut c × (n ≡ 1)) ⊎ ((c ≡ Collect) × (n ≡ 0))
+Fits x t c (FlushFree m) n = (IsPut c × (n ≡ 1)) ⊎ ((c ≡ Collect) × (n ≡ 0))
+Fits x t c OpenAnnounce n = (c ≡ Open) × (n ≡ 0)
+Fits x t c OpenPass n = (c ≡ Open) × (((t ≡ x .clock) × (n ≡ 0)) ⊎ ((t < x .clock) × (n ≡ 1)))
+Fits x t c (ReadEnter r) n = (c ≡ Read r) × (n ≡ 0)
+Fits x t c (ReadStand r d) n = (c ≡ Read r) × (n ≡ 0)
+Fits x t c CloseWithdraw n = (c ≡ Close) × (n ≡ 0)
+Fits x t c (GetShow r) n = (c ≡ Get r) × (n ≡ 0)
+
+-- a worker that is not idle performs a call that fits its place
+abbrev pub Busy : Ctx → List Call → List ℕ → ℕ → ℕ → Doing → Type 0
+Busy x h o w t d = (k : ℕ) × Running h w k × Fits x t (callAt h k .operation) d (occurrences k o)
+
+abbrev pub Current : Ctx → List Call → List ℕ → ℕ → ℕ → Doing → Type 0
+Current x h o w t Idle = NoneRunning h w
+Current x h o w t (PutPublish r y) = Busy x h o w t (PutPublish r y)
+Current x h o w t (PutStamp r c) = Busy x h o w t (PutStamp r c)
+Current x h o w t (PutHandIn r c) = Busy x h o w t (PutHandIn r c)
+Current x h o w t FlushTake = Busy x h o w t FlushTake
+Current x h o w t (FlushRead m ts) = Busy x h o w t (FlushRead m ts)
+Current x h o w t (FlushFree m) = Busy x h o w t (FlushFree m)
+Current x h o w t OpenAnnounce = Busy x h o w t OpenAnnounce
+Current x h o w t OpenPass = Busy x h o w t OpenPass
+Current x h o w t (ReadEnter r) = Busy x h o w t (ReadEnter r)
+Current x h o w t (ReadStand r c) = Busy x h o w t (ReadStand r c)
+Current x h o w t CloseWithdraw = Busy x h o w t CloseWithdraw
+Current x h o w t (GetShow r) = Busy x h o w t (GetShow r)
+
+-- all of one worker
+pub record Works (x : Ctx) (h : List Call) (o : List ℕ) (p : Plain) (w : ℕ) (y : Worker) : Type 0 where
+  -- the ranges of its local pool
+  pub pool : All (Good x) (y .pool)
+  -- its announced time is not in the future, and the clock can pass it
+  pub announced : (y .announced ≡ absent) ⊎ ((y .announced ≤ x .clock) × (y .announced < 4294967295))
+  -- once the clock is past the announced time there is a snapshot
+  pub snapshot : y .announced < x .clock → Snap x p w (y .announced)
+  -- its place
+  pub doing : PlaceHolds x p w (y .announced) (y .doing)
+  -- the call that it performs
+  pub current : Current x h o w (y .announced) (y .doing)
+
+------------------------------------------------------------------------
+-- The whole, before record `now`
+
+pub record Inv (now : ℕ) (s : Store) (olds : List (List ℕ)) (h : List Call) (o : List ℕ) (p : Plain) : Type 0 where
+  -- shapes
+  pub workersLength : length (s .workers) ≡ s .P
+  pub newestLength : length (s .newest) ≡ s .V'
+  pub slotsLength : length (s .slots) ≡ s .N
+  pub oldsLength : length olds ≡ s .V'
+  pub slotsFew : s .N ≤ absent
+  pub clockFits : s .clock < absent
+  -- every slot is in just one place: pending, free, or a register's newest version
+  pub once : (c : ℕ) → pend c (s .workers) (s .queue) + (occurrences c (s .free) + occurrences c (s .newest)) ≡ below c (s .N)
+  -- a free slot has no neighbours
+  pub freeAlone : (c : ℕ) → 0 < occurrences c (s .free) → (nth (s .slots) c .older ≡ absent) × (nth (s .slots) c .newer ≡ absent)
+  -- the pending versions are those below the newest of some register, each once
+  pub pendingOld : (c : ℕ) → sumBy (occurrences c) olds ≡ pend c (s .workers) (s .queue)
+  -- each register's versions are a doubly linked list
+  pub linked : (r : ℕ) → r < s .V' → Linked (s .slots) absent (chain (ctx s olds) r)
+  -- The newest version's high is open. It is stamped and has the plain register's value; or it is not, and then the next older one has that
+  -- value and an open high. All others have low and high.
+  pub stamps : (r : ℕ) → r < s .V' → Fine (s .slots) (s .clock) (p .registers r) (chain (ctx s olds) r)
+  -- the ranges of the queued pools
+  pub queue : All (All (Good (ctx s olds))) (s .queue)
+  pub workers : (w : ℕ) → w < s .P → Works (ctx s olds) h o p w (workerAt s w)
+  -- an unstamped newest version belongs to a put that is at its second step
+  pub stamper : (r : ℕ) → r < s .V' → nth (s .slots) (newestOf s r) .low ≡ absent
+      → (w : ℕ) × (w < s .P) × (c : ℕ) × (workerAt s w .doing ≡ PutStamp r c) × (nth (s .slots) c .high ≡ absent)
+  -- the calls' order so far is one, and has led to the plain registers p
+  pub linear : Lin now h o p

@@ -1,0 +1,318 @@
+-- The order of operations: what happens to it when an operation begins, takes effect, and ends.
+use mathlib.Core.Path.{_≡_, refl, sym, ap, _∙_, subst}
+use mathlib.Core.Bool.{Bool, true, false, cond}
+use mathlib.Core.Logic.{_≢_, ⊎-elim}
+use mathlib.Core.List.{List, [], _∷_, _++_, map}
+use mathlib.Core.Option.{Option}
+use Prim.Native.Nat.{ℕ, _+_, _≤_, _<_}
+use native.Mathlib.Omega.{arith}
+use lib.Dec.{ltb, eqb}
+use lib.ListN.{length, length-append, length-map, List·getD-append}
+use lib.Seq.{getD-append-seam}
+use borrow.Author.Tests.{eqb-true, eq-eqb}
+use Rattle.model.specs.Store.{Reading}
+use Rattle.model.specs.Answer.{Answer, Ok, Going, Freed, At, Value, Done, No}
+use Rattle.model.specs.Steps.{shown}
+use Rattle.model.specs.Record.{Operation, Put, Open, Read, Close, Get, Collect}
+use Rattle.model.specs.Demand.{Ending, Unfinished, RefusedAt, FinishedAt, Call, ends, endAs, endOnce, endFor, Plain, plain₀, feed, shows, call₀, finishes, occurrences, All, Stands, EndsBefore, Ordered, Agrees, Shown, IsOrder, callAt}
+use Rattle.model.proofs.Basic.{hit-same, hit-other, occurrences-snoc, eq-cases, lt-cases, All-append, getD-map}
+
+unfoldable pub after : List Call → Plain → List ℕ → Plain
+after h p [] = p
+after h p (i ∷ o) = after h (feed p (callAt h i .worker) (callAt h i .operation)) o
+
+------------------------------------------------------------------------
+-- An order looks at no more of the history than it names
+
+pub Ordered-mono : (h h′ : List Call) (o : List ℕ)
+    → ((i : ℕ) → 0 < occurrences i o → callAt h′ i .begun ≡ callAt h i .begun)
+    → ((i j : ℕ) → 0 < occurrences i o → 0 < occurrences j o → EndsBefore (callAt h i .begun) (callAt h′ j .ending) → EndsBefore (callAt h i .begun) (callAt h j .ending))
+    → Ordered h o → Ordered h′ o
+unfolding Ordered occurrences
+Ordered-mono h h′ [] b e t = tt
+Ordered-mono h h′ (i ∷ o) b e t = (
+  both o (λ j x. x) (t .0),
+  Ordered-mono h h′ o (λ j x. b j (omega arith)) (λ j k x y. e j k (omega arith) (omega arith)) (t .1),
+)
+  where
+    here : 0 < occurrences i (i ∷ o)
+    here = omega (arith, hit-same i)
+
+    both : (q : List ℕ) → ((j : ℕ) → 0 < occurrences j q → 0 < occurrences j o) → All (λ j. EndsBefore (callAt h i .begun) (callAt h j .ending) → ⊥) q → All (λ j. EndsBefore (callAt h′ i .begun) (callAt h′ j .ending) → ⊥) q
+    both [] sub u = tt
+    both (j ∷ q) sub u = (
+      (λ z. u .0 (e i j here (omega (arith, sub j (omega (arith, hit-same j)))) (subst (λ (k : ℕ). EndsBefore k (callAt h′ j .ending)) (b i here) z))),
+      both q (λ k y. sub k (omega arith)) (u .1),
+    )
+
+pub after-mono : (h h′ : List Call) (p : Plain) (o : List ℕ)
+    → ((i : ℕ) → 0 < occurrences i o → (callAt h′ i .operation ≡ callAt h i .operation) × (callAt h′ i .worker ≡ callAt h i .worker))
+    → after h′ p o ≡ after h p o
+unfolding after occurrences
+after-mono h h′ p [] c = refl
+after-mono h h′ p (i ∷ o) c =
+    let e = c i (omega (arith, hit-same i)) in
+    rw (e .0, e .1) (after-mono h h′ (feed p (callAt h i .worker) (callAt h i .operation)) o (λ j x. c j (omega arith)))
+
+pub Shown-mono : (h h′ : List Call) (p : Plain) (o : List ℕ)
+    → ((i : ℕ) → 0 < occurrences i o → (callAt h′ i .operation ≡ callAt h i .operation) × (callAt h′ i .worker ≡ callAt h i .worker))
+    → ((i : ℕ) (s : Option Reading) → 0 < occurrences i o → Agrees (callAt h i .operation) (callAt h i .ending) s → Agrees (callAt h i .operation) (callAt h′ i .ending) s)
+    → Shown h p o → Shown h′ p o
+unfolding Shown occurrences
+Shown-mono h h′ p [] c a t = tt
+Shown-mono h h′ p (i ∷ o) c a t =
+    let e = c i (omega (arith, hit-same i)) in
+    rw (e .0, e .1) (a i _ (omega (arith, hit-same i)) (t .0), Shown-mono h h′ (feed p (callAt h i .worker) (callAt h i .operation)) o (λ j x. c j (omega arith)) (λ j s x. a j s (omega arith)) (t .1))
+
+------------------------------------------------------------------------
+-- One more at the end
+
+pub Ordered-snoc : (h : List Call) (o : List ℕ) (k : ℕ)
+    → ((i : ℕ) → 0 < occurrences i o → EndsBefore (callAt h i .begun) (callAt h k .ending) → ⊥)
+    → Ordered h o → Ordered h (o ++ (k ∷ []))
+unfolding Ordered occurrences
+Ordered-snoc h [] k n t = (tt, tt)
+Ordered-snoc h (i ∷ o) k n t =
+    (All-append _ o (k ∷ []) (t .0) (n i (omega (arith, hit-same i)), tt), Ordered-snoc h o k (λ j x. n j (omega arith)) (t .1))
+
+pub after-snoc : (h : List Call) (p : Plain) (o : List ℕ) (k : ℕ) → after h p (o ++ (k ∷ [])) ≡ feed (after h p o) (callAt h k .worker) (callAt h k .operation)
+unfolding after
+after-snoc h p [] k = refl
+after-snoc h p (i ∷ o) k = after-snoc h (feed p (callAt h i .worker) (callAt h i .operation)) o k
+
+pub Shown-snoc : (h : List Call) (p : Plain) (o : List ℕ) (k : ℕ)
+    → Agrees (callAt h k .operation) (callAt h k .ending) (shows (after h p o) (callAt h k .worker) (callAt h k .operation))
+    → Shown h p o → Shown h p (o ++ (k ∷ []))
+unfolding Shown after
+Shown-snoc h p [] k a t = (a, tt)
+Shown-snoc h p (i ∷ o) k a t = (t .0, Shown-snoc h (feed p (callAt h i .worker) (callAt h i .operation)) o k a (t .1))
+
+------------------------------------------------------------------------
+-- The order so far: of the operations h, with the plain registers p that it has come to, before record `now`
+
+pub record Lin (now : ℕ) (h : List Call) (o : List ℕ) (p : Plain) : Type 0 where
+  pub isOrder : IsOrder h o
+  pub early : (i : ℕ) → i < length h → callAt h i .begun < now
+  pub come : after h plain₀ o ≡ p
+
+-- nothing happened to the operations
+pub lin-skip : {now : ℕ} {h : List Call} {o : List ℕ} {p : Plain} → Lin now h o p → Lin (now + 1) h o p
+lin-skip L = record { isOrder = L .isOrder; early = λ i x. omega (arith, L .early i x); come = L .come }
+
+agrees-unended : (c : Operation) (s : Option Reading) → Agrees c Unfinished s
+agrees-unended (Put r x) s = tt
+agrees-unended Open s = tt
+agrees-unended (Read r) s = tt
+agrees-unended Close s = tt
+agrees-unended (Get r) s = tt
+agrees-unended Collect s = tt
+
+pub agrees-refused : (c : Operation) (i : ℕ) (s : Option Reading) → Agrees c (RefusedAt i) s
+agrees-refused (Put r x) i s = tt
+agrees-refused Open i s = tt
+agrees-refused (Read r) i s = tt
+agrees-refused Close i s = tt
+agrees-refused (Get r) i s = tt
+agrees-refused Collect i s = tt
+
+-- an answer that shows a reading ends its operation as finished, and frees nothing
+pub shown-ends : (x : Reading) → ends (shown x) ≡ true
+unfolding shown ends
+shown-ends x = refl
+
+pub shown-finishes : (x : Reading) → finishes (shown x) ≡ true
+unfolding shown finishes
+shown-finishes x = refl
+
+pub shown-end : (i : ℕ) (x : Reading) → endAs i (shown x) ≡ FinishedAt i (shown x)
+unfolding shown endAs
+shown-end i x = refl
+
+module _ {now : ℕ} {h : List Call} {o : List ℕ} {p : Plain} (L : Lin now h o p) where
+  pub inside : (i : ℕ) → 0 < occurrences i o → i < length h
+  inside i x = ⊎-elim (λ u. u .0) (λ u. absurd (omega (arith, L .isOrder .within i (u .0)))) (lt-cases i (length h))
+
+  -- an operation begins
+  pub lin-begin : (d : Call) → d .begun ≡ now → d .ending ≡ Unfinished → Lin (now + 1) (h ++ (d ∷ [])) o p
+  lin-begin d b u =
+      record {
+        isOrder =
+            record {
+              within = λ i x. L .isOrder .within i (omega (arith, length-append h (d ∷ [])));
+              stands = λ i x. ⊎-elim (old i) (new i x) (lt-cases i (length h));
+              ordered = Ordered-mono h h′ o (λ i x. ap (λ (v : Call). v .begun) (keep i x)) (λ i j x y z. subst (λ (v : Call). EndsBefore (callAt h i .begun) (v .ending)) (keep j y) z) (L .isOrder .ordered);
+              shown = Shown-mono h h′ plain₀ o (λ i x. (ap (λ (v : Call). v .operation) (keep i x), ap (λ (v : Call). v .worker) (keep i x))) (λ i s x. subst (λ (v : Call). Agrees (callAt h i .operation) (v .ending) s) (sym (keep i x))) (L .isOrder .shown);
+            };
+        early = λ i x. ⊎-elim (λ u. omega (arith, L .early i (u .0), ap (λ (v : Call). v .begun) (List·getD-append h (d ∷ []) call₀ i (u .0)))) (λ u. omega (arith, b, ap (λ (v : Call). v .begun) (last i x (u .0)))) (lt-cases i (length h));
+        come = after-mono h h′ plain₀ o (λ i x. (ap (λ (v : Call). v .operation) (keep i x), ap (λ (v : Call). v .worker) (keep i x))) ∙ L .come;
+      }
+    where
+      h′ : List Call
+      h′ = h ++ (d ∷ [])
+
+      keep : (i : ℕ) → 0 < occurrences i o → callAt h′ i ≡ callAt h i
+      keep i x = List·getD-append h (d ∷ []) call₀ i (inside i x)
+
+      last : (i : ℕ) → i < length h′ → length h ≤ i → callAt h′ i ≡ d
+      last i x y =
+          let e : i ≡ length h = omega (arith, length-append h (d ∷ [])) in
+          subst (λ (k : ℕ). callAt h′ k ≡ d) (sym e) (getD-append-seam h d [] call₀)
+
+      old : (i : ℕ) → (i < length h) × (ltb i (length h) ≡ true) → Stands (callAt h′ i .ending) (occurrences i o)
+      old i x = rw (List·getD-append h (d ∷ []) call₀ i (x .0)) (L .isOrder .stands i (x .0))
+
+      new : (i : ℕ) → i < length h′ → (length h ≤ i) × (ltb i (length h) ≡ false) → Stands (callAt h′ i .ending) (occurrences i o)
+      new i x y = rw (last i x (y .0), u) (omega (arith, L .isOrder .within i (y .0)))
+
+  -- operation k, which has not ended, takes effect
+  pub lin-effect : (k : ℕ) → k < length h → callAt h k .ending ≡ Unfinished → occurrences k o ≡ 0 → Lin now h (o ++ (k ∷ [])) (feed p (callAt h k .worker) (callAt h k .operation))
+  lin-effect k x u z =
+      record {
+        isOrder =
+            record {
+              within = λ i y. omega (arith, occurrences-snoc i o k, L .isOrder .within i y, hit-other k i (omega arith));
+              stands = λ i y. ⊎-elim (own i) (other i y) (eq-cases k i);
+              ordered = Ordered-snoc h o k (λ i y e. subst (EndsBefore (callAt h i .begun)) u e) (L .isOrder .ordered);
+              shown = Shown-snoc h plain₀ o k (rw u (agrees-unended (callAt h k .operation) _)) (L .isOrder .shown);
+            };
+        early = L .early;
+        come = after-snoc h plain₀ o k ∙ ap (λ (q : Plain). feed q (callAt h k .worker) (callAt h k .operation)) (L .come);
+      }
+    where
+      own : (i : ℕ) → (k ≡ i) × (eqb k i ≡ true) → Stands (callAt h i .ending) (occurrences i (o ++ (k ∷ [])))
+      own i e = subst (λ (j : ℕ). Stands (callAt h j .ending) (occurrences j (o ++ (k ∷ [])))) (e .0) (rw u (omega (arith, occurrences-snoc k o k, hit-same k)))
+
+      other : (i : ℕ) → i < length h → (k ≢ i) × (eqb k i ≡ false) → Stands (callAt h i .ending) (occurrences i (o ++ (k ∷ [])))
+      other i y e =
+          let q : occurrences i (o ++ (k ∷ [])) ≡ occurrences i o = omega (arith, occurrences-snoc i o k, hit-other k i (e .0)) in
+          rw q (L .isOrder .stands i y)
+
+endOnce-keep : (e x : Ending) → (e ≡ Unfinished → ⊥) → endOnce e x ≡ e
+unfolding endOnce
+endOnce-keep Unfinished x f = absurd (f refl)
+endOnce-keep (RefusedAt i) x f = refl
+endOnce-keep (FinishedAt i a) x f = refl
+
+endOnce-first : (e x : Ending) → e ≡ Unfinished → endOnce e x ≡ x
+unfolding endOnce
+endOnce-first e x u = rw u
+
+-- a step of worker w with answer a ends the one operation k that w has open
+module _ (now w : ℕ) (a : Answer) (h : List Call) (k : ℕ) (kin : k < length h) (kw : callAt h k .worker ≡ w) (ku : callAt h k .ending ≡ Unfinished)
+    (uniq : (i : ℕ) → i < length h → callAt h i .worker ≡ w → callAt h i .ending ≡ Unfinished → i ≡ k) where
+  abbrev pub ended : List Call
+  ended = map (endFor now w a) h
+
+  pub ended-length : length ended ≡ length h
+  ended-length = length-map h (endFor now w a)
+
+  pub ended-nth : (i : ℕ) → i < length h → callAt ended i ≡ endFor now w a (callAt h i)
+  ended-nth i x = getD-map (endFor now w a) h i call₀ call₀ x
+
+  pub ended-same : (i : ℕ) → i < length h → (callAt ended i .operation ≡ callAt h i .operation) × (callAt ended i .worker ≡ callAt h i .worker)
+  unfolding endFor
+  ended-same i x = (ap (λ (v : Call). v .operation) (ended-nth i x), ap (λ (v : Call). v .worker) (ended-nth i x))
+
+  pub ended-begun : (i : ℕ) → i < length h → callAt ended i .begun ≡ callAt h i .begun
+  unfolding endFor
+  ended-begun i x = ap (λ (v : Call). v .begun) (ended-nth i x)
+
+  pub ended-own : callAt ended k .ending ≡ endAs now a
+  unfolding endFor
+  ended-own =
+      ap (λ (v : Call). v .ending) (ended-nth k kin)
+      ∙ ap (λ (t : Bool). cond t (endOnce (callAt h k .ending) (endAs now a)) (callAt h k .ending)) (eq-eqb (callAt h k .worker) w kw)
+      ∙ endOnce-first (callAt h k .ending) (endAs now a) ku
+
+  pub ended-other : (i : ℕ) → i < length h → k ≢ i → callAt ended i .ending ≡ callAt h i .ending
+  unfolding endFor
+  ended-other i x n = ap (λ (v : Call). v .ending) (ended-nth i x) ∙ go (eqb (callAt h i .worker) w) refl
+    where
+      go : (t : Bool) → eqb (callAt h i .worker) w ≡ t → cond t (endOnce (callAt h i .ending) (endAs now a)) (callAt h i .ending) ≡ callAt h i .ending
+      go true e = endOnce-keep (callAt h i .ending) (endAs now a) (λ u. n (sym (uniq i x (eqb-true _ _ e) u)))
+      go false e = refl
+
+  late : (i : ℕ) → callAt h i .begun < now → EndsBefore (callAt h i .begun) (endAs now a) → ⊥
+  unfolding endAs
+  late i x = go a
+    where
+      go : (b : Answer) → EndsBefore (callAt h i .begun) (endAs now b) → ⊥
+      go Ok z = omega arith
+      go Going z = omega arith
+      go (Freed c) z = omega arith
+      go (At t) z = omega arith
+      go (Value y) z = omega arith
+      go Done z = omega arith
+      go (No y) z = omega arith
+
+  module _ (o : List ℕ) (p : Plain) (L : Lin now h o p) where
+    earlyE : (i : ℕ) → i < length ended → callAt ended i .begun < now + 1
+    earlyE i x = let y : i < length h = omega (arith, ended-length) in omega (arith, ended-begun i y, L .early i y)
+
+    orderedE : Ordered ended o
+    orderedE =
+        Ordered-mono h ended o (λ i x. ended-begun i (inside L i x))
+        (λ i j x y z. ⊎-elim
+        (λ e. absurd (late i (L .early i (inside L i x)) (subst (EndsBefore (callAt h i .begun)) (ap (λ (q : ℕ). callAt ended q .ending) (sym (e .0)) ∙ ended-own) z)))
+        (λ e. subst (EndsBefore (callAt h i .begun)) (ended-other j (inside L j y) (e .0)) z)
+        (eq-cases k j))
+        (L .isOrder .ordered)
+
+    comeE : after ended plain₀ o ≡ p
+    comeE = after-mono h ended plain₀ o (λ i x. ended-same i (inside L i x)) ∙ L .come
+
+    -- it shows nothing, or is refused: it stands in the order as its ending says
+    pub lin-end : Stands (endAs now a) (occurrences k o) → ((s : Option Reading) → Agrees (callAt h k .operation) (endAs now a) s) → Lin (now + 1) ended o p
+    lin-end st ag =
+        record {
+          isOrder =
+              record {
+                within = λ i x. L .isOrder .within i (omega (arith, ended-length));
+                stands = λ i x. let y : i < length h = omega (arith, ended-length) in
+                    ⊎-elim
+                    (λ e. subst (λ (q : ℕ). Stands (callAt ended q .ending) (occurrences q o)) (e .0) (subst (λ (q : Ending). Stands q (occurrences k o)) (sym ended-own) st))
+                    (λ e. subst (λ (q : Ending). Stands q (occurrences i o)) (sym (ended-other i y (e .0))) (L .isOrder .stands i y))
+                    (eq-cases k i);
+                ordered = orderedE;
+                shown =
+                    Shown-mono h ended plain₀ o (λ i x. ended-same i (inside L i x))
+                    (λ i s x z. ⊎-elim
+                    (λ e. subst (λ (q : ℕ). Agrees (callAt h q .operation) (callAt ended q .ending) s) (e .0) (subst (λ (q : Ending). Agrees (callAt h k .operation) q s) (sym ended-own) (ag s)))
+                    (λ e. subst (λ (q : Ending). Agrees (callAt h i .operation) q s) (sym (ended-other i (inside L i x) (e .0))) z)
+                    (eq-cases k i))
+                    (L .isOrder .shown);
+              };
+          early = earlyE;
+          come = comeE;
+        }
+
+    -- it takes effect at its end, and what it answers is what is shown
+    pub lin-end-shown : occurrences k o ≡ 0 → Stands (endAs now a) 1
+        → Agrees (callAt h k .operation) (endAs now a) (shows p w (callAt h k .operation))
+        → Lin (now + 1) ended (o ++ (k ∷ [])) (feed p w (callAt h k .operation))
+    lin-end-shown z st ag =
+        record {
+          isOrder =
+              record {
+                within = λ i x. omega (arith, occurrences-snoc i o k, L .isOrder .within i (omega (arith, ended-length)), hit-other k i (omega (arith, ended-length)));
+                stands = λ i x. let y : i < length h = omega (arith, ended-length) in
+                    ⊎-elim
+                    (λ e. subst (λ (q : ℕ). Stands (callAt ended q .ending) (occurrences q (o ++ (k ∷ [])))) (e .0)
+                    (let q : occurrences k (o ++ (k ∷ [])) ≡ 1 = omega (arith, occurrences-snoc k o k, hit-same k) in rw (q, ended-own) st))
+                    (λ e. let q : occurrences i (o ++ (k ∷ [])) ≡ occurrences i o = omega (arith, occurrences-snoc i o k, hit-other k i (e .0)) in
+                    rw (q, ended-other i y (e .0)) (L .isOrder .stands i y))
+                    (eq-cases k i);
+                ordered =
+                    Ordered-snoc ended o k
+                    (λ i x e. late i (L .early i (inside L i x)) (subst (EndsBefore (callAt h i .begun)) ended-own (subst (λ (q : ℕ). EndsBefore q (callAt ended k .ending)) (ended-begun i (inside L i x)) e)))
+                    orderedE;
+                shown =
+                    Shown-snoc ended plain₀ o k
+                    (rw (comeE, ended-own, ended-same k kin .0, ended-same k kin .1, kw) ag)
+                    (Shown-mono h ended plain₀ o (λ i x. ended-same i (inside L i x))
+                    (λ i s x g. subst (λ (q : Ending). Agrees (callAt h i .operation) q s) (sym (ended-other i (inside L i x) (λ e. omega (arith, z, subst (λ (q : ℕ). 0 < occurrences q o) (sym e) x)))) g)
+                    (L .isOrder .shown));
+              };
+          early = earlyE;
+          come = after-snoc ended plain₀ o k ∙ rw (comeE, ended-same k kin .0, ended-same k kin .1, kw);
+        }

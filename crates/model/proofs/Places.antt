@@ -1,0 +1,494 @@
+-- The steps that change one worker's record, and perhaps the queue, and no slot.
+use mathlib.Core.Path.{_≡_, refl, sym, ap, _∙_, subst}
+use mathlib.Core.Bool.{Bool, true, false, not, true≢false}
+use mathlib.Core.Logic.{_≢_, _⊎_, inl, inr, ⊎-elim}
+use mathlib.Core.List.{List, [], _∷_, _++_, map}
+use mathlib.Core.Option.{Option}
+use Prim.Native.Nat.{ℕ, zero, suc, _+_, _-_, _≤_, _<_}
+use native.Mathlib.Omega.{arith}
+use native.Mathlib.Nat.{not-suc-le-zero}
+use lib.Dec.{ltb}
+use lib.ListN.{length, getD, drop, length-append, List·getD-append}
+use borrow.Author.Tests as Tests
+use Rattle.model.specs.Store.{absent, Reading, Slot, Range, Doing, Idle, PutPublish, PutStamp, PutHandIn, FlushTake, FlushRead, FlushFree, OpenAnnounce, OpenPass, ReadEnter, ReadStand, CloseWithdraw, GetShow, Worker, Store, workerAt, slotAt, newestOf, holders, held, rangeOf, withQueue, withWorker, withDoing, place}
+use Rattle.model.specs.Answer.{Done, No}
+use Rattle.model.specs.Ranges.{needed, filter, merge, firstTwo, neededPools, joining, queuedPool}
+use Rattle.model.specs.Steps.{readTimes, shown}
+use Rattle.model.specs.Record.{Operation, Put, Open, Read, Close, Get, Collect}
+use Rattle.model.specs.Apply.{firstPlace, registerBelow, mayOpen, mayUseTime}
+use Rattle.model.specs.Demand.{Ending, Unfinished, FinishedAt, Call, endAs, endFor, Plain, feed, inCopy, shows, atEnd, finishes, endEffects, occurrences, All, Stands, Agrees, callAt}
+use Rattle.model.specs.Reached.{sumBy}
+use Rattle.model.proofs.Basic.{hit-other, lt-cases, eq-cases, All-append, All-get, All-map, app-nil, getD-right, occurrences-append, occurrences-at}
+use Rattle.model.proofs.Linear.{agrees-refused, shown-end, shown-finishes}
+use Rattle.model.proofs.Slots.{nth}
+use Rattle.model.proofs.Chain.{On-found, On-on, Fine, Past, Next}
+use Rattle.model.proofs.Count.{cnt, sumBy-append, cnt-append, cnt-merge, cnt-split, cnt-queued, cnt-firstTwo, cnt-sent, All-merge, All-keep, All-queued, All-firstTwo, All-rest, All-toQueue, All-toLocal, All-kept, not-needed}
+use Rattle.model.proofs.Invariant.{Ctx, ctx, old, chain, inDoing, pendW, Good, Settled, Asked, Spared, PlaceHolds, Running, NoneRunning, IsPut, Fits, Busy, Current, Works, Inv}
+use Rattle.model.proofs.Effect.{own-not, own-is}
+use Rattle.model.proofs.Transport.{asked, spared}
+use Rattle.model.proofs.Stamp.{put-at-other}
+use Rattle.model.proofs.History.{Hist, hist-skip, hist-begin, begin-running, begin-call, begin-not, hist-end, hist-show, end-shut}
+use Rattle.model.proofs.Work.{work-inv, after-times}
+
+-- the invariant after a record
+pub record Kept (now : ℕ) (s : Store) (h : List Call) (o : List ℕ) : Type 0 where
+  pub olds : List (List ℕ)
+  pub p : Plain
+  pub inv : Inv (now + 1) s olds h o p
+
+-- with what the order's definition adds
+pub none-more : {now : ℕ} {s : Store} {h : List Call} (o e : List ℕ) → e ≡ [] → Kept now s h o → Kept now s h (o ++ e)
+none-more {now} {s} {h} o e z K = subst (λ (q : List ℕ). Kept now s h (o ++ q)) (sym z) (subst (Kept now s h) (sym (app-nil o)) K)
+
+pub one-more : {now : ℕ} {s : Store} {h : List Call} (o e : List ℕ) (k : ℕ) → e ≡ k ∷ [] → Kept now s h (o ++ (k ∷ [])) → Kept now s h (o ++ e)
+one-more {now} {s} {h} o e k z K = subst (λ (q : List ℕ). Kept now s h (o ++ q)) (sym z) K
+
+pub fine-low : (s : List Slot) (t : ℕ) (x : Reading) (n c : ℕ) (l : List ℕ) → Fine s t x (n ∷ l) → 0 < occurrences c l → nth s c .low ≤ t
+unfolding occurrences
+fine-low s t x n c l f z = ⊎-elim (λ u. All-get (Past s t) l (u .2) c z .0) (λ u. next l (u .1) z) (f .1)
+  where
+    next : (m : List ℕ) → Next s t x m → 0 < occurrences c m → nth s c .low ≤ t
+    next [] a y = absurd a
+    next (d ∷ m) a y =
+        ⊎-elim (λ u. subst (λ (i : ℕ). nth s i .low ≤ t) (u .0) (a .0)) (λ u. All-get (Past s t) m (a .3) c (omega (arith, y, hit-other d c (u .0))) .0) (eq-cases d c)
+
+pub fine-high : (s : List Slot) (t : ℕ) (x : Reading) (n c : ℕ) (l : List ℕ) → Fine s t x (n ∷ l) → 0 < occurrences c l → nth s c .high ≢ absent → nth s c .high ≤ t
+unfolding occurrences
+fine-high s t x n c l f z e = ⊎-elim (λ u. All-get (Past s t) l (u .2) c z .1) (λ u. next l (u .1) z) (f .1)
+  where
+    next : (m : List ℕ) → Next s t x m → 0 < occurrences c m → nth s c .high ≤ t
+    next [] a y = absurd a
+    next (d ∷ m) a y =
+        ⊎-elim (λ u. absurd (e (ap (λ (i : ℕ). nth s i .high) (sym (u .0)) ∙ a .1))) (λ u. All-get (Past s t) m (a .3) c (omega (arith, y, hit-other d c (u .0))) .1) (eq-cases d c)
+
+-- a flush's step reads the next holders' times
+abbrev Reads : Store → ℕ → Type 0
+Reads s k = (k + length (readTimes s k) ≤ holders s) × ((i : ℕ) → i < length (readTimes s k) → getD (readTimes s k) i absent ≡ held s (k + i))
+
+reads : (s : Store) (k : ℕ) → k < holders s → Reads s k
+unfolding readTimes
+reads s k b = (omega arith, go)
+  where
+    go : (i : ℕ) → i < 1 → getD (held s k ∷ []) i absent ≡ held s (k + i)
+    go zero z = ap (held s) (let e : k ≡ k + 0 = omega arith in e)
+    go (suc i) z = absurd (omega (arith, z))
+
+module _ (now : ℕ) (s : Store) (olds : List (List ℕ)) (h : List Call) (o : List ℕ) (p : Plain) (I : Inv now s olds h o p) (w : ℕ) (wb : w < s .P) where
+  abbrev x : Ctx
+  x = ctx s olds
+
+  abbrev t : ℕ
+  t = workerAt s w .announced
+
+  abbrev to : Doing → Store
+  to d = place s w d
+
+  pub doing-is : (d : Doing) → workerAt s w .doing ≡ d → PlaceHolds x p w t d
+  doing-is d e = subst (PlaceHolds x p w t) e (I .workers w wb .doing)
+
+  pub cur-is : (d : Doing) → workerAt s w .doing ≡ d → Current x h o w t d
+  cur-is d e = subst (Current x h o w t) e (I .workers w wb .current)
+
+  -- no put of w waits for its stamp
+  abbrev Calm : Type 0
+  Calm = (r c : ℕ) → workerAt s w .doing ≡ PutStamp r c → nth (s .slots) c .high ≡ absent → ⊥
+
+  -- the worker goes on to place d, its time and its pool as before
+  pub place-inv : (d d′ : Doing) → workerAt s w .doing ≡ d → ((c : ℕ) → inDoing c d′ ≡ inDoing c d) → Calm → (h′ : List Call) (o′ : List ℕ) (p′ : Plain) → Hist (now + 1) w h o p h′ o′ p′ → p′ .copy w ≡ p .copy w
+      → PlaceHolds (ctx (to d′) olds) p′ w t d′ → Current (ctx (to d′) olds) h′ o′ w t d′ → Kept now (to d′) h′ o′
+  place-inv d d′ e m nc h′ o′ p′ H cp dk ck =
+      record {
+        olds = olds;
+        p = p′;
+        inv =
+            work-inv now s olds h o p I w wb (withDoing (workerAt s w) d′) (s .queue) (now + 1) h′ o′ p′
+            (λ c. omega (arith, m c, ap (inDoing c) e)) (I .queue) (inl refl) nc H
+            (record { pool = Z .pool; announced = Z .announced; snapshot = λ z. let a = Z .snapshot z in (a .0, cp ∙ a .1, a .2); doing = dk; current = ck });
+      }
+    where
+      Z : Works x h o p w (workerAt s w)
+      Z = I .workers w wb
+
+  abbrev Plainly : Doing → Type 0
+  Plainly Idle = Unit {0}
+  Plainly (PutPublish r y) = Unit {0}
+  Plainly (PutStamp r c) = ⊥
+  Plainly (PutHandIn r c) = Unit {0}
+  Plainly FlushTake = Unit {0}
+  Plainly (FlushRead m ts) = Unit {0}
+  Plainly (FlushFree m) = Unit {0}
+  Plainly OpenAnnounce = Unit {0}
+  Plainly OpenPass = Unit {0}
+  Plainly (ReadEnter r) = Unit {0}
+  Plainly (ReadStand r c) = Unit {0}
+  Plainly CloseWithdraw = Unit {0}
+  Plainly (GetShow r) = Unit {0}
+
+  pub calm : (d : Doing) → Plainly d → workerAt s w .doing ≡ d → Calm
+  calm d a e r c z y = subst Plainly (sym e ∙ z) a
+
+  skip : Hist (now + 1) w h o p h o p
+  skip = hist-skip now w h o p (I .linear)
+
+  ------------------------------------------------------------------------
+  -- A begin
+
+  has-time : ltb t absent ≡ true → Settled x t → t < s .clock
+  has-time e = ⊎-elim (λ u. absurd (omega (arith, u, Tests.ltb-true t absent e))) (λ u. u)
+
+  pub begin-kept : (c : Operation) → workerAt s w .doing ≡ Idle → registerBelow (s .V') c ≡ true → mayOpen c (ltb t absent) ≡ true → mayUseTime c (ltb t absent) ≡ true
+      → Kept now (place s w (firstPlace c)) (h ++ (record { operation = c; worker = w; begun = now; ending = Unfinished } ∷ [])) o
+  unfolding firstPlace registerBelow mayOpen mayUseTime
+  begin-kept c e rg fresh has = go c rg (ltb t absent) refl fresh has
+    where
+      st : Settled x t
+      st = doing-is Idle e
+
+      no-open : NoneRunning h w
+      no-open = cur-is Idle e
+
+      begun : (c : Operation) (d : Doing) → ((i : ℕ) → inDoing i d ≡ 0) → PlaceHolds (ctx (to d) olds) p w t d
+          → (Busy (ctx (to d) olds) (h ++ (record { operation = c; worker = w; begun = now; ending = Unfinished } ∷ [])) o w t d → Current (ctx (to d) olds) (h ++ (record { operation = c; worker = w; begun = now; ending = Unfinished } ∷ [])) o w t d)
+          → Fits (ctx (to d) olds) t c d 0
+          → Kept now (to d) (h ++ (record { operation = c; worker = w; begun = now; ending = Unfinished } ∷ [])) o
+      begun c d m dk f ft =
+          place-inv Idle d e m (calm Idle tt e) _ o p (hist-begin now w h o p (I .linear) c) refl dk
+          (f (
+            length h,
+            begin-running now w h o p (I .linear) c no-open,
+            subst (λ (q : Operation). Fits (ctx (to d) olds) t q d (occurrences (length h) o)) (sym (begin-call now w h o p (I .linear) c))
+                (subst (Fits (ctx (to d) olds) t c d) (sym (begin-not now w h o p (I .linear) c)) ft),
+          ))
+
+      go : (c : Operation) → registerBelow (s .V') c ≡ true → (b : Bool) → ltb t absent ≡ b → mayOpen c b ≡ true → mayUseTime c b ≡ true → Kept now (place s w (firstPlace c)) (h ++ (record { operation = c; worker = w; begun = now; ending = Unfinished } ∷ [])) o
+      go (Put r y) rg b eb fresh has = begun (Put r y) (PutPublish r y) (λ i. refl) (Tests.ltb-true r (s .V') rg, st) (λ a. a) (refl, refl)
+      go Open rg true eb fresh has = absurd (true≢false (sym fresh))
+      go Open rg false eb fresh has =
+          begun Open OpenAnnounce (λ i. refl)
+          (⊎-elim (λ u. u) (λ u. absurd (omega (arith, u, I .clockFits, Tests.ltb-false t absent eb))) st)
+          (λ a. a) (refl, refl)
+      go (Read r) rg true eb fresh has = begun (Read r) (ReadEnter r) (λ i. refl) (Tests.ltb-true r (s .V') rg, has-time eb st) (λ a. a) (refl, refl)
+      go (Read r) rg false eb fresh has = absurd (true≢false (sym has))
+      go Close rg true eb fresh has = begun Close CloseWithdraw (λ i. refl) (has-time eb st) (λ a. a) (refl, refl)
+      go Close rg false eb fresh has = absurd (true≢false (sym has))
+      go (Get r) rg b eb fresh has = begun (Get r) (GetShow r) (λ i. refl) (Tests.ltb-true r (s .V') rg, st) (λ a. a) (refl, refl)
+      go Collect rg b eb fresh has = begun Collect FlushTake (λ i. refl) st (λ a. a) (inr (refl, refl))
+
+  ------------------------------------------------------------------------
+  -- Ends
+
+  -- the operation is refused, and nothing else changes
+  pub refuse-kept : (k : ℕ) (d : Doing) → workerAt s w .doing ≡ d → Plainly d → ((c : ℕ) → inDoing c d ≡ 0) → Settled x t
+      → ((j : ℕ) × Running h w j × (occurrences j o ≡ 0)) → Kept now (to Idle) (map (endFor now w (No k)) h) o
+  unfolding endAs
+  refuse-kept k d e pl m st a =
+      place-inv d Idle e (λ c. sym (m c)) (calm d pl e) _ o p
+      (hist-end now w h o p (I .linear) (No k) (a .0) (a .1) (a .2) (agrees-refused (callAt h (a .0) .operation) now))
+      refl st (end-shut now w h o p (I .linear) (No k) (a .0) (a .1))
+
+  pub refuse-put : (r : ℕ) (y : Reading) → workerAt s w .doing ≡ PutPublish r y → Kept now (to Idle) (map (endFor now w (No 14)) h) o
+  refuse-put r y e =
+      let a = cur-is (PutPublish r y) e in
+      refuse-kept 14 (PutPublish r y) e tt (λ c. refl) (doing-is (PutPublish r y) e .1) (a .0, a .1, a .2 .1)
+
+  pub refuse-open : workerAt s w .doing ≡ OpenAnnounce → Kept now (to Idle) (map (endFor now w (No 15)) h) o
+  refuse-open e = let a = cur-is OpenAnnounce e in refuse-kept 15 OpenAnnounce e tt (λ c. refl) (inl (doing-is OpenAnnounce e)) (a .0, a .1, a .2 .1)
+
+  -- a put or a collect is done
+  put-agrees : (c : Operation) → IsPut c → (e : Ending) (q : Option Reading) → Agrees c e q
+  put-agrees c i e q = subst (λ (z : Operation). Agrees z e q) (sym (i .2)) tt
+
+  -- what a flush ends with: nothing is left to free
+  pub flush-done : workerAt s w .doing ≡ FlushFree [] → Kept now (to Idle) (map (endFor now w Done) h) (o ++ endEffects h w Done)
+  unfolding endAs cnt feed finishes atEnd
+  flush-done e = ⊎-elim for-put for-collect (a .2)
+    where
+      a : Busy x h o w t (FlushFree [])
+      a = cur-is (FlushFree []) e
+
+      for-put : IsPut (callAt h (a .0) .operation) × (occurrences (a .0) o ≡ 1) → Kept now (to Idle) (map (endFor now w Done) h) (o ++ endEffects h w Done)
+      for-put u =
+          none-more o (endEffects h w Done) (own-not (a .1) Done (ap atEnd (u .0 .2))) (place-inv (FlushFree []) Idle e (λ c. refl) (calm (FlushFree []) tt e) _ o p
+          (hist-end now w h o p (I .linear) Done (a .0) (a .1) (u .1) (put-agrees (callAt h (a .0) .operation) (u .0) (FinishedAt now Done)))
+          refl (doing-is (FlushFree []) e .0) (end-shut now w h o p (I .linear) Done (a .0) (a .1)))
+
+      for-collect : (callAt h (a .0) .operation ≡ Collect) × (occurrences (a .0) o ≡ 0) → Kept now (to Idle) (map (endFor now w Done) h) (o ++ endEffects h w Done)
+      for-collect u =
+          one-more o (endEffects h w Done) (a .0) (own-is (a .1) Done refl (ap atEnd (u .0))) (place-inv (FlushFree []) Idle e (λ c. refl) (calm (FlushFree []) tt e) _ (o ++ (a .0 ∷ [])) (feed p w (callAt h (a .0) .operation))
+          (hist-show now w h o p (I .linear) Done (a .0) (a .1) (u .1) refl
+          (subst (λ (z : Operation). Agrees z (FinishedAt now Done) (shows p w z)) (sym (u .0)) tt)
+          (λ r. rw (u .0)) (λ v n. rw (u .0)))
+          (rw (u .0)) (doing-is (FlushFree []) e .0) (end-shut now w h o p (I .linear) Done (a .0) (a .1)))
+
+  ------------------------------------------------------------------------
+  -- The hand-in
+
+  module _ (r c : ℕ) (e : workerAt s w .doing ≡ PutHandIn r c) where
+    abbrev pool⁺ : List Range
+    pool⁺ = workerAt s w .pool ++ (rangeOf s c ∷ [])
+
+    good⁺ : All (Good x) pool⁺
+    unfolding rangeOf
+    good⁺ =
+        let d = doing-is (PutHandIn r c) e in
+        All-append (Good x) (workerAt s w .pool) (rangeOf s c ∷ []) (I .workers w wb .pool)
+        ((refl, refl, d .3, fine-low (s .slots) (s .clock) (p .registers r) (newestOf s r) c (old x r) (I .stamps r (d .0)) (d .2)), tt)
+
+    pend⁺ : (d : Doing) → ((i : ℕ) → inDoing i d ≡ 0) → (i : ℕ) → inDoing i d + cnt i pool⁺ + sumBy (cnt i) (s .queue) ≡ pendW i (workerAt s w) + sumBy (cnt i) (s .queue)
+    unfolding rangeOf cnt
+    pend⁺ d m i = omega (arith, m i, cnt-append i (workerAt s w .pool) (rangeOf s c ∷ []), ap (inDoing i) e)
+
+    pub hand-done : Kept now (withWorker s w (record { doing = Idle; announced = t; pool = pool⁺ })) (map (endFor now w Done) h) (o ++ endEffects h w Done)
+    unfolding endAs atEnd
+    hand-done =
+        let a = cur-is (PutHandIn r c) e in
+        none-more o (endEffects h w Done) (own-not (a .1) Done (ap atEnd (a .2 .0 .2))) (record {
+          olds = olds;
+          p = p;
+          inv =
+              work-inv now s olds h o p I w wb (record { doing = Idle; announced = t; pool = pool⁺ }) (s .queue) (now + 1) _ o p
+              (pend⁺ Idle (λ i. refl)) (I .queue) (inl refl) (calm (PutHandIn r c) tt e)
+              (hist-end now w h o p (I .linear) Done (a .0) (a .1) (a .2 .1) (put-agrees (callAt h (a .0) .operation) (a .2 .0) (FinishedAt now Done)))
+              (record {
+                pool = good⁺;
+                announced = I .workers w wb .announced;
+                snapshot = I .workers w wb .snapshot;
+                doing = doing-is (PutHandIn r c) e .1;
+                current = end-shut now w h o p (I .linear) Done (a .0) (a .1);
+              });
+        })
+
+    pub hand-full : Kept now (withWorker s w (record { doing = FlushTake; announced = t; pool = pool⁺ })) h o
+    hand-full =
+        let a = cur-is (PutHandIn r c) e in
+        record {
+          olds = olds;
+          p = p;
+          inv =
+              work-inv now s olds h o p I w wb (record { doing = FlushTake; announced = t; pool = pool⁺ }) (s .queue) (now + 1) h o p
+              (pend⁺ FlushTake (λ i. refl)) (I .queue) (inl refl) (calm (PutHandIn r c) tt e) skip
+              (record {
+                pool = good⁺;
+                announced = I .workers w wb .announced;
+                snapshot = I .workers w wb .snapshot;
+                doing = doing-is (PutHandIn r c) e .1;
+                current = (a .0, a .1, inl (a .2 .0, a .2 .1));
+              });
+        }
+
+  ------------------------------------------------------------------------
+  -- The flush
+
+  pub take-kept : workerAt s w .doing ≡ FlushTake → Kept now (withQueue (to (FlushRead (firstTwo (s .queue)) [])) (drop 2 (s .queue))) h o
+  take-kept e =
+      let a = cur-is FlushTake e in
+      record {
+        olds = olds;
+        p = p;
+        inv =
+            work-inv now s olds h o p I w wb (withDoing (workerAt s w) (FlushRead (firstTwo (s .queue)) [])) (drop 2 (s .queue)) (now + 1) h o p
+            (λ c. omega (arith, cnt-firstTwo c (s .queue), ap (inDoing c) e)) (All-rest (Good x) (s .queue) (I .queue)) (inl refl) (calm FlushTake tt e) skip
+            (record {
+              pool = I .workers w wb .pool;
+              announced = I .workers w wb .announced;
+              snapshot = I .workers w wb .snapshot;
+              doing = (doing-is FlushTake e, All-firstTwo (Good x) (s .queue) (I .queue), omega arith, All-map (λ ρ g v z. absurd (not-suc-le-zero z)) (firstTwo (s .queue)) (All-firstTwo (Good x) (s .queue) (I .queue)));
+              current = (a .0, a .1, a .2);
+            });
+      }
+
+  module _ (m : List Range) (ts : List ℕ) (e : workerAt s w .doing ≡ FlushRead m ts) where
+    d₀ : PlaceHolds x p w t (FlushRead m ts)
+    d₀ = doing-is (FlushRead m ts) e
+
+    pub ask-kept : length ts < holders s → Kept now (to (FlushRead m (ts ++ readTimes s (length ts)))) h o
+    ask-kept b =
+        let a = cur-is (FlushRead m ts) e in
+        place-inv (FlushRead m ts) (FlushRead m ts⁺) e (λ c. refl) (calm (FlushRead m ts) tt e) h o p skip refl
+        (d₀ .0, d₀ .1, omega (arith, len, R .0), more m (d₀ .1) (d₀ .3))
+        (a .0, a .1, a .2)
+      where
+        ts⁺ : List ℕ
+        ts⁺ = ts ++ readTimes s (length ts)
+
+        R : Reads s (length ts)
+        R = reads s (length ts) b
+
+        len : length ts⁺ ≡ length ts + length (readTimes s (length ts))
+        len = length-append ts (readTimes s (length ts))
+
+        x⁺ : Ctx
+        x⁺ = ctx (to (FlushRead m ts⁺)) olds
+
+        still : (v : ℕ) → (x⁺ .held v ≡ x .held v) ⊎ ((x⁺ .held v ≡ absent) ⊎ (x .clock ≤ x⁺ .held v))
+        still = after-times now s olds h o p I w wb (withDoing (workerAt s w) (FlushRead m ts⁺)) (s .queue) (inl refl)
+
+        -- the time of a holder that this step reads is among those read
+        read-now : (v i : ℕ) → v ≡ length ts + i → i < length (readTimes s (length ts)) → x⁺ .held v ≡ x .held v → 0 < occurrences (x⁺ .held v) ts⁺
+        read-now v i e b y =
+            let z : x⁺ .held v ≡ getD (readTimes s (length ts)) i absent = y ∙ ap (held s) e ∙ sym (R .1 i b) in
+            omega (
+              arith,
+              occurrences-append (x⁺ .held v) ts (readTimes s (length ts)),
+              subst (λ (q : ℕ). 0 < occurrences q (readTimes s (length ts))) (sym z) (occurrences-at (readTimes s (length ts)) i absent b),
+            )
+
+        one : (ρ : Range) → Good x ρ → Asked x ts ρ → Asked x⁺ ts⁺ ρ
+        one ρ g k v z =
+            ⊎-elim
+            (λ u. ⊎-elim inl (⊎-elim (λ y. inr (inl (omega (arith, y, occurrences-append (x⁺ .held v) ts (readTimes s (length ts)))))) (λ y. inr (inr y)))
+            (asked x x⁺ ts ρ (d₀ .2) (λ i _. still i) (g .2) k v (u .0)))
+            (λ u.
+            let i : v ≡ length ts + (v - length ts) = omega (arith, u .0) in
+            ⊎-elim
+            (λ y. inr (inl (read-now v (v - length ts) i (omega (arith, z, len, u .0)) y)))
+            (⊎-elim inl (λ y. inr (inr (omega (arith, y, g .2)))))
+            (still v))
+            (lt-cases v (length ts))
+
+        more : (q : List Range) → All (Good x) q → All (Asked x ts) q → All (Asked x⁺ ts⁺) q
+        more [] g k = tt
+        more (ρ ∷ q) g k = (one ρ (g .0) (k .0), more q (g .1) (k .1))
+
+    pub split-kept : (b : ℕ) → holders s ≤ length ts
+        → Kept now
+        (withQueue (withWorker s w (record { doing = FlushFree (filter (λ ρ. not (needed ts ρ)) m); announced = t; pool = [] }))
+        (s .queue ++ neededPools b (filter (needed ts) m) ++ queuedPool (merge (workerAt s w .pool) (joining b (filter (needed ts) m)))))
+        h
+        o
+    unfolding cnt
+    split-kept b full =
+        let a = cur-is (FlushRead m ts) e in
+        record {
+          olds = olds;
+          p = p;
+          inv =
+              work-inv now s olds h o p I w wb y⁺ q⁺ (now + 1) h o p
+              (λ c. omega (
+                arith,
+                cnt-split c (needed ts) m,
+                cnt-sent c b stay,
+                cnt-merge c (workerAt s w .pool) (joining b stay),
+                cnt-queued c (merge (workerAt s w .pool) (joining b stay)),
+                sumBy-append (cnt c) (s .queue ++ neededPools b stay) (queuedPool (merge (workerAt s w .pool) (joining b stay))),
+                sumBy-append (cnt c) (s .queue) (neededPools b stay),
+                ap (inDoing c) e,
+              ))
+              (All-append (All (Good x)) (s .queue ++ neededPools b stay) _
+              (All-append (All (Good x)) (s .queue) _ (I .queue) (All-toQueue (Good x) b stay gs))
+              (All-queued (Good x) _ (All-merge (Good x) (workerAt s w .pool) (joining b stay) (I .workers w wb .pool) (All-toLocal (Good x) b stay gs))))
+              (inl refl) (calm (FlushRead m ts) tt e) skip
+              (record {
+                pool = tt;
+                announced = I .workers w wb .announced;
+                snapshot = I .workers w wb .snapshot;
+                doing = (d₀ .0, All-keep (Good x) _ m (d₀ .1), All-map one go spare);
+                current = (a .0, a .1, a .2);
+              });
+        }
+      where
+        stay : List Range
+        stay = filter (needed ts) m
+
+        go : List Range
+        go = filter (λ ρ. not (needed ts ρ)) m
+
+        y⁺ : Worker
+        y⁺ = record { doing = FlushFree go; announced = t; pool = [] }
+
+        q⁺ : List (List Range)
+        q⁺ = s .queue ++ neededPools b stay ++ queuedPool (merge (workerAt s w .pool) (joining b stay))
+
+        gs : All (Good x) stay
+        gs = All-keep (Good x) (needed ts) m (d₀ .1)
+
+        x⁺ : Ctx
+        x⁺ = ctx (withQueue (withWorker s w y⁺) q⁺) olds
+
+        still : (v : ℕ) → (x⁺ .held v ≡ x .held v) ⊎ ((x⁺ .held v ≡ absent) ⊎ (x .clock ≤ x⁺ .held v))
+        still = after-times now s olds h o p I w wb y⁺ q⁺ (inl refl)
+
+        zip : (q : List Range) → All (λ ρ. not (needed ts ρ) ≡ true) q → All (Good x) q → All (Asked x ts) q → All (λ ρ. (not (needed ts ρ) ≡ true) × (Good x ρ) × (Asked x ts ρ)) q
+        zip [] f g k = tt
+        zip (ρ ∷ q) f g k = ((f .0, g .0, k .0), zip q (f .1) (g .1) (k .1))
+
+        spare : All (λ ρ. (not (needed ts ρ) ≡ true) × (Good x ρ) × (Asked x ts ρ)) go
+        spare = zip go (All-kept (λ ρ. not (needed ts ρ)) m) (All-keep (Good x) _ m (d₀ .1)) (All-keep (Asked x ts) _ m (d₀ .3))
+
+        one : (ρ : Range) → (not (needed ts ρ) ≡ true) × (Good x ρ) × (Asked x ts ρ) → Spared x⁺ ρ
+        one ρ u =
+            spared x x⁺ ρ refl (λ i _. still i) (u .1 .2)
+            (λ v z i j k.
+            ⊎-elim (λ q. omega (arith, q))
+            (⊎-elim
+            (λ q. not-needed ts ρ (Tests.not-true (needed ts ρ) (u .0)) (x .held v) q i j k)
+            (λ q. omega (arith, q)))
+            (u .2 v (omega arith)))
+
+  ------------------------------------------------------------------------
+  -- Open, read, close
+
+  pub announce-kept : workerAt s w .doing ≡ OpenAnnounce → s .clock ≢ 4294967295 → Kept now (withWorker s w (record { doing = OpenPass; announced = s .clock; pool = workerAt s w .pool })) h o
+  announce-kept e n =
+      let a = cur-is OpenAnnounce e in
+      record {
+        olds = olds;
+        p = p;
+        inv =
+            work-inv now s olds h o p I w wb (record { doing = OpenPass; announced = s .clock; pool = workerAt s w .pool }) (s .queue) (now + 1) h o p
+            (λ c. omega (arith, ap (inDoing c) e)) (I .queue) (inr (inr (omega arith))) (calm OpenAnnounce tt e) skip
+            (record {
+              pool = I .workers w wb .pool;
+              announced = inr (omega arith, omega (arith, I .clockFits));
+              snapshot = λ z. absurd (omega (arith, z));
+              doing = (omega arith, omega (arith, I .clockFits));
+              current = (a .0, a .1, (a .2 .0, inl (refl, a .2 .1)));
+            });
+      }
+
+  pub withdraw-kept : workerAt s w .doing ≡ CloseWithdraw → Kept now (withWorker s w (record { doing = Idle; announced = absent; pool = workerAt s w .pool })) (map (endFor now w Done) h) (o ++ endEffects h w Done)
+  unfolding endAs feed finishes atEnd
+  withdraw-kept e =
+      let a = cur-is CloseWithdraw e in
+      one-more o (endEffects h w Done) (a .0) (own-is (a .1) Done refl (ap atEnd (a .2 .0))) (record {
+        olds = olds;
+        p = feed p w (callAt h (a .0) .operation);
+        inv =
+            work-inv now s olds h o p I w wb (record { doing = Idle; announced = absent; pool = workerAt s w .pool }) (s .queue) (now + 1) _ (o ++ (a .0 ∷ [])) (feed p w (callAt h (a .0) .operation))
+            (λ c. omega (arith, ap (inDoing c) e)) (I .queue) (inr (inl refl)) (calm CloseWithdraw tt e)
+            (hist-show now w h o p (I .linear) Done (a .0) (a .1) (a .2 .1) refl
+            (subst (λ (z : Operation). Agrees z (FinishedAt now Done) (shows p w z)) (sym (a .2 .0)) tt)
+            (λ r. rw (a .2 .0)) (λ v n. rw (a .2 .0) (put-at-other (p .copy) w mathlib.Core.Option.none v n)))
+            (record {
+              pool = I .workers w wb .pool;
+              announced = inl refl;
+              snapshot = λ z. absurd (omega (arith, z, I .clockFits));
+              doing = inl refl;
+              current = end-shut now w h o p (I .linear) Done (a .0) (a .1);
+            });
+      })
+
+  module _ (r c : ℕ) (e : workerAt s w .doing ≡ ReadStand r c) where
+    pub found-kept : slotAt s c .low ≤ t → Kept now (to Idle) (map (endFor now w (shown (slotAt s c .value))) h) (o ++ endEffects h w (shown (slotAt s c .value)))
+    unfolding feed shows inCopy atEnd shown
+    found-kept z =
+        let a = cur-is (ReadStand r c) e in
+        let d = doing-is (ReadStand r c) e in
+        let f = d .2 in
+        one-more o (endEffects h w (shown (slotAt s c .value))) (a .0) (own-is (a .1) (shown (slotAt s c .value)) (shown-finishes (slotAt s c .value)) (ap atEnd (a .2 .0)))
+        (place-inv (ReadStand r c) Idle e (λ i. refl) (calm (ReadStand r c) tt e) _ (o ++ (a .0 ∷ [])) (feed p w (callAt h (a .0) .operation))
+        (hist-show now w h o p (I .linear) (shown (slotAt s c .value)) (a .0) (a .1) (a .2 .1)
+        (subst (λ (q : Ending). Stands q 1) (sym (shown-end now (slotAt s c .value))) refl)
+        (subst (λ (q : Ending). Agrees (callAt h (a .0) .operation) q (shows p w (callAt h (a .0) .operation))) (sym (shown-end now (slotAt s c .value)))
+        (subst (λ (q : Operation). Agrees q (FinishedAt now (shown (slotAt s c .value))) (shows p w q)) (sym (a .2 .0))
+        (f .0 r, ap (λ q. inCopy q r) (f .1), ap shown (On-found (s .slots) t c (f .0 r) (chain x r) (f .2) z))))
+        (λ i. rw (a .2 .0)) (λ v n. rw (a .2 .0)))
+        (rw (a .2 .0)) (inr (d .1)) (end-shut now w h o p (I .linear) (shown (slotAt s c .value)) (a .0) (a .1)))
+
+    pub on-kept : t < slotAt s c .low → Kept now (to (ReadStand r (slotAt s c .older))) h o
+    on-kept z =
+        let a = cur-is (ReadStand r c) e in
+        let d = doing-is (ReadStand r c) e in
+        place-inv (ReadStand r c) (ReadStand r (slotAt s c .older)) e (λ i. refl) (calm (ReadStand r c) tt e) h o p skip refl
+        (d .0, d .1, (d .2 .0, d .2 .1, On-on (s .slots) absent t c (d .2 .0 r) (chain x r) (I .linked r (d .0)) (d .2 .2) z))
+        (a .0, a .1, a .2)

@@ -1,0 +1,118 @@
+-- One record, refused or not, keeps the invariant.
+use mathlib.Core.Path.{_≡_, refl, sym, ap, _∙_, subst}
+use mathlib.Core.Bool.{Bool, true, true≢false}
+use mathlib.Core.Logic.{_⊎_, inl}
+use mathlib.Core.List.{List, [], _++_}
+use Prim.Native.Nat.{ℕ, _<_}
+use lib.Dec.{ltb}
+use borrow.Author.Tests as Tests
+use Rattle.model.specs.Store.{absent, Doing, Idle, PutPublish, PutStamp, PutHandIn, FlushTake, FlushRead, FlushFree, OpenAnnounce, OpenPass, ReadEnter, ReadStand, CloseWithdraw, GetShow, Store, up, workerAt, place}
+use Rattle.model.specs.Answer.{Freed, No, Applied}
+use Rattle.model.specs.Steps.{stepAt}
+use Rattle.model.specs.Record.{Operation, SetUp, Begin, Step, Decoded, Asks, Refuses, decode}
+use Rattle.model.specs.Apply.{refuse, setUp, registerBelow, isIdle, mayOpen, mayUseTime, firstPlace, begin, step, obey, applyDecoded, apply}
+use Rattle.model.specs.Demand.{Call, isOk, ends, observe, Plain, endEffects, stepEffects, effects, occurrences, FreesNothingNeeded, TookBy}
+use Rattle.model.proofs.Basic.{cond-both}
+use Rattle.model.proofs.Invariant.{Inv}
+use Rattle.model.proofs.Places.{Kept, none-more, begin-kept}
+use Rattle.model.proofs.Step.{NotFreed, inv-skip, step-after, change-still, own-refused}
+
+-- what a record does that reads as d, finds store s, calls h and order o, and leaves and answers a
+pub record Holds (now : ℕ) (s : Store) (d : Decoded) (h : List Call) (o : List ℕ) (a : Applied) : Type 0 where
+  pub store : Store
+  pub is : a .hub ≡ up store
+  pub kept : Kept now store (observe now d (a .answer) h) (o ++ effects h d (up s) (a .answer) (up store))
+  pub safe : FreesNothingNeeded (up s) (a .answer)
+  pub frees : (c : ℕ) → a .answer ≡ Freed c → (occurrences c (s .free) ≡ 0) × (0 < occurrences c (store .free))
+  pub stays : (c : ℕ) → 0 < occurrences c (s .free) → (0 < occurrences c (store .free)) ⊎ TookBy c d (up s) (a .answer) (up store)
+
+pub idle-is : (d : Doing) → isIdle d ≡ true → d ≡ Idle
+unfolding isIdle
+idle-is Idle e = refl
+idle-is (PutPublish r y) e = absurd (true≢false (sym e))
+idle-is (PutStamp r c) e = absurd (true≢false (sym e))
+idle-is (PutHandIn r c) e = absurd (true≢false (sym e))
+idle-is FlushTake e = absurd (true≢false (sym e))
+idle-is (FlushRead m ts) e = absurd (true≢false (sym e))
+idle-is (FlushFree m) e = absurd (true≢false (sym e))
+idle-is OpenAnnounce e = absurd (true≢false (sym e))
+idle-is OpenPass e = absurd (true≢false (sym e))
+idle-is (ReadEnter r) e = absurd (true≢false (sym e))
+idle-is (ReadStand r c) e = absurd (true≢false (sym e))
+idle-is CloseWithdraw e = absurd (true≢false (sym e))
+idle-is (GetShow r) e = absurd (true≢false (sym e))
+
+module _ (batch : ℕ → ℕ) (now : ℕ) (s : Store) (olds : List (List ℕ)) (h : List Call) (o : List ℕ) (p : Plain) (I : Inv now s olds h o p) where
+  -- a refusal on reading begins nothing and takes no step
+  refused-holds : (d : Decoded) (k : ℕ) → observe now d (No k) h ≡ h → effects h d (up s) (No k) (up s) ≡ [] → Holds now s d h o (refuse (up s) k)
+  refused-holds d k e f =
+      record {
+        store = s;
+        is = refl;
+        kept = none-more o _ f (subst (λ (q : List Call). Kept now s q o) (sym e) (inv-skip now s olds h o p I));
+        safe = λ c z. absurd (subst NotFreed z tt);
+        frees = λ c z. absurd (subst NotFreed z tt);
+        stays = λ c z. inl z;
+      }
+
+  not-begun : (w : ℕ) (c : Operation) (k : ℕ) → Holds now s (Asks (Begin w c)) h o (refuse (up s) k)
+  unfolding observe isOk effects
+  not-begun w c k = refused-holds (Asks (Begin w c)) k refl refl
+
+  begin-holds : (w : ℕ) (c : Operation) → Holds now s (Asks (Begin w c)) h o (begin s w c)
+  unfolding begin observe isOk effects
+  begin-holds w c =
+      cond-both H (ltb w (s .P)) _ _
+      (λ e₁. cond-both H (registerBelow (s .V') c) _ _
+      (λ e₂. cond-both H (isIdle (workerAt s w .doing)) _ _
+      (λ e₃. cond-both H (mayOpen c has) _ _
+      (λ e₄. cond-both H (mayUseTime c has) _ _
+      (λ e₅.
+      record {
+        store = place s w (firstPlace c);
+        is = refl;
+        kept =
+            none-more o [] refl
+            (begin-kept now s olds h o p I w (Tests.ltb-true w (s .P) e₁) c (idle-is (workerAt s w .doing) e₃) e₂ e₄ e₅);
+        safe = λ i z. absurd (subst NotFreed z tt);
+        frees = λ i z. absurd (subst NotFreed z tt);
+        stays = λ i z. inl z;
+      })
+      (λ e₅. not-begun w c 13))
+      (λ e₄. not-begun w c 12))
+      (λ e₃. not-begun w c 10))
+      (λ e₂. not-begun w c 4))
+      (λ e₁. not-begun w c 3)
+    where
+      H : Applied → Type 0
+      H = Holds now s (Asks (Begin w c)) h o
+
+      has : Bool
+      has = ltb (workerAt s w .announced) absent
+
+  step-holds : (w : ℕ) → Holds now s (Asks (Step w)) h o (step batch s w)
+  unfolding step observe ends effects stepEffects
+  step-holds w =
+      cond-both (Holds now s (Asks (Step w)) h o) (ltb w (s .P)) _ _
+      (λ e.
+      let A = step-after batch now s olds h o p I w (Tests.ltb-true w (s .P) e) (workerAt s w .doing) refl in
+      record {
+        store = stepAt batch s w (workerAt s w .doing) .store;
+        is = refl;
+        kept = A .kept;
+        safe = A .safe;
+        frees = A .frees;
+        stays = A .stays;
+      })
+      (λ e. refused-holds (Asks (Step w)) 3 refl (ap (λ (q : List ℕ). q ++ endEffects h w (No 3)) (change-still h s s refl refl) ∙ own-refused h w 3))
+
+  decoded-holds : (d : Decoded) → Holds now s d h o (applyDecoded batch (up s) d)
+  unfolding applyDecoded obey setUp observe effects
+  decoded-holds (Asks (SetUp z)) = refused-holds (Asks (SetUp z)) 9 refl refl
+  decoded-holds (Asks (Begin w c)) = begin-holds w c
+  decoded-holds (Asks (Step w)) = step-holds w
+  decoded-holds (Refuses k) = refused-holds (Refuses k) k refl refl
+
+  pub apply-holds : (b : List ℕ) → Holds now s (decode b) h o (apply batch (up s) b)
+  unfolding apply
+  apply-holds b = decoded-holds (decode b)

@@ -1,0 +1,103 @@
+-- The steps that stamp a register and change the worker's place: read (1), get, put (2).
+use mathlib.Core.Path.{_≡_, refl, sym, ap, _∙_, subst}
+use mathlib.Core.Bool.{cond}
+use mathlib.Core.Logic.{_≢_, inl, ⊎-elim}
+use mathlib.Core.List.{List, [], _∷_, _++_, map}
+use Prim.Native.Nat.{ℕ, _≤_, _<_}
+use native.Mathlib.Omega.{arith}
+use lib.Dec.{eqb}
+use Rattle.model.specs.Store.{absent, Reading, Idle, PutStamp, PutHandIn, ReadEnter, ReadStand, GetShow, Store, workerAt, slotAt, newestOf, place}
+use Rattle.model.specs.Versions.{stamp}
+use Rattle.model.specs.Steps.{shown}
+use Rattle.model.specs.Record.{Operation}
+use Rattle.model.specs.Demand.{Ending, FinishedAt, Call, endFor, Plain, feed, shows, changeEffects, atEnd, endEffects, Stands, Agrees, callAt}
+use Rattle.model.proofs.Basic.{eq-cases, All-get, app-assoc}
+use Rattle.model.proofs.Effect.{own-is, change-none}
+use Rattle.model.proofs.Linear.{shown-end, shown-finishes}
+use Rattle.model.proofs.Slots.{nth, stamp-value}
+use Rattle.model.proofs.Chain.{Past}
+use Rattle.model.proofs.Invariant.{ctx, old, Snap, PlaceHolds, Inv}
+use Rattle.model.proofs.Stamp.{Stamped, stamp-inv}
+use Rattle.model.proofs.History.{hist-skip, hist-show, end-shut}
+use Rattle.model.proofs.Places.{Kept, none-more, one-more, place-inv, doing-is, cur-is, calm, fine-high}
+
+-- the covered version is stamped: on to the hand-in
+cover-on : (now : ℕ) (s : Store) (olds : List (List ℕ)) (h : List Call) (o : List ℕ) (p : Plain) → Inv now s olds h o p → (w : ℕ) → w < s .P
+    → (r c : ℕ) → workerAt s w .doing ≡ PutStamp r c → nth (s .slots) c .high ≤ s .clock → Kept now (place s w (PutHandIn r c)) h o
+cover-on now s olds h o p I w wb r c e hi =
+    let d = doing-is now s olds h o p I w wb (PutStamp r c) e in
+    let a = cur-is now s olds h o p I w wb (PutStamp r c) e in
+    place-inv now s olds h o p I w wb (PutStamp r c) (PutHandIn r c) e (λ i. refl)
+    (λ q i z y. let j : i ≡ c = cc in omega (arith, hi, I .clockFits, y, ap (λ (k : ℕ). nth (s .slots) k .high) j))
+    h o p (hist-skip now w h o p (I .linear)) refl
+    (d .0, d .1, d .2, hi)
+    (a .0, a .1, ((r, a .2 .0, a .2 .1), ⊎-elim (λ u. absurd (omega (arith, u .0, hi, I .clockFits))) (λ u. u .1) (a .2 .2)))
+
+module _ (now : ℕ) (s : Store) (olds : List (List ℕ)) (h : List Call) (o : List ℕ) (p : Plain) (I : Inv now s olds h o p) (w : ℕ) (wb : w < s .P) where
+  pub cover-kept : (r c : ℕ) → workerAt s w .doing ≡ PutStamp r c → Kept now (place (cond (eqb (slotAt s c .high) absent) (stamp s r) s) w (PutHandIn r c)) h (o ++ changeEffects h s (cond (eqb (slotAt s c .high) absent) (stamp s r) s))
+  unfolding stamp
+  cover-kept r c e = ⊎-elim (λ u. rw (u .1) first) (λ u. rw (u .1) (second (u .0))) (eq-cases (slotAt s c .high) absent)
+    where
+      d : PlaceHolds (ctx s olds) p w (workerAt s w .announced) (PutStamp r c)
+      d = doing-is now s olds h o p I w wb (PutStamp r c) e
+
+      T : Stamped now s r olds h o
+      T = stamp-inv now s olds h o p I r (d .0)
+
+      first : Kept now (place (stamp s r) w (PutHandIn r c)) h (o ++ changeEffects h s (stamp s r))
+      first =
+          subst (Kept now (place (stamp s r) w (PutHandIn r c)) h) (T .grown)
+          (cover-on now (stamp s r) olds h (T .o) (T .p) (T .inv) w wb r c e
+          (⊎-elim (λ u. All-get (Past (stamp s r .slots) (s .clock)) (old (ctx s olds) r) (u .2) c (d .2) .1) (λ u. absurd (omega (arith, T .low, u .0, I .clockFits))) (T .inv .stamps r (d .0) .1)))
+
+      second : slotAt s c .high ≢ absent → Kept now (place s w (PutHandIn r c)) h (o ++ changeEffects h s s)
+      second n = none-more o (changeEffects h s s) (change-none h s s refl (λ v q i z y. refl)) (cover-on now s olds h o p I w wb r c e (fine-high (s .slots) (s .clock) (p .registers r) (newestOf s r) c (old (ctx s olds) r) (I .stamps r (d .0)) (d .2) n))
+
+  pub enter-kept : (r : ℕ) → workerAt s w .doing ≡ ReadEnter r → Kept now (place (stamp s r) w (ReadStand r (newestOf s r))) h (o ++ changeEffects h s (stamp s r))
+  unfolding stamp
+  enter-kept r e =
+      let a = cur-is now (stamp s r) olds h (T .o) (T .p) (T .inv) w wb (ReadEnter r) e in
+      subst (Kept now (place (stamp s r) w (ReadStand r (newestOf s r))) h) (T .grown)
+      (place-inv now (stamp s r) olds h (T .o) (T .p) (T .inv) w wb (ReadEnter r) (ReadStand r (newestOf s r)) e (λ i. refl) (calm now (stamp s r) olds h (T .o) (T .p) (T .inv) w wb (ReadEnter r) tt e)
+      h (T .o) (T .p) (hist-skip now w h (T .o) (T .p) (T .inv .linear)) refl
+      (d .0, d .1, (S .0, S .1, inl (refl, S .2 r (d .0))))
+      (a .0, a .1, a .2))
+    where
+      d : PlaceHolds (ctx s olds) p w (workerAt s w .announced) (ReadEnter r)
+      d = doing-is now s olds h o p I w wb (ReadEnter r) e
+
+      T : Stamped now s r olds h o
+      T = stamp-inv now s olds h o p I r (d .0)
+
+      S : Snap (ctx (stamp s r) olds) (T .p) w (workerAt s w .announced)
+      S = T .inv .workers w wb .snapshot (d .1)
+
+  pub show-kept : (r : ℕ) → workerAt s w .doing ≡ GetShow r → Kept now (place (stamp s r) w Idle) (map (endFor now w (shown (slotAt s (newestOf s r) .value))) h) (o ++ (changeEffects h s (stamp s r) ++ endEffects h w (shown (slotAt s (newestOf s r) .value))))
+  unfolding stamp feed shows atEnd shown
+  show-kept r e =
+      let a = cur-is now (stamp s r) olds h (T .o) (T .p) (T .inv) w wb (GetShow r) e in
+      subst (Kept now (place (stamp s r) w Idle) (map (endFor now w (shown v)) h)) (app-assoc o (changeEffects h s (stamp s r)) (endEffects h w (shown v)))
+      (subst (λ (q : List ℕ). Kept now (place (stamp s r) w Idle) (map (endFor now w (shown v)) h) (q ++ endEffects h w (shown v))) (T .grown)
+      (one-more (T .o) (endEffects h w (shown v)) (a .0) (own-is (a .1) (shown v) (shown-finishes v) (ap atEnd (a .2 .0)))
+      (place-inv now (stamp s r) olds h (T .o) (T .p) (T .inv) w wb (GetShow r) Idle e (λ i. refl) (calm now (stamp s r) olds h (T .o) (T .p) (T .inv) w wb (GetShow r) tt e)
+      _ (T .o ++ (a .0 ∷ [])) (feed (T .p) w (callAt h (a .0) .operation))
+      (hist-show now w h (T .o) (T .p) (T .inv .linear) (shown v) (a .0) (a .1) (a .2 .1)
+      (subst (λ (q : Ending). Stands q 1) (sym (shown-end now v)) refl)
+      (subst (λ (q : Ending). Agrees (callAt h (a .0) .operation) q (shows (T .p) w (callAt h (a .0) .operation))) (sym (shown-end now v))
+      (subst (λ (q : Operation). Agrees q (FinishedAt now (shown v)) (shows (T .p) w q)) (sym (a .2 .0)) (T .p .registers r, refl, ap shown val)))
+      (λ i. rw (a .2 .0)) (λ i n. rw (a .2 .0)))
+      (rw (a .2 .0)) (d .1) (end-shut now w h (T .o) (T .p) (T .inv .linear) (shown v) (a .0) (a .1)))))
+    where
+      v : Reading
+      v = slotAt s (newestOf s r) .value
+
+      d : PlaceHolds (ctx s olds) p w (workerAt s w .announced) (GetShow r)
+      d = doing-is now s olds h o p I w wb (GetShow r) e
+
+      T : Stamped now s r olds h o
+      T = stamp-inv now s olds h o p I r (d .0)
+
+      val : v ≡ T .p .registers r
+      val =
+          sym (stamp-value (s .slots) (newestOf s r) (s .clock) (newestOf s r))
+          ∙ ⊎-elim (λ u. u .1) (λ u. absurd (omega (arith, T .low, u .0, I .clockFits))) (T .inv .stamps r (d .0) .1)

@@ -1,0 +1,151 @@
+-- What a worker's part of the invariant asks of a step that changes the store around it.
+use mathlib.Core.Path.{_≡_, refl, sym, _∙_, subst}
+use mathlib.Core.Logic.{_⊎_, inl, inr, ⊎-elim}
+use mathlib.Core.List.{List, [], _∷_}
+use Prim.Native.Nat.{ℕ, _≤_, _<_}
+use native.Mathlib.Omega.{arith}
+use lib.ListN.{length}
+use Rattle.model.specs.Store.{absent, Reading, Slot, Range, Doing, Idle, PutPublish, PutStamp, PutHandIn, FlushTake, FlushRead, FlushFree, OpenAnnounce, OpenPass, ReadEnter, ReadStand, CloseWithdraw, GetShow}
+use Rattle.model.specs.Record.{Operation}
+use Rattle.model.specs.Demand.{Call, Plain, occurrences, All, callAt}
+use Rattle.model.proofs.Basic.{hit-same}
+use Rattle.model.proofs.Slots.{nth}
+use Rattle.model.proofs.Chain.{On, Fine, Past, Next}
+use Rattle.model.proofs.Count.{cnt}
+use Rattle.model.proofs.Invariant.{Ctx, top, old, chain, inDoing, Good, Settled, Asked, Spared, PlaceHolds, Running, NoneRunning, Fits, Current}
+
+-- what holds of the ranges of a list may be shown of each with its slot counted
+pub All-cnt : {P Q : Range → Type 0} (m : List Range) → ((ρ : Range) → 0 < cnt (ρ .slot) m → P ρ → Q ρ) → All P m → All Q m
+unfolding cnt
+All-cnt [] f t = tt
+All-cnt (ρ ∷ m) f t = (f ρ (omega (arith, hit-same (ρ .slot))) (t .0), All-cnt m (λ σ z. f σ (omega (arith, z))) (t .1))
+
+pub record Moves (x x′ : Ctx) (t : ℕ) (d : Doing) : Type 0 where
+  pub tick : x .clock ≤ x′ .clock
+  pub reg : (r : ℕ) → r < x .registers → r < x′ .registers
+  pub nhd : x′ .holders ≡ x .holders
+  pub good : (ρ : Range) → 0 < inDoing (ρ .slot) d → Good x ρ → Good x′ ρ
+  pub times′ : (v : ℕ) → v < x .holders → (x′ .held v ≡ x .held v) ⊎ ((x′ .held v ≡ absent) ⊎ (x .clock ≤ x′ .held v))
+  pub mem : (r c : ℕ) → r < x .registers → 0 < inDoing c d → 0 < occurrences c (old x r) → 0 < occurrences c (old x′ r)
+  pub highs : (c : ℕ) → 0 < inDoing c d → nth (x .slots) c .high ≤ x .clock → nth (x′ .slots) c .high ≤ x′ .clock
+  pub on : (r c : ℕ) (y : Reading) → r < x .registers → t < x .clock → d ≡ ReadStand r c → On (x .slots) t c y (chain x r) → On (x′ .slots) t c y (chain x′ r)
+
+module _ (x x′ : Ctx) where
+  pub asked : (ts : List ℕ) (ρ : Range) → length ts ≤ x .holders → ((v : ℕ) → v < x .holders → (x′ .held v ≡ x .held v) ⊎ ((x′ .held v ≡ absent) ⊎ (x .clock ≤ x′ .held v)))
+      → ρ .high ≤ x .clock → Asked x ts ρ → Asked x′ ts ρ
+  asked ts ρ b f g a v z =
+      ⊎-elim
+      (λ e. ⊎-elim (λ u. inl (e ∙ u)) (⊎-elim (λ u. inr (inl (subst (λ (q : ℕ). 0 < occurrences q ts) (sym e) u))) (λ u. inr (inr (omega (arith, e, u))))) (a v z))
+      (⊎-elim inl (λ u. inr (inr (omega (arith, u)))))
+      (f v (omega arith))
+
+  pub spared : (ρ : Range) → x′ .holders ≡ x .holders → ((v : ℕ) → v < x .holders → (x′ .held v ≡ x .held v) ⊎ ((x′ .held v ≡ absent) ⊎ (x .clock ≤ x′ .held v)))
+      → ρ .high ≤ x .clock → Spared x ρ → Spared x′ ρ
+  spared ρ n f g a v z i j k =
+      ⊎-elim
+      (λ e. a v (omega (arith, n)) (omega (arith, e)) (omega (arith, e)) (omega (arith, e)))
+      (⊎-elim (λ u. omega (arith, u)) (λ u. omega (arith, u)))
+      (f v (omega (arith, n)))
+
+  settled : x .clock ≤ x′ .clock → (t : ℕ) → Settled x t → Settled x′ t
+  settled u t = ⊎-elim inl (λ z. inr (omega arith))
+
+  pub doing-map : (p p′ : Plain) (w t : ℕ) → p′ .copy w ≡ p .copy w → (d : Doing) → Moves x x′ t d → PlaceHolds x p w t d → PlaceHolds x′ p′ w t d
+  unfolding cnt
+  doing-map p p′ w t e Idle m a = settled (m .tick) t a
+  doing-map p p′ w t e (PutPublish r y) m a = (m .reg r (a .0), settled (m .tick) t (a .1))
+  doing-map p p′ w t e (PutStamp r c) m a = (m .reg r (a .0), settled (m .tick) t (a .1), m .mem r c (a .0) (omega (arith, hit-same c)) (a .2))
+  doing-map p p′ w t e (PutHandIn r c) m a =
+      (m .reg r (a .0), settled (m .tick) t (a .1), m .mem r c (a .0) (omega (arith, hit-same c)) (a .2), m .highs c (omega (arith, hit-same c)) (a .3))
+  doing-map p p′ w t e FlushTake m a = settled (m .tick) t a
+  doing-map p p′ w t e (FlushRead l ts) m a = (
+    settled (m .tick) t (a .0),
+    All-cnt l (λ ρ z. m .good ρ z) (a .1),
+    omega (arith, m .nhd, a .2),
+    both l (a .1) (a .3),
+  )
+    where
+      both : (q : List Range) → All (Good x) q → All (Asked x ts) q → All (Asked x′ ts) q
+      both [] g k = tt
+      both (ρ ∷ q) g k = (asked ts ρ (a .2) (m .times′) (g .0 .2) (k .0), both q (g .1) (k .1))
+  doing-map p p′ w t e (FlushFree l) m a = (settled (m .tick) t (a .0), All-cnt l (λ ρ z. m .good ρ z) (a .1), both l (a .1) (a .2))
+    where
+      both : (q : List Range) → All (Good x) q → All (Spared x) q → All (Spared x′) q
+      both [] g k = tt
+      both (ρ ∷ q) g k = (spared ρ (m .nhd) (m .times′) (g .0 .2) (k .0), both q (g .1) (k .1))
+  doing-map p p′ w t e OpenAnnounce m a = a
+  doing-map p p′ w t e OpenPass m a = (omega (arith, m .tick, a .0), a .1)
+  doing-map p p′ w t e (ReadEnter r) m a = (m .reg r (a .0), omega (arith, m .tick, a .1))
+  doing-map p p′ w t e (ReadStand r c) m a =
+      (m .reg r (a .0), omega (arith, m .tick, a .1), (a .2 .0, e ∙ a .2 .1, m .on r c (a .2 .0 r) (a .0) (a .1) refl (a .2 .2)))
+  doing-map p p′ w t e CloseWithdraw m a = omega (arith, m .tick)
+  doing-map p p′ w t e (GetShow r) m a = (m .reg r (a .0), settled (m .tick) t (a .1))
+
+  -- a put that is not yet stamped stays so, and one that is stays so
+  abbrev pub Covers : ℕ → ℕ → Type 0
+  Covers r c =
+      ((nth (x .slots) c .high ≡ absent → (nth (x′ .slots) c .high ≡ absent) × (nth (x′ .slots) (top x′ r) .value ≡ nth (x .slots) (top x r) .value))
+      × (nth (x .slots) c .high ≤ x .clock → nth (x′ .slots) c .high ≤ x′ .clock))
+
+  pub fits-map : x′ .clock ≡ x .clock → (t : ℕ) (c : Operation) (n n′ : ℕ) → n′ ≡ n → (d : Doing) → ((r e : ℕ) → d ≡ PutStamp r e → Covers r e) → Fits x t c d n → Fits x′ t c d n′
+  fits-map k t c n n′ q Idle v a = a
+  fits-map k t c n n′ q (PutPublish r y) v a = (a .0, q ∙ a .1)
+  fits-map k t c n n′ q (PutStamp r e) v a =
+      let u = v r e refl in
+      (a .0, a .1, ⊎-elim (λ z. inl (u .0 (z .0) .0, q ∙ z .1, u .0 (z .0) .1 ∙ z .2)) (λ z. inr (u .1 (z .0), q ∙ z .1)) (a .2))
+  fits-map k t c n n′ q (PutHandIn r e) v a = (a .0, q ∙ a .1)
+  fits-map k t c n n′ q FlushTake v a = ⊎-elim (λ z. inl (z .0, q ∙ z .1)) (λ z. inr (z .0, q ∙ z .1)) a
+  fits-map k t c n n′ q (FlushRead m ts) v a = ⊎-elim (λ z. inl (z .0, q ∙ z .1)) (λ z. inr (z .0, q ∙ z .1)) a
+  fits-map k t c n n′ q (FlushFree m) v a = ⊎-elim (λ z. inl (z .0, q ∙ z .1)) (λ z. inr (z .0, q ∙ z .1)) a
+  fits-map k t c n n′ q OpenAnnounce v a = (a .0, q ∙ a .1)
+  fits-map k t c n n′ q OpenPass v a = (a .0, ⊎-elim (λ z. inl (z .0 ∙ sym k, q ∙ z .1)) (λ z. inr (omega (arith, k, z .0), q ∙ z .1)) (a .1))
+  fits-map k t c n n′ q (ReadEnter r) v a = (a .0, q ∙ a .1)
+  fits-map k t c n n′ q (ReadStand r e) v a = (a .0, q ∙ a .1)
+  fits-map k t c n n′ q CloseWithdraw v a = (a .0, q ∙ a .1)
+  fits-map k t c n n′ q (GetShow r) v a = (a .0, q ∙ a .1)
+
+-- Current, by the operation that is open, if any
+pub current-map : (x x′ : Ctx) (h h′ : List Call) (o o′ : List ℕ) (w t t′ : ℕ) (d : Doing)
+    → (NoneRunning h w → NoneRunning h′ w)
+    → ((k : ℕ) → Running h w k → Fits x t (callAt h k .operation) d (occurrences k o) → Running h′ w k × Fits x′ t′ (callAt h′ k .operation) d (occurrences k o′))
+    → Current x h o w t d → Current x′ h′ o′ w t′ d
+current-map x x′ h h′ o o′ w t t′ Idle f g a = f a
+current-map x x′ h h′ o o′ w t t′ (PutPublish r y) f g a = let b = g (a .0) (a .1) (a .2) in (a .0, b .0, b .1)
+current-map x x′ h h′ o o′ w t t′ (PutStamp r c) f g a = let b = g (a .0) (a .1) (a .2) in (a .0, b .0, b .1)
+current-map x x′ h h′ o o′ w t t′ (PutHandIn r c) f g a = let b = g (a .0) (a .1) (a .2) in (a .0, b .0, b .1)
+current-map x x′ h h′ o o′ w t t′ FlushTake f g a = let b = g (a .0) (a .1) (a .2) in (a .0, b .0, b .1)
+current-map x x′ h h′ o o′ w t t′ (FlushRead m ts) f g a = let b = g (a .0) (a .1) (a .2) in (a .0, b .0, b .1)
+current-map x x′ h h′ o o′ w t t′ (FlushFree m) f g a = let b = g (a .0) (a .1) (a .2) in (a .0, b .0, b .1)
+current-map x x′ h h′ o o′ w t t′ OpenAnnounce f g a = let b = g (a .0) (a .1) (a .2) in (a .0, b .0, b .1)
+current-map x x′ h h′ o o′ w t t′ OpenPass f g a = let b = g (a .0) (a .1) (a .2) in (a .0, b .0, b .1)
+current-map x x′ h h′ o o′ w t t′ (ReadEnter r) f g a = let b = g (a .0) (a .1) (a .2) in (a .0, b .0, b .1)
+current-map x x′ h h′ o o′ w t t′ (ReadStand r c) f g a = let b = g (a .0) (a .1) (a .2) in (a .0, b .0, b .1)
+current-map x x′ h h′ o o′ w t t′ CloseWithdraw f g a = let b = g (a .0) (a .1) (a .2) in (a .0, b .0, b .1)
+current-map x x′ h h′ o o′ w t t′ (GetShow r) f g a = let b = g (a .0) (a .1) (a .2) in (a .0, b .0, b .1)
+
+-- a register's versions, untouched
+pub Fine-same : (s s′ : List Slot) (t : ℕ) (x x′ : Reading) (l : List ℕ) → x′ ≡ x
+    → ((c : ℕ) → 0 < occurrences c l → (nth s′ c .low ≡ nth s c .low) × (nth s′ c .high ≡ nth s c .high) × (nth s′ c .value ≡ nth s c .value))
+    → Fine s t x l → Fine s′ t x′ l
+unfolding occurrences
+Fine-same s s′ t x x′ [] q f a = a
+Fine-same s s′ t x x′ (c ∷ l) q f a =
+    let e = f c (omega (arith, hit-same c)) in (
+      e .1 ∙ a .0,
+      ⊎-elim
+          (λ u. inl (omega (arith, e .0, u .0), e .2 ∙ u .1 ∙ sym q, past l (λ d z. f d (omega (arith, z))) (u .2)))
+          (λ u. inr (e .0 ∙ u .0, next l (λ d z. f d (omega (arith, z))) (u .1)))
+          (a .1),
+    )
+  where
+    past : (m : List ℕ) → ((d : ℕ) → 0 < occurrences d m → (nth s′ d .low ≡ nth s d .low) × (nth s′ d .high ≡ nth s d .high) × (nth s′ d .value ≡ nth s d .value)) → All (Past s t) m → All (Past s′ t) m
+    past [] g z = tt
+    past (d ∷ m) g z =
+        let e = g d (omega (arith, hit-same d)) in
+        ((omega (arith, e .0, z .0 .0), omega (arith, e .1, z .0 .1)), past m (λ i y. g i (omega (arith, y))) (z .1))
+
+    next : (m : List ℕ) → ((d : ℕ) → 0 < occurrences d m → (nth s′ d .low ≡ nth s d .low) × (nth s′ d .high ≡ nth s d .high) × (nth s′ d .value ≡ nth s d .value)) → Next s t x m → Next s′ t x′ m
+    next [] g z = z
+    next (d ∷ m) g z =
+        let e = g d (omega (arith, hit-same d)) in
+        (omega (arith, e .0, z .0), e .1 ∙ z .1, e .2 ∙ z .2 ∙ sym q, past m (λ i y. g i (omega (arith, y))) (z .3))

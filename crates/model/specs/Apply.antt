@@ -1,0 +1,163 @@
+-- One record applied to the hub: setup, the begin of an operation, a step, and the refusals in their order
+-- (document 01, "Refused by the record" and "Refused by the state"): 6, 1, 2, 8 or 9, 5, 3, 4, then 10 or 11, then 12 or 13.
+use mathlib.Core.Bool.{Bool, true, false, cond, not, _&&_}
+use mathlib.Core.List.{List, [], _∷_}
+use Prim.Native.Nat.{ℕ, zero, suc, _-_}
+use lib.Dec.{ltb, leb}
+use lib.ListN.{length, take, replicate}
+use Rattle.model.specs.Store.{absent, lastClock, reading₀, Slot, Doing, Idle, PutPublish, PutStamp, PutHandIn, FlushTake, FlushRead, FlushFree, OpenAnnounce, OpenPass, ReadEnter, ReadStand, CloseWithdraw, GetShow, startWorker, Store, Hub, blank, up, upFrom, workerAt, place}
+use Rattle.model.specs.Answer.{Answer, Ok, No, Stepped, Applied}
+use Rattle.model.specs.Versions.{alone}
+use Rattle.model.specs.Steps.{stepAt}
+use Rattle.model.specs.Record.{Operation, Put, Open, Read, Close, Get, Collect, Sizes, Command, SetUp, Begin, Step, Decoded, Asks, Refuses, decode}
+
+-- "Each gives its number and leaves the store untouched."
+abbrev pub refuse : Hub → ℕ → Applied
+refuse h k = record { hub = h; answer = No k }
+
+-- refusal k where the test fails, else what follows
+abbrev pub unless : Bool → Hub → ℕ → Applied → Applied
+unless test h k next = cond test next (refuse h k)
+
+------------------------------------------------------------------------
+-- Setup
+
+-- 5: "P workers (1 to 16), V registers (1 to 256), N slots (V to 2048), a 32-bit clock", "starting clock, at least 1"
+unfoldable pub inRanges : Sizes → Bool
+inRanges z =
+    (leb 1 (z .P) && leb (z .P) 16)
+    && (leb 1 (z .V') && leb (z .V') 256)
+    && (leb (z .V') (z .N) && leb (z .N) 2048)
+    && (leb 1 (z .clock) && leb (z .clock) lastClock)
+
+-- the first v slots of a row each with the one version of its register, "value 0, low 0, high open"; the others are free and have no
+-- neighbours, and their value, low and high stay
+unfoldable pub firstSlots : ℕ → List Slot → List Slot
+firstSlots v [] = []
+firstSlots zero (z ∷ l) = alone z ∷ firstSlots zero l
+firstSlots (suc v) (z ∷ l) =
+    record { value = reading₀; low = 0; high = absent; older = absent; newer = absent } ∷ firstSlots v l
+
+-- "At setup, whatever the lent memory held, every worker has its starting record, the queue is empty, and register r has the one
+-- version in slot r. Slots V to N−1 are free, V taken first, then V+1 and so on."
+unfoldable pub fresh : Sizes → List Slot → Store
+fresh z row =
+    record {
+      P = z .P;
+      V' = z .V';
+      N = z .N;
+      clock = z .clock;
+      slots = firstSlots (z .V') (take (z .N) row);
+      newest = upFrom 0 (z .V');
+      free = upFrom (z .V') (z .N - z .V');
+      queue = [];
+      workers = replicate (z .P) startWorker;
+    }
+
+-- 9 setup when set up; 5 setup outside the ranges, or "a row too short for its N"
+unfoldable pub setUp : Hub → Sizes → Applied
+setUp (up s) z = refuse (up s) 9
+setUp (blank row) z =
+    let y : Applied = record { hub = up (fresh z row); answer = Ok } in
+    unless (inRanges z && leb (z .N) (length row)) (blank row) 5 y
+
+------------------------------------------------------------------------
+-- The begin of an operation
+
+-- 4: the register that the operation names, if any, is below v
+unfoldable pub registerBelow : ℕ → Operation → Bool
+registerBelow v (Put r x) = ltb r v
+registerBelow v Open = true
+registerBelow v (Read r) = ltb r v
+registerBelow v Close = true
+registerBelow v (Get r) = ltb r v
+registerBelow v Collect = true
+
+-- 10 and 11: the worker does nothing
+unfoldable pub isIdle : Doing → Bool
+isIdle Idle = true
+isIdle (PutPublish r x) = false
+isIdle (PutStamp r c) = false
+isIdle (PutHandIn r c) = false
+isIdle FlushTake = false
+isIdle (FlushRead m ts) = false
+isIdle (FlushFree m) = false
+isIdle OpenAnnounce = false
+isIdle OpenPass = false
+isIdle (ReadEnter r) = false
+isIdle (ReadStand r c) = false
+isIdle CloseWithdraw = false
+isIdle (GetShow r) = false
+
+-- 12: only an open asks that no time is announced. `has`: a time is announced
+unfoldable pub mayOpen : Operation → Bool → Bool
+mayOpen (Put r x) has = true
+mayOpen Open has = not has
+mayOpen (Read r) has = true
+mayOpen Close has = true
+mayOpen (Get r) has = true
+mayOpen Collect has = true
+
+-- 13: only a read and a close ask that a time is announced
+unfoldable pub mayUseTime : Operation → Bool → Bool
+mayUseTime (Put r x) has = true
+mayUseTime Open has = true
+mayUseTime (Read r) has = has
+mayUseTime Close has = has
+mayUseTime (Get r) has = true
+mayUseTime Collect has = true
+
+-- the place at which an operation begins; "Collect. A flush, however full the local pool."
+unfoldable pub firstPlace : Operation → Doing
+firstPlace (Put r x) = PutPublish r x
+firstPlace Open = OpenAnnounce
+firstPlace (Read r) = ReadEnter r
+firstPlace Close = CloseWithdraw
+firstPlace (Get r) = GetShow r
+firstPlace Collect = FlushTake
+
+-- 3 worker not below P; 4; 10; 12; 13; else begun
+unfoldable pub begin : Store → ℕ → Operation → Applied
+begin s w o =
+    let has = ltb (workerAt s w .announced) absent in
+    let begun : Applied = record { hub = up (place s w (firstPlace o)); answer = Ok } in
+    unless (ltb w (s .P)) (up s) 3
+    (unless (registerBelow (s .V') o) (up s) 4
+    (unless (isIdle (workerAt s w .doing)) (up s) 10
+    (unless (mayOpen o has) (up s) 12
+    (unless (mayUseTime o has) (up s) 13 begun))))
+
+------------------------------------------------------------------------
+-- A step
+
+-- 3 worker not below P; else the worker's step, which is 11 where it is idle
+unfoldable pub step : (ℕ → ℕ) → Store → ℕ → Applied
+step batch s w =
+    let x = stepAt batch s w (workerAt s w .doing) in
+    unless (ltb w (s .P)) (up s) 3 (record { hub = up (x .store); answer = x .answer })
+
+------------------------------------------------------------------------
+-- One record
+
+-- 8 not set up
+unfoldable pub obey : (ℕ → ℕ) → Hub → Command → Applied
+obey batch h (SetUp z) = setUp h z
+obey batch (blank row) (Begin w o) = refuse (blank row) 8
+obey batch (up s) (Begin w o) = begin s w o
+obey batch (blank row) (Step w) = refuse (blank row) 8
+obey batch (up s) (Step w) = step batch s w
+
+unfoldable pub applyDecoded : (ℕ → ℕ) → Hub → Decoded → Applied
+applyDecoded batch h (Asks c) = obey batch h c
+applyDecoded batch h (Refuses k) = refuse h k
+
+-- One record, any bytes, any length, applied to the hub.
+unfoldable pub apply : (ℕ → ℕ) → Hub → List ℕ → Applied
+apply batch h b = applyDecoded batch h (decode b)
+
+-- the answers to a list of records, each meeting the hub as the last one left it
+unfoldable pub answersTo : (ℕ → ℕ) → Hub → List (List ℕ) → List Answer
+answersTo batch h [] = []
+answersTo batch h (b ∷ bs) =
+    let a = apply batch h b in
+    a .answer ∷ answersTo batch (a .hub) bs

@@ -1,0 +1,18 @@
+-- B, the batch size (document 01's term): "the number of workers times its base-2 logarithm rounded up, and 1 for one worker".
+-- Everything else takes the batch size as a parameter, a function of the number of workers.
+use mathlib.Core.Bool.{Bool, true, false, cond}
+use Prim.Native.Nat.{ℕ, zero, suc, _*_, _^_}
+use lib.Dec.{leb}
+
+-- the least k from k₀ on with p ≤ 2 ^ k, among so many as the first argument says
+unfoldable pub leastFrom : ℕ → ℕ → ℕ → ℕ
+leastFrom zero p k₀ = k₀
+leastFrom (suc f) p k₀ = cond (leb p (2 ^ k₀)) k₀ (leastFrom f p (suc k₀))
+
+-- the base-2 logarithm of p, rounded up
+unfoldable pub logUp : ℕ → ℕ
+logUp p = leastFrom p p 0
+
+-- no worker counts as one worker; a hub has at least one
+unfoldable pub batchOf : ℕ → ℕ
+batchOf p = cond (leb p 1) 1 (p * logUp p)

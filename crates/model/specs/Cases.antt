@@ -1,0 +1,154 @@
+-- The starred cases of document 01 ("Cases"), in one table, and its log example. They are proved in proofs/Cases.antt.
+use mathlib.Core.Path.{_≡_}
+use mathlib.Core.Bool.{Bool, true, false}
+use mathlib.Core.List.{List, [], _∷_, _++_, map}
+use Prim.Native.Nat.{ℕ}
+use lib.ListN.{length, replicate, getD}
+use Rattle.model.specs.Store.{absent, Range, Slot, slot₀, FlushRead, startWorker, Store, Hub, blank, up}
+use Rattle.model.specs.Batch.{batchOf}
+use Rattle.model.specs.Answer.{Answer, Ok, Going, Freed, At, Value, Done, No, Applied}
+use Rattle.model.specs.Ranges.{needed, merge}
+use Rattle.model.specs.Steps.{flushSplit}
+use Rattle.model.specs.Record.{Operation, Put, Open, Read, Close, Get, Collect, Sizes, Command, SetUp, Begin, Step}
+use Rattle.model.specs.Apply.{apply, answersTo}
+use Rattle.model.specs.Row.{bytesOf}
+use Rattle.model.specs.Log.{text, logOf}
+
+------------------------------------------------------------------------
+-- The records of commands
+
+unfoldable pub recordOf : Command → List ℕ
+recordOf (SetUp z) =
+    0 ∷ bytesOf 1 (z .P) ++ bytesOf 2 (z .V') ++ bytesOf 2 (z .N) ++ replicate 2 0 ++ bytesOf 4 (z .clock) ++ replicate 4 0
+recordOf (Begin w (Put r x)) = 1 ∷ w ∷ bytesOf 2 r ++ replicate 4 0 ++ bytesOf 8 (x .count)
+recordOf (Begin w Open) = 2 ∷ w ∷ replicate 14 0
+recordOf (Begin w (Read r)) = 3 ∷ w ∷ bytesOf 2 r ++ replicate 12 0
+recordOf (Begin w Close) = 4 ∷ w ∷ replicate 14 0
+recordOf (Begin w (Get r)) = 5 ∷ w ∷ bytesOf 2 r ++ replicate 12 0
+recordOf (Begin w Collect) = 6 ∷ w ∷ replicate 14 0
+recordOf (Step w) = 7 ∷ w ∷ replicate 14 0
+
+abbrev pub setup : ℕ → ℕ → ℕ → ℕ → Command
+setup p v n t = SetUp (record { P = p; V' = v; N = n; clock = t })
+
+abbrev pub put : ℕ → ℕ → ℕ → Command
+put w r x = Begin w (Put r (record { count = x }))
+
+-- a hub that is not set up, with a row of so many slots
+abbrev pub rowOf : ℕ → Hub
+rowOf n = blank (replicate n slot₀)
+
+-- the answers to a list of commands
+abbrev pub answers : ℕ → List Command → List Answer
+answers n l = answersTo batchOf (rowOf n) (map recordOf l)
+
+------------------------------------------------------------------------
+-- What a list of commands leaves
+
+unfoldable pub hubAfter : Hub → List Command → Hub
+hubAfter h [] = h
+hubAfter h (c ∷ l) = hubAfter (apply batchOf h (recordOf c) .hub) l
+
+unfoldable pub clockOf : Hub → ℕ
+clockOf (blank row) = 0
+clockOf (up s) = s .clock
+
+unfoldable pub slotsOf : Hub → List Slot
+slotsOf (blank row) = row
+slotsOf (up s) = s .slots
+
+------------------------------------------------------------------------
+-- Ranges
+
+abbrev pub range : ℕ → ℕ → ℕ → Range
+range c l h = record { slot = c; low = l; high = h }
+
+-- the ranges 3 to 5, 5 to 5, 5 to 6 and 2 to 9
+abbrev pub fourRanges : List Range
+fourRanges = range 0 3 5 ∷ range 1 5 5 ∷ range 2 5 6 ∷ range 3 2 9 ∷ []
+
+-- a hub of two workers, so B is 2: the queue is empty, worker 1 has announced 1, and worker 0 has one range in its local pool
+abbrev pub splitting : Store
+splitting =
+    record {
+      P = 2;
+      V' = 1;
+      N = 9;
+      clock = 4;
+      slots = replicate 9 slot₀;
+      newest = 0 ∷ [];
+      free = [];
+      queue = [];
+      workers =
+          record { doing = FlushRead [] []; announced = absent; pool = range 8 0 3 ∷ [] }
+          ∷ record { doing = startWorker .doing; announced = 1; pool = [] }
+          ∷ [];
+    }
+
+-- the lengths of the pools on its queue after worker 0 split so many ranges that the time 1 needs; its local pool is in the last
+abbrev pub poolsAfter : ℕ → List ℕ
+poolsAfter n = map length (flushSplit batchOf splitting 0 (replicate n (range 0 1 2)) (absent ∷ 1 ∷ []) .store .queue)
+
+------------------------------------------------------------------------
+-- The table
+
+-- two workers announce at 5, both finish
+abbrev pub bothOpen : List Command
+bothOpen = setup 2 1 1 5 ∷ Begin 0 Open ∷ Begin 1 Open ∷ Step 0 ∷ Step 1 ∷ Step 0 ∷ Step 1 ∷ []
+
+-- a put of 7 published at clock 5, unstamped; an open passes the clock to 6; that snapshot reads
+abbrev pub unstampedPut : List Command
+unstampedPut =
+    setup 2 1 2 5 ∷ put 0 0 7 ∷ Step 0 ∷ Begin 1 Open ∷ Step 1 ∷ Step 1 ∷ Begin 1 (Read 0) ∷ Step 1 ∷ Step 1 ∷ Step 1 ∷ []
+
+pub record Stars : Type 0 where
+  -- "P 17 gives 5, P 16 is set up (V 1, N 1, clock 1). V 2 with N 1 gives 5."
+  pub workers-17 : answers 1 (setup 17 1 1 1 ∷ []) ≡ No 5 ∷ []
+  pub workers-16 : answers 1 (setup 16 1 1 1 ∷ []) ≡ Ok ∷ []
+  pub few-slots : answers 2 (setup 1 2 1 1 ∷ []) ≡ No 5 ∷ []
+  -- "B for 1, 2, 3, 4, 5, 8, 9, 16 workers: 1, 2, 6, 8, 15, 24, 36, 64."
+  pub batches : map batchOf (1 ∷ 2 ∷ 3 ∷ 4 ∷ 5 ∷ 8 ∷ 9 ∷ 16 ∷ []) ≡ 1 ∷ 2 ∷ 6 ∷ 8 ∷ 15 ∷ 24 ∷ 36 ∷ 64 ∷ []
+  -- "Announced 5: ranges 3 to 5 and 5 to 5 needless; 5 to 6 and 2 to 9 needed. None announced: all needless."
+  pub announced-5 : map (needed (absent ∷ 5 ∷ [])) fourRanges ≡ false ∷ false ∷ true ∷ true ∷ []
+  pub none-announced : map (needed (absent ∷ absent ∷ [])) fourRanges ≡ false ∷ false ∷ false ∷ false ∷ []
+  -- "Highs 4, 7 merged with 4, 6: first 4, second 4, 6, 7."
+  pub merged : merge (range 1 0 4 ∷ range 2 0 7 ∷ []) (range 3 0 4 ∷ range 4 0 6 ∷ [])
+      ≡ range 1 0 4 ∷ range 3 0 4 ∷ range 4 0 6 ∷ range 2 0 7 ∷ []
+  -- "B 2: five needed give pools of 3 and 2; four give one of 4; two join the local pool."
+  pub five-needed : poolsAfter 5 ≡ 3 ∷ 2 ∷ 1 ∷ []
+  pub four-needed : poolsAfter 4 ≡ 4 ∷ 1 ∷ []
+  pub two-needed : poolsAfter 2 ≡ 3 ∷ []
+  -- "Clock 4294967294: an open answers it; the next gives 15."
+  pub last-clock : answers 1 (setup 2 1 1 4294967294 ∷ Begin 0 Open ∷ Step 0 ∷ Step 0 ∷ Begin 1 Open ∷ Step 1 ∷ [])
+      ≡ Ok ∷ Ok ∷ Going ∷ At 4294967294 ∷ Ok ∷ No 15 ∷ []
+  -- "Two workers announce at 5, both finish: both `at 5`, clock 6."
+  pub both-at-5 : answers 1 bothOpen ≡ Ok ∷ Ok ∷ Ok ∷ Going ∷ Going ∷ At 5 ∷ At 5 ∷ []
+  pub clock-6 : clockOf (hubAfter (rowOf 1) bothOpen) ≡ 6
+  -- "A put published at clock 5, unstamped; clock 6; a snapshot at 5 reads: low becomes 6, the older value is shown."
+  pub older-shown : answers 2 unstampedPut ≡ Ok ∷ Ok ∷ Going ∷ Ok ∷ Going ∷ At 5 ∷ Ok ∷ Going ∷ Going ∷ Value (record { count = 0 }) ∷ []
+  pub low-6 : getD (slotsOf (hubAfter (rowOf 2) unstampedPut)) 1 slot₀ .low ≡ 6
+
+------------------------------------------------------------------------
+-- The log example
+
+-- "With setup P 1, V 1, N 2, clock 1; put 7 on register 0; seven steps; put 9; one step; collect; five steps, it prints"
+abbrev pub exampleCommands : List Command
+exampleCommands =
+    (setup 1 1 2 1 ∷ put 0 0 7 ∷ replicate 7 (Step 0)) ++ (put 0 0 9 ∷ Step 0 ∷ Begin 0 Collect ∷ replicate 5 (Step 0))
+
+-- one list after the other
+unfoldable pub joined : List (List ℕ) → List ℕ
+joined [] = []
+joined (l ∷ ls) = l ++ joined ls
+
+abbrev pub exampleFile : List ℕ
+exampleFile = joined (map recordOf exampleCommands)
+
+abbrev pub exampleText : List ℕ
+exampleText =
+    text
+    "0 ok\n1 ok\n2 going\n3 going\n4 going\n5 going\n6 going\n7 going\n8 done\n9 ok\n10 no 14\n11 ok\n12 going\n13 going\n14 going\n15 freed 0\n16 done\n"
+
+-- over a row of two slots, the least that its setup needs
+abbrev pub Example : Type 0
+Example = logOf batchOf (replicate 2 slot₀) exampleFile ≡ exampleText

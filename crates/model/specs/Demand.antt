@@ -1,0 +1,384 @@
+-- Demand 3 (document 01, "The order in demand 3"), as one statement about a whole list of records. Proved in proofs/Main.antt.
+--
+-- A list of records after an accepted setup gives events. From the records and the answers alone come the operations (calls) with
+-- their begins and ends. The order of the calls is a definition: the effects in the order in which they happen. The statement says that
+-- it is an order between begins and ends, that plain registers fed in that order show what every finished get and read answered,
+-- and that nothing needed is freed and nothing freed twice.
+--
+-- What rests on reading by eye: the model's `decode` (which bytes are the worker, the register and the value), and `slotAt`,
+-- `workerAt`, `newestOf`, which say where a store has its slots, workers and newest versions.
+use mathlib.Core.Path.{_≡_}
+use mathlib.Core.Bool.{Bool, true, false, cond, not, _&&_}
+use mathlib.Core.List.{List, [], _∷_, _++_, map}
+use mathlib.Core.Option.{Option, none, some}
+use Prim.Native.Nat.{ℕ, zero, suc, _+_, _≤_, _<_}
+use lib.Dec.{ltb, leb, eqb}
+use lib.ListN.{length, getD}
+use Rattle.model.specs.Store.{absent, Reading, Slot, Doing, Idle, PutPublish, PutStamp, PutHandIn, FlushTake, FlushRead, FlushFree, OpenAnnounce, OpenPass, ReadEnter, ReadStand, CloseWithdraw, GetShow, Store, Hub, blank, up, workerAt, slotAt, newestOf}
+use Rattle.model.specs.Answer.{Answer, Ok, Going, Freed, At, Value, Done, No}
+use Rattle.model.specs.Record.{Operation, Put, Open, Read, Close, Get, Collect, Command, SetUp, Begin, Step, Decoded, Asks, Refuses, decode}
+use Rattle.model.specs.Apply.{apply}
+
+------------------------------------------------------------------------
+-- "The list starts from the store that the accepted setup left. Each record is lent that memory as the last one left it."
+
+-- a record, the hub that it met, its answer, the hub that it left
+pub record Event : Type 0 where
+  pub bytes : List ℕ
+  pub before : Hub
+  pub answer : Answer
+  pub after : Hub
+
+-- the events of a list of records, of any bytes and any lengths, that starts with hub h
+unfoldable pub events : (ℕ → ℕ) → Hub → List (List ℕ) → List Event
+events batch h [] = []
+events batch h (b ∷ bs) =
+    let a = apply batch h b in
+    record { bytes = b; before = h; answer = a .answer; after = a .hub } ∷ events batch (a .hub) bs
+
+-- what is seen of an event from outside
+pub record Exchange : Type 0 where
+  pub bytes : List ℕ
+  pub answer : Answer
+
+abbrev pub exchange : Event → Exchange
+exchange e = record { bytes = e .bytes; answer = e .answer }
+
+------------------------------------------------------------------------
+-- "An operation begins at its record, 1 to 6, answered `ok`. It ends at the first step its worker then takes that is answered neither
+-- `going` nor `freed S`: with `no` there it is refused, else finished. Without such a step it is unfinished. A record refused on reading
+-- begins nothing and takes no step."
+
+pub data Ending : Type 0 where
+  Unfinished : Ending
+  -- at this record
+  RefusedAt : ℕ → Ending
+  -- at this record, with this answer
+  FinishedAt : ℕ → Answer → Ending
+
+-- an operation of the list: what its record asks for, its worker, the number of its record, its end
+pub record Call : Type 0 where
+  pub operation : Operation
+  pub worker : ℕ
+  pub begun : ℕ
+  pub ending : Ending
+
+unfoldable pub isOk : Answer → Bool
+isOk Ok = true
+isOk Going = false
+isOk (Freed c) = false
+isOk (At t) = false
+isOk (Value x) = false
+isOk Done = false
+isOk (No k) = false
+
+-- The answer to a step record ends the worker's operation. A refusal below 14 is given on reading: then no step is taken.
+unfoldable pub ends : Answer → Bool
+ends Ok = false
+ends Going = false
+ends (Freed c) = false
+ends (At t) = true
+ends (Value x) = true
+ends Done = true
+ends (No k) = leb 14 k
+
+-- the end, at record i with answer a
+unfoldable pub endAs : ℕ → Answer → Ending
+endAs i Ok = FinishedAt i Ok
+endAs i Going = FinishedAt i Going
+endAs i (Freed c) = FinishedAt i (Freed c)
+endAs i (At t) = FinishedAt i (At t)
+endAs i (Value x) = FinishedAt i (Value x)
+endAs i Done = FinishedAt i Done
+endAs i (No k) = RefusedAt i
+
+-- an end is the first one: what has ended stays so
+unfoldable pub endOnce : Ending → Ending → Ending
+endOnce Unfinished e = e
+endOnce (RefusedAt i) e = RefusedAt i
+endOnce (FinishedAt i a) e = FinishedAt i a
+
+-- a call, after a step of worker w at record i was answered a, which ends an operation
+unfoldable pub endFor : ℕ → ℕ → Answer → Call → Call
+endFor i w a c =
+    record {
+      operation = c .operation;
+      worker = c .worker;
+      begun = c .begun;
+      ending = cond (eqb (c .worker) w) (endOnce (c .ending) (endAs i a)) (c .ending);
+    }
+
+-- the calls so far, after record i, which reads as given and was answered a
+unfoldable pub observe : ℕ → Decoded → Answer → List Call → List Call
+observe i (Asks (SetUp z)) a l = l
+observe i (Asks (Begin w o)) a l =
+    cond (isOk a) (l ++ (record { operation = o; worker = w; begun = i; ending = Unfinished } ∷ [])) l
+observe i (Asks (Step w)) a l = cond (ends a) (map (endFor i w a) l) l
+observe i (Refuses k) a l = l
+
+-- The calls of a list of exchanges, the first of which has number i, after the calls given. Numbers count from the record after the setup.
+unfoldable pub history : ℕ → List Exchange → List Call → List Call
+history i [] l = l
+history i (e ∷ es) l = history (i + 1) es (observe i (decode (e .bytes)) (e .answer) l)
+
+------------------------------------------------------------------------
+-- "Plain registers are V values, 0 at first, and for each worker one copy of them all or none, none at first."
+
+pub record Plain : Type 0 where
+  pub registers : ℕ → Reading
+  pub copy : ℕ → Option (ℕ → Reading)
+
+abbrev pub plain₀ : Plain
+plain₀ = record { registers = λ r. record { count = 0 }; copy = λ w. none }
+
+-- f with x at i
+abbrev pub update {ℓ} : {A : Type ℓ} → (ℕ → A) → ℕ → A → ℕ → A
+update f i x j = cond (eqb j i) x (f j)
+
+-- "A put sets its register to its value. An open makes its worker's copy anew from the registers. A close drops its worker's copy. A
+-- collect changes nothing." Nor do a read and a get.
+unfoldable pub feed : Plain → ℕ → Operation → Plain
+feed p w (Put r x) = record { registers = update (p .registers) r x; copy = p .copy }
+feed p w Open = record { registers = p .registers; copy = update (p .copy) w (some (p .registers)) }
+feed p w (Read r) = p
+feed p w Close = record { registers = p .registers; copy = update (p .copy) w none }
+feed p w (Get r) = p
+feed p w Collect = p
+
+-- register r of a worker's copy
+unfoldable pub inCopy : Option (ℕ → Reading) → ℕ → Option Reading
+inCopy none r = none
+inCopy (some f) r = some (f r)
+
+-- "A read shows its register in its worker's copy, and nothing without a copy. A get shows its register."
+unfoldable pub shows : Plain → ℕ → Operation → Option Reading
+shows p w (Put r x) = none
+shows p w Open = none
+shows p w (Read r) = inCopy (p .copy w) r
+shows p w Close = none
+shows p w (Get r) = some (p .registers r)
+shows p w Collect = none
+
+------------------------------------------------------------------------
+-- The order: a list of places in the history, by the calls' effects along the list of records. "Effect in the order: a put at the
+-- stamping of its version, an open when the clock passes its time, a get at its step and after a put stamped in it, a read, close or
+-- collect at its end."
+
+-- what stands where a history has no call
+abbrev pub call₀ : Call
+call₀ = record { operation = Collect; worker = 0; begun = 0; ending = Unfinished }
+
+abbrev pub callAt : List Call → ℕ → Call
+callAt h i = getD h i call₀
+
+unfoldable pub isUnfinished : Ending → Bool
+isUnfinished Unfinished = true
+isUnfinished (RefusedAt i) = false
+isUnfinished (FinishedAt i a) = false
+
+-- the place of the call that worker w is performing; the history's length if there is none
+unfoldable pub runningOf : List Call → ℕ → ℕ
+runningOf [] w = 0
+runningOf (c ∷ h) w = cond (eqb (c .worker) w && isUnfinished (c .ending)) 0 (suc (runningOf h w))
+
+-- As store s became store t, the version that covers the one in slot c was stamped: its low was set, and with it the high of the version
+-- in c. (Only the stamp of the version directly above it sets a high.)
+abbrev pub stampedOver : Store → Store → ℕ → Bool
+stampedOver s t c = eqb (slotAt s c .high) absent && not (eqb (slotAt t c .high) absent)
+
+-- as store s became store t, the clock passed the time a
+abbrev pub passed : Store → Store → ℕ → Bool
+passed s t a = leb (s .clock) a && ltb a (t .clock)
+
+-- Of a worker's place and announced time: its put is stamped, or its open's time is passed. A put whose version is unstamped is at its
+-- second step, an open whose time is not passed too.
+unfoldable pub takesEffect : (ℕ → Bool) → (ℕ → Bool) → ℕ → Doing → Bool
+takesEffect stamped pass a Idle = false
+takesEffect stamped pass a (PutPublish r x) = false
+takesEffect stamped pass a (PutStamp r c) = stamped c
+takesEffect stamped pass a (PutHandIn r c) = false
+takesEffect stamped pass a FlushTake = false
+takesEffect stamped pass a (FlushRead m ts) = false
+takesEffect stamped pass a (FlushFree m) = false
+takesEffect stamped pass a OpenAnnounce = false
+takesEffect stamped pass a OpenPass = pass a
+takesEffect stamped pass a (ReadEnter r) = false
+takesEffect stamped pass a (ReadStand r c) = false
+takesEffect stamped pass a CloseWithdraw = false
+takesEffect stamped pass a (GetShow r) = false
+
+-- the numbers below n that pass a test, lowest first
+unfoldable pub filterBelow : (ℕ → Bool) → ℕ → List ℕ
+filterBelow q zero = []
+filterBelow q (suc n) = filterBelow q n ++ cond (q n) (n ∷ []) []
+
+-- The puts and opens that take effect as store s becomes store t, whichever worker steps. Of several opens that one step passes the lowest
+-- worker's comes first; document 01 leaves this open, and their copies are equal.
+abbrev pub changeEffects : List Call → Store → Store → List ℕ
+changeEffects h s t =
+    map (runningOf h)
+    (filterBelow (λ v. takesEffect (stampedOver s t) (passed s t) (workerAt s v .announced) (workerAt s v .doing)) (s .P))
+
+-- these take effect at their end
+unfoldable pub atEnd : Operation → Bool
+atEnd (Put r x) = false
+atEnd Open = false
+atEnd (Read r) = true
+atEnd Close = true
+atEnd (Get r) = true
+atEnd Collect = true
+
+-- the answer finishes an operation
+unfoldable pub finishes : Answer → Bool
+finishes Ok = false
+finishes Going = false
+finishes (Freed c) = false
+finishes (At t) = true
+finishes (Value x) = true
+finishes Done = true
+finishes (No k) = false
+
+-- the call of worker w that a step answered a finishes, where it takes effect at its end
+unfoldable pub endEffects : List Call → ℕ → Answer → List ℕ
+endEffects h w a = cond (finishes a && atEnd (callAt h (runningOf h w) .operation)) (runningOf h w ∷ []) []
+
+-- the effects of a step of worker w
+unfoldable pub stepEffects : List Call → ℕ → Hub → Answer → Hub → List ℕ
+stepEffects h w (blank row) a after = []
+stepEffects h w (up s) a (blank row) = []
+stepEffects h w (up s) a (up t) = changeEffects h s t ++ endEffects h w a
+
+-- the effects of a record, which finds the calls h: only a step has any
+unfoldable pub effects : List Call → Decoded → Hub → Answer → Hub → List ℕ
+effects h (Asks (SetUp z)) before a after = []
+effects h (Asks (Begin w o)) before a after = []
+effects h (Asks (Step w)) before a after = stepEffects h w before a after
+effects h (Refuses k) before a after = []
+
+-- the order of the calls of a list of events, the first of which has number i, after the calls given
+unfoldable pub order : ℕ → List Event → List Call → List ℕ
+order i [] h = []
+order i (e ∷ es) h =
+    effects h (decode (e .bytes)) (e .before) (e .answer) (e .after)
+    ++ order (i + 1) es (observe i (decode (e .bytes)) (e .answer) h)
+
+------------------------------------------------------------------------
+-- What is claimed of the order
+
+-- how often i stands in the order
+unfoldable pub occurrences : ℕ → List ℕ → ℕ
+occurrences i [] = 0
+occurrences i (j ∷ o) = cond (eqb j i) 1 0 + occurrences i o
+
+-- each entry has it
+abbrev pub All {ℓ} : {A : Type ℓ} → (A → Type 0) → List A → Type 0
+All P [] = Unit {0}
+All P (x ∷ l) = P x × All P l
+
+-- How often a call stands in the order: once if it finished, never if it was refused, at most once if it is unfinished. "An unfinished
+-- one without its effect counts as not begun."
+abbrev pub Stands : Ending → ℕ → Type 0
+Stands Unfinished n = n ≤ 1
+Stands (RefusedAt i) n = n ≡ 0
+Stands (FinishedAt i a) n = n ≡ 1
+
+-- it ended before record k
+abbrev pub EndsBefore : ℕ → Ending → Type 0
+EndsBefore k Unfinished = ⊥
+EndsBefore k (RefusedAt i) = i < k
+EndsBefore k (FinishedAt i a) = i < k
+
+-- "an operation that ended before another began stands before it": none that stands later ended before an earlier one began
+unfoldable pub Ordered : List Call → List ℕ → Type 0
+Ordered h [] = Unit {0}
+Ordered h (i ∷ o) = All (λ j. EndsBefore (callAt h i .begun) (callAt h j .ending) → ⊥) o × Ordered h o
+
+-- "The X in `value X` of each finished get and read equals what is shown there."
+abbrev pub AnswersWith : Ending → Option Reading → Type 0
+AnswersWith Unfinished x = Unit {0}
+AnswersWith (RefusedAt i) x = Unit {0}
+AnswersWith (FinishedAt i a) x = (n : Reading) × (x ≡ some n) × (a ≡ Value n)
+
+abbrev pub Agrees : Operation → Ending → Option Reading → Type 0
+Agrees (Put r x) e s = Unit {0}
+Agrees Open e s = Unit {0}
+Agrees (Read r) e s = AnswersWith e s
+Agrees Close e s = Unit {0}
+Agrees (Get r) e s = AnswersWith e s
+Agrees Collect e s = Unit {0}
+
+-- "They are fed the operations in the order, each with the worker, register and value of its record and with no answer": from plain
+-- registers p on, along o
+unfoldable pub Shown : List Call → Plain → List ℕ → Type 0
+Shown h p [] = Unit {0}
+Shown h p (i ∷ o) =
+    Agrees (callAt h i .operation) (callAt h i .ending) (shows p (callAt h i .worker) (callAt h i .operation))
+    × Shown h (feed p (callAt h i .worker) (callAt h i .operation)) o
+
+-- o is an order of the calls h
+pub record IsOrder (h : List Call) (o : List ℕ) : Type 0 where
+  -- it names calls of the history only,
+  pub within : (i : ℕ) → length h ≤ i → occurrences i o ≡ 0
+  -- each as often as its ending says,
+  pub stands : (i : ℕ) → i < length h → Stands (callAt h i .ending) (occurrences i o)
+  -- each between its begin and its end,
+  pub ordered : Ordered h o
+  -- and plain registers show what was answered.
+  pub shown : Shown h plain₀ o
+
+------------------------------------------------------------------------
+-- What is claimed of freeing
+
+-- "`freed S` is never answered where, just before that step, an open snapshot's time makes the range of the version in S needed." A
+-- snapshot is open from the step that announces its time to the step of its close: while its worker has an announced time.
+abbrev pub FreesNothingNeeded : Hub → Answer → Type 0
+FreesNothingNeeded (blank row) a = Unit {0}
+FreesNothingNeeded (up s) a =
+    (c : ℕ) → a ≡ Freed c
+    → (w : ℕ) → w < s .P → workerAt s w .announced < absent
+    → slotAt s c .low ≤ workerAt s w .announced → workerAt s w .announced < slotAt s c .high → ⊥
+
+-- a put's first step took slot c: it was the first free slot, and is then its register's newest version, with the put's value
+abbrev pub TookIn : ℕ → ℕ → Hub → Answer → Hub → Type 0
+TookIn c w (blank row) a after = ⊥
+TookIn c w (up s) a (blank row) = ⊥
+TookIn c w (up s) a (up t) =
+    (a ≡ Going)
+    × (r : ℕ) × (x : Reading) × (workerAt s w .doing ≡ PutPublish r x)
+    × (l : List ℕ) × (s .free ≡ c ∷ l)
+    × (newestOf t r ≡ c) × (slotAt t c .value ≡ x)
+
+abbrev pub TookBy : ℕ → Decoded → Hub → Answer → Hub → Type 0
+TookBy c (Asks (SetUp z)) before a after = ⊥
+TookBy c (Asks (Begin w o)) before a after = ⊥
+TookBy c (Asks (Step w)) before a after = TookIn c w before a after
+TookBy c (Refuses k) before a after = ⊥
+
+abbrev pub Took : ℕ → Event → Type 0
+Took c e = TookBy c (decode (e .bytes)) (e .before) (e .answer) (e .after)
+
+-- what stands where a list has no event
+abbrev pub event₀ : Event
+event₀ = record { bytes = []; before = blank []; answer = Ok; after = blank [] }
+
+-- "Between two answers `freed S` for one slot, a put's first step took that slot."
+abbrev pub FreedOnce : List Event → Type 0
+FreedOnce es =
+    (c i j : ℕ) → i < j → j < length es
+    → getD es i event₀ .answer ≡ Freed c → getD es j event₀ .answer ≡ Freed c
+    → (k : ℕ) × (i < k) × (k < j) × Took c (getD es k event₀)
+
+------------------------------------------------------------------------
+-- Demand 3
+
+pub record Demand3 (es : List Event) : Type 0 where
+  -- there is one order of the operations: this one
+  pub isOrder : IsOrder (history 0 (map exchange es) []) (order 0 es [])
+  pub freesNothingNeeded : All (λ e. FreesNothingNeeded (e .before) (e .answer)) es
+  pub freedOnce : FreedOnce es
+
+-- For every lent row, every setup record that is answered `ok`, and every list of records after it.
+abbrev pub Demand : (ℕ → ℕ) → Type 0
+Demand batch =
+    (row : List Slot) (setup : List ℕ) → apply batch (blank row) setup .answer ≡ Ok
+    → (records : List (List ℕ)) → Demand3 (events batch (apply batch (blank row) setup .hub) records)

@@ -1,0 +1,112 @@
+-- Records (document 01, "Records"): sixteen bytes, the command that they give, and the refusals 6, 1 and 2.
+use mathlib.Core.Bool.{Bool, true, false, cond, _&&_}
+use mathlib.Core.List.{List, [], _∷_}
+use Prim.Native.Nat.{ℕ, zero, suc, _+_, _*_}
+use lib.Dec.{ltb, eqb}
+use lib.ListN.{length, getD, take, drop}
+use Rattle.model.specs.Store.{Reading}
+
+------------------------------------------------------------------------
+-- "numbers least byte first"
+
+-- the number in the n bytes from place i on
+abbrev pub number : List ℕ → ℕ → ℕ → ℕ
+number b i zero = 0
+number b i (suc n) = getD b i 0 + 256 * number b (suc i) n
+
+-- the n bytes from place i on are zero
+unfoldable pub zeros : List ℕ → ℕ → ℕ → Bool
+zeros b i zero = true
+zeros b i (suc n) = eqb (getD b i 0) 0 && zeros b (suc i) n
+
+------------------------------------------------------------------------
+-- Commands
+
+-- an operation that a record begins, 1 to 6
+pub data Operation : Type 0 where
+  -- the register and what to store
+  Put : ℕ → Reading → Operation
+  Open : Operation
+  -- the register
+  Read : ℕ → Operation
+  Close : Operation
+  -- the register
+  Get : ℕ → Operation
+  Collect : Operation
+
+-- what a setup asks for
+pub record Sizes : Type 0 where
+  pub P : ℕ
+  pub V' : ℕ
+  pub N : ℕ
+  pub clock : ℕ
+
+pub data Command : Type 0 where
+  -- 0
+  SetUp : Sizes → Command
+  -- 1 to 6: the worker and the operation
+  Begin : ℕ → Operation → Command
+  -- 7: the worker
+  Step : ℕ → Command
+
+-- "Byte 0 is the operation, byte 1 the worker, bytes 2 and 3 the register, bytes 8 to 15 the value";
+-- for a setup "byte 1 P, bytes 2–3 V, 4–5 N, 8–11 starting clock".
+abbrev pub workerIn : List ℕ → ℕ
+workerIn b = number b 1 1
+
+abbrev pub registerIn : List ℕ → ℕ
+registerIn b = number b 2 2
+
+abbrev pub readingIn : List ℕ → Reading
+readingIn b = record { count = number b 8 8 }
+
+abbrev pub sizesIn : List ℕ → Sizes
+sizesIn b = record { P = number b 1 1; V' = number b 2 2; N = number b 4 2; clock = number b 8 4 }
+
+-- the command of a record, by its byte 0; a byte 0 above 7 is refused before this is looked at
+unfoldable pub commandOf : List ℕ → ℕ → Command
+commandOf b zero = SetUp (sizesIn b)
+commandOf b (suc zero) = Begin (workerIn b) (Put (registerIn b) (readingIn b))
+commandOf b (suc (suc zero)) = Begin (workerIn b) Open
+commandOf b (suc (suc (suc zero))) = Begin (workerIn b) (Read (registerIn b))
+commandOf b (suc (suc (suc (suc zero)))) = Begin (workerIn b) Close
+commandOf b (suc (suc (suc (suc (suc zero))))) = Begin (workerIn b) (Get (registerIn b))
+commandOf b (suc (suc (suc (suc (suc (suc zero)))))) = Begin (workerIn b) Collect
+commandOf b (suc (suc (suc (suc (suc (suc (suc n))))))) = Step (workerIn b)
+
+-- "Bytes an operation does not use are zero."
+unfoldable pub unusedZero : List ℕ → Command → Bool
+unusedZero b (SetUp z) = zeros b 6 2 && zeros b 12 4
+unusedZero b (Begin w (Put r x)) = zeros b 4 4
+unusedZero b (Begin w Open) = zeros b 2 14
+unusedZero b (Begin w (Read r)) = zeros b 4 12
+unusedZero b (Begin w Close) = zeros b 2 14
+unusedZero b (Begin w (Get r)) = zeros b 4 12
+unusedZero b (Begin w Collect) = zeros b 2 14
+unusedZero b (Step w) = zeros b 2 14
+
+-- a record read: a command, or the number of the refusal
+pub data Decoded : Type 0 where
+  Asks : Command → Decoded
+  Refuses : ℕ → Decoded
+
+-- 6 fewer than 16 bytes; 1 operation above 7; 2 an unused byte is not zero. "Bytes after the sixteenth belong to the next record."
+unfoldable pub decode : List ℕ → Decoded
+decode b =
+    let c = commandOf b (getD b 0 0) in
+    cond (ltb (length b) 16) (Refuses 6)
+    (cond (ltb 7 (getD b 0 0)) (Refuses 1)
+    (cond (unusedZero b c) (Asks c) (Refuses 2)))
+
+------------------------------------------------------------------------
+-- Files
+
+-- "The program takes the file sixteen bytes at a time"; a rest of 1 to 15 bytes is one more record. At most n records are taken.
+unfoldable pub cut : ℕ → List ℕ → List (List ℕ)
+cut zero l = []
+cut (suc n) [] = []
+cut (suc n) (x ∷ l) = take 16 (x ∷ l) ∷ cut n (drop 16 (x ∷ l))
+
+-- the records of a file; a record takes at least one byte, so there are no more than bytes
+unfoldable pub recordsOf : List ℕ → List (List ℕ)
+recordsOf file = cut (length file) file

@@ -1,0 +1,36 @@
+-- The read-out row (document 01, "Read-out row") and its refusals 4 and 7.
+use mathlib.Core.Bool.{Bool, true, false, cond}
+use mathlib.Core.List.{List, [], _∷_, _++_}
+use Prim.Native.Nat.{ℕ, zero, suc, _+_, _*_, _/_, _%_}
+use lib.Dec.{ltb}
+use lib.ListN.{length, take, drop}
+use Rattle.model.specs.Store.{Reading}
+
+-- the n bytes of a number, the least first
+abbrev pub bytesOf : ℕ → ℕ → List ℕ
+bytesOf zero x = []
+bytesOf (suc n) x = (x % 256) ∷ bytesOf n (x / 256)
+
+-- "register (2 bytes), two zero bytes, time (4), value (8)"
+abbrev pub rowBytes : ℕ → ℕ → Reading → List ℕ
+rowBytes r t x = bytesOf 2 r ++ (0 ∷ 0 ∷ []) ++ bytesOf 4 t ++ bytesOf 8 (x .count)
+
+pub data RowAnswer : Type 0 where
+  Written : RowAnswer
+  -- the refusal's number, 4 or 7
+  RowNo : ℕ → RowAnswer
+
+-- what is answered, and the lent buffer after it
+pub record RowWritten : Type 0 where
+  pub answer : RowAnswer
+  pub buffer : List ℕ
+
+-- "the row for register r starts at byte 16 × r of the lent buffer. Other bytes keep their contents."
+-- "A row tests 4, then 7, and on either leaves the buffer untouched." 4: register not below 256; 7: shorter than 16 × (register + 1).
+unfoldable pub writeRow : ℕ → ℕ → Reading → List ℕ → RowWritten
+writeRow r t x buf =
+    let row = take (16 * r) buf ++ rowBytes r t x ++ drop (16 * r + 16) buf in
+    record {
+      answer = cond (ltb r 256) (cond (ltb (length buf) (16 * (r + 1))) (RowNo 7) Written) (RowNo 4);
+      buffer = cond (ltb r 256) (cond (ltb (length buf) (16 * (r + 1))) buf row) buf;
+    }

@@ -1,0 +1,82 @@
+-- Three runs in which the steps of two workers take turns: their logs and the orders that demand 3 promises for them. They are proved by
+-- computation in proofs/Cases.antt, and show what the wrong steps of must-fail/ would answer otherwise.
+use mathlib.Core.Path.{_≡_}
+use mathlib.Core.List.{List, [], _∷_, _++_, map}
+use Prim.Native.Nat.{ℕ}
+use lib.ListN.{replicate}
+use Rattle.model.specs.Store.{slot₀, Hub, blank}
+use Rattle.model.specs.Batch.{batchOf}
+use Rattle.model.specs.Record.{Open, Read, Get, Collect, Command, Begin, Step}
+use Rattle.model.specs.Apply.{apply}
+use Rattle.model.specs.Log.{text, logOf}
+use Rattle.model.specs.Demand.{Event, events, order}
+use Rattle.model.specs.Cases.{recordOf, setup, put, rowOf, joined}
+
+-- the log of a list of commands, over a row of n slots
+abbrev pub logFor : ℕ → List Command → List ℕ
+logFor n l = logOf batchOf (replicate n slot₀) (joined (map recordOf l))
+
+-- the order of the calls of the commands after a setup; call i is the i-th that began, from 0
+abbrev pub orderFor : ℕ → Command → List Command → List ℕ
+orderFor n first l = order 0 (events batchOf (apply batchOf (rowOf n) (recordOf first) .hub) (map recordOf l)) []
+
+abbrev pub steps : ℕ → ℕ → List Command
+steps n w = replicate n (Step w)
+
+-- A read of register 0 stands on a version that a collect frees, and a put of register 1 takes its slot. The read has moved to the older
+-- version, and shows 4, the value at its snapshot's time.
+abbrev pub movedSetup : Command
+movedSetup = setup 2 2 6 1
+
+abbrev pub movedRead : List Command
+movedRead =
+    (put 0 0 4 ∷ steps 3 0)
+    ++ (put 0 1 5 ∷ steps 8 0)
+    ++ (Begin 1 Open ∷ steps 2 1)
+    ++ (put 0 0 7 ∷ steps 3 0)
+    ++ (Begin 1 (Read 0) ∷ steps 1 1)
+    ++ (put 0 0 9 ∷ steps 10 0)
+    ++ (Begin 0 Collect ∷ steps 6 0)
+    ++ (put 0 1 6 ∷ steps 1 0)
+    ++ steps 1 1
+
+-- A collect of worker 0 takes its pools, none, and reads the times. Then worker 1 opens a snapshot, covers the version that it needs and hands
+-- it in. The collect frees nothing, and the snapshot still reads 0.
+abbrev pub lateSetup : Command
+lateSetup = setup 2 1 4 1
+
+abbrev pub latePool : List Command
+latePool =
+    (Begin 0 Collect ∷ steps 3 0)
+    ++ (Begin 1 Open ∷ steps 2 1)
+    ++ (put 1 0 7 ∷ steps 3 1)
+    ++ (put 1 0 8 ∷ steps 8 1)
+    ++ steps 2 0
+    ++ (Begin 1 (Read 0) ∷ steps 4 1)
+
+-- A put takes its first step; another worker opens a snapshot; its get stamps the put and shows it; its read shows the older value.
+abbrev pub getSetup : Command
+getSetup = setup 2 1 3 5
+
+abbrev pub stampingGet : List Command
+stampingGet =
+    (put 0 0 7 ∷ steps 1 0)
+    ++ (Begin 1 Open ∷ steps 2 1)
+    ++ (Begin 1 (Get 0) ∷ steps 1 1)
+    ++ (Begin 1 (Read 0) ∷ steps 3 1)
+    ++ steps 2 0
+
+pub record Runs : Type 0 where
+  pub moved-log : logFor 6 (movedSetup ∷ movedRead)
+      ≡ text
+      "0 ok\n1 ok\n2 going\n3 going\n4 done\n5 ok\n6 going\n7 going\n8 going\n9 going\n10 going\n11 going\n12 going\n13 done\n14 ok\n15 going\n16 at 1\n17 ok\n18 going\n19 going\n20 done\n21 ok\n22 going\n23 ok\n24 going\n25 going\n26 going\n27 going\n28 going\n29 going\n30 going\n31 freed 0\n32 freed 1\n33 done\n34 ok\n35 going\n36 going\n37 going\n38 going\n39 freed 4\n40 done\n41 ok\n42 going\n43 value 4\n"
+  -- the last put, call 7, is not stamped: it has no effect yet
+  pub moved-order : orderFor 6 movedSetup movedRead ≡ 0 ∷ 1 ∷ 2 ∷ 3 ∷ 5 ∷ 6 ∷ 4 ∷ []
+  pub late-log : logFor 4 (lateSetup ∷ latePool)
+      ≡ text
+      "0 ok\n1 ok\n2 going\n3 going\n4 going\n5 ok\n6 going\n7 at 1\n8 ok\n9 going\n10 going\n11 done\n12 ok\n13 going\n14 going\n15 going\n16 going\n17 going\n18 going\n19 going\n20 done\n21 going\n22 done\n23 ok\n24 going\n25 going\n26 going\n27 value 0\n"
+  pub late-order : orderFor 4 lateSetup latePool ≡ 1 ∷ 2 ∷ 3 ∷ 0 ∷ 4 ∷ []
+  pub get-log : logFor 3 (getSetup ∷ stampingGet)
+      ≡ text "0 ok\n1 ok\n2 going\n3 ok\n4 going\n5 at 5\n6 ok\n7 value 7\n8 ok\n9 going\n10 going\n11 value 0\n12 going\n13 done\n"
+  -- the open, then the put that the get stamped, then the get
+  pub get-order : orderFor 3 getSetup stampingGet ≡ 1 ∷ 0 ∷ 2 ∷ 3 ∷ []

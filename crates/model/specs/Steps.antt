@@ -1,0 +1,193 @@
+-- The steps (document 01, "The steps"). Each takes the store, the worker that steps and what its place holds.
+-- `batch` gives the batch size B of so many workers.
+use mathlib.Core.Bool.{Bool, true, false, cond, not}
+use mathlib.Core.List.{List, [], _∷_, _++_, map}
+use Prim.Native.Nat.{ℕ, _+_}
+use lib.Dec.{ltb, leb, eqb}
+use lib.ListN.{length, set, drop}
+use Rattle.model.specs.Store.{absent, lastClock, Reading, Range, Doing, Idle, PutPublish, PutStamp, PutHandIn, FlushTake, FlushRead, FlushFree, OpenAnnounce, OpenPass, ReadEnter, ReadStand, CloseWithdraw, GetShow, Worker, Store, workerAt, slotAt, newestOf, holders, held, rangeOf, withClock, withSlots, withNewest, withFree, withQueue, withWorkers, withWorker, withDoing, place}
+use Rattle.model.specs.Answer.{Answer, Going, Freed, At, Value, Done, No, Stepped}
+use Rattle.model.specs.Versions.{stamp, linkSlots, unlinkSlots}
+use Rattle.model.specs.Ranges.{firstTwo, merge, neededOf, needlessOf, neededPools, joining, queuedPool}
+
+------------------------------------------------------------------------
+-- Put
+
+-- (1) "With no free slot: refusal 14. Else stamp the register, take a slot, link it as newest with the value and no low, remember the
+-- version it covers." The last argument is the list of free slots.
+unfoldable pub putPublish : Store → ℕ → ℕ → Reading → List ℕ → Stepped
+putPublish s w r x [] = record { store = place s w Idle; answer = No 14 }
+putPublish s w r x (f ∷ free′) =
+    let c = newestOf s r in
+    let t = stamp s r in
+    record {
+      store =
+          place
+          (withFree (withNewest (withSlots t (linkSlots (t .slots) c f x)) (set (t .newest) r f)) free′)
+          w
+          (PutStamp r c);
+      answer = Going;
+    }
+
+-- (2) "If the covered version's high is open, stamp the register."
+unfoldable pub putStamp : Store → ℕ → ℕ → ℕ → Stepped
+putStamp s w r c =
+    record {
+      store = place (cond (eqb (slotAt s c .high) absent) (stamp s r) s) w (PutHandIn r c);
+      answer = Going;
+    }
+
+-- (3) "Append the covered version's range to the local pool. If that now holds B, flush; else the put is done."
+unfoldable pub putHandIn : (ℕ → ℕ) → Store → ℕ → ℕ → Stepped
+putHandIn batch s w c =
+    let p = workerAt s w .pool ++ (rangeOf s c ∷ []) in
+    let full = eqb (length p) (batch (s .P)) in
+    record {
+      store =
+          withWorker s w
+          (record { doing = cond full FlushTake Idle; announced = workerAt s w .announced; pool = p });
+      answer = cond full Going Done;
+    }
+
+------------------------------------------------------------------------
+-- Flush (document 01's term), the end of a full put and the whole of a collect
+
+-- (1) "Take up to two pools from the queue and merge by high, the first pool's first on equal highs."
+unfoldable pub flushTake : Store → ℕ → Stepped
+flushTake s w =
+    record {
+      store = withQueue (place s w (FlushRead (firstTwo (s .queue)) [])) (drop 2 (s .queue));
+      answer = Going;
+    }
+
+-- the times that a flush reads in one step, once it has read those of the first k holders
+unfoldable pub readTimes : Store → ℕ → List ℕ
+readTimes s k = held s k ∷ []
+
+-- (3) "Split the merged list into needless and needed by the times read", put the needed ones on the queue or into the local pool.
+-- "Then queue the local pool if not empty, and empty it."
+unfoldable pub flushSplit : (ℕ → ℕ) → Store → ℕ → List Range → List ℕ → Stepped
+flushSplit batch s w m ts =
+    let b = batch (s .P) in
+    let stay = neededOf ts m in
+    record {
+      store =
+          withQueue
+          (withWorker s w
+          (record { doing = FlushFree (needlessOf ts m); announced = workerAt s w .announced; pool = [] }))
+          (s .queue ++ neededPools b stay ++ queuedPool (merge (workerAt s w .pool) (joining b stay)));
+      answer = Going;
+    }
+
+-- (2) "P steps: read the announced time of worker 0, then 1, and so on", then (3)
+unfoldable pub flushRead : (ℕ → ℕ) → Store → ℕ → List Range → List ℕ → Stepped
+flushRead batch s w m ts =
+    let more : Stepped =
+    record { store = place s w (FlushRead m (ts ++ readTimes s (length ts))); answer = Going } in
+    let last = flushSplit batch s w m ts in
+    cond (ltb (length ts) (holders s)) more last
+
+-- "A read standing on it moves to its older neighbour": from slot c to slot o
+unfoldable pub moveOff : ℕ → ℕ → Doing → Doing
+moveOff c o Idle = Idle
+moveOff c o (PutPublish r x) = PutPublish r x
+moveOff c o (PutStamp r d) = PutStamp r d
+moveOff c o (PutHandIn r d) = PutHandIn r d
+moveOff c o FlushTake = FlushTake
+moveOff c o (FlushRead m ts) = FlushRead m ts
+moveOff c o (FlushFree m) = FlushFree m
+moveOff c o OpenAnnounce = OpenAnnounce
+moveOff c o OpenPass = OpenPass
+moveOff c o (ReadEnter r) = ReadEnter r
+moveOff c o (ReadStand r d) = ReadStand r (cond (eqb d c) o d)
+moveOff c o CloseWithdraw = CloseWithdraw
+moveOff c o (GetShow r) = GetShow r
+
+unfoldable pub workerOff : ℕ → ℕ → Worker → Worker
+workerOff c o x = withDoing x (moveOff c o (x .doing))
+
+-- (4) "One step per needless version, in merged order: unlink it and free its slot." (5) "Done."
+unfoldable pub flushFree : Store → ℕ → List Range → Stepped
+flushFree s w [] = record { store = place s w Idle; answer = Done }
+flushFree s w (ρ ∷ l) =
+    let c = ρ .slot in
+    let t = place s w (FlushFree l) in
+    record {
+      store =
+          withWorkers
+          (withFree (withSlots t (unlinkSlots (t .slots) c)) (c ∷ t .free))
+          (map (workerOff c (slotAt s c .older)) (t .workers));
+      answer = Freed c;
+    }
+
+------------------------------------------------------------------------
+-- Open
+
+-- (1) "Clock at 4294967295: refusal 15. Else announce the clock."
+unfoldable pub openAnnounce : Store → ℕ → Stepped
+openAnnounce s w =
+    let last : Stepped = record { store = place s w Idle; answer = No 15 } in
+    let more : Stepped =
+    record {
+      store = withWorker s w (record { doing = OpenPass; announced = s .clock; pool = workerAt s w .pool });
+      answer = Going;
+    } in
+    cond (eqb (s .clock) lastClock) last more
+
+-- (2) "If the clock still equals the announced time, add one. Answer that time."
+unfoldable pub openPass : Store → ℕ → Stepped
+openPass s w =
+    let a = workerAt s w .announced in
+    record {
+      store = place (withClock s (cond (eqb (s .clock) a) (s .clock + 1) (s .clock))) w Idle;
+      answer = At a;
+    }
+
+------------------------------------------------------------------------
+-- Read, get, close
+
+-- what a get or a read answers that found this
+unfoldable pub shown : Reading → Answer
+shown x = Value x
+
+-- Read (1) "Stamp the register, stand on its newest version."
+unfoldable pub readEnter : Store → ℕ → ℕ → Stepped
+readEnter s w r = record { store = place (stamp s r) w (ReadStand r (newestOf s r)); answer = Going }
+
+-- Read (2) "If its low is at most the worker's time, answer its value; else move to the older one."
+unfoldable pub readStand : Store → ℕ → ℕ → ℕ → Stepped
+readStand s w r c =
+    let found : Stepped = record { store = place s w Idle; answer = shown (slotAt s c .value) } in
+    let on : Stepped = record { store = place s w (ReadStand r (slotAt s c .older)); answer = Going } in
+    cond (leb (slotAt s c .low) (workerAt s w .announced)) found on
+
+-- Get: "Stamp, answer the newest value."
+unfoldable pub getShow : Store → ℕ → ℕ → Stepped
+getShow s w r =
+    record { store = place (stamp s r) w Idle; answer = shown (slotAt s (newestOf s r) .value) }
+
+-- Close: "Withdraw the time."
+unfoldable pub closeWithdraw : Store → ℕ → Stepped
+closeWithdraw s w =
+    record {
+      store = withWorker s w (record { doing = Idle; announced = absent; pool = workerAt s w .pool });
+      answer = Done;
+    }
+
+------------------------------------------------------------------------
+-- One step of worker w, which is at the place given. An idle worker has none: refusal 11.
+
+unfoldable pub stepAt : (ℕ → ℕ) → Store → ℕ → Doing → Stepped
+stepAt batch s w Idle = record { store = s; answer = No 11 }
+stepAt batch s w (PutPublish r x) = putPublish s w r x (s .free)
+stepAt batch s w (PutStamp r c) = putStamp s w r c
+stepAt batch s w (PutHandIn r c) = putHandIn batch s w c
+stepAt batch s w FlushTake = flushTake s w
+stepAt batch s w (FlushRead m ts) = flushRead batch s w m ts
+stepAt batch s w (FlushFree m) = flushFree s w m
+stepAt batch s w OpenAnnounce = openAnnounce s w
+stepAt batch s w OpenPass = openPass s w
+stepAt batch s w (ReadEnter r) = readEnter s w r
+stepAt batch s w (ReadStand r c) = readStand s w r c
+stepAt batch s w CloseWithdraw = closeWithdraw s w
+stepAt batch s w (GetShow r) = getShow s w r

@@ -1,0 +1,20 @@
+-- What the values mean: for each case of an enum, document 01's number and values, as the model has them.
+use Prim.Native.Nat.{ℕ}
+use Rattle.model.specs.Store as Model
+use Rattle.model.specs.Answer as Model·Answer
+use Rattle.values.specs.declared.Reading.{Reading}
+use Rattle.values.specs.declared.Answer.{Answer}
+use Rattle.values.specs.declared.Answer.the-variants.{Ok, Going, Freed, At, Value, Done, No}
+
+abbrev pub readingOf : Reading → Model.Reading
+readingOf x = record { count = x .count }
+
+-- a slot, a time, a reading, or the number of the refusal
+abbrev pub answerOf : Answer → Model·Answer.Answer
+answerOf Ok = Model·Answer.Ok
+answerOf Going = Model·Answer.Going
+answerOf (Freed c) = Model·Answer.Freed c
+answerOf (At t) = Model·Answer.At t
+answerOf (Value x) = Model·Answer.Value (readingOf x)
+answerOf Done = Model·Answer.Done
+answerOf (No k) = Model·Answer.No k
