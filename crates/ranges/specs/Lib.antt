@@ -1,0 +1,3 @@
+pub mod Words
+pub mod Merge
+pub mod Split

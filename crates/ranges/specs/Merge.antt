@@ -1,0 +1,11 @@
+-- Which pool gives the next range of a merge.
+use mathlib.Core.Bool.{Bool, true, false}
+use mathlib.Core.List.{List, [], _∷_}
+use lib.Dec.{leb}
+use Rattle.model.specs.Store.{Range}
+
+-- the merge of the two pools starts with the first pool's first range: "by high, the first pool's first on equal highs"
+abbrev pub firstGoes : List Range → List Range → Bool
+firstGoes [] bs = false
+firstGoes (a ∷ l) [] = true
+firstGoes (a ∷ l) (b ∷ bs) = leb (a .high) (b .high)

@@ -1,0 +1,113 @@
+-- `asked` meets its contract: each arm rewrites with its operation, and the last has an operation above 7.
+use Prim.Native.Nat.{_≤_, _<_, zero-le}
+use lib.ListN.{getD}
+use borrow.Author.Needs.{needs}
+use borrow.Author.Tests.{lt-ltb}
+use Rattle.model.specs.Record.{commandOf, unusedZero}
+use Rattle.record.proofs.Numbers.{past-four}
+use Rattle.record.proofs.asked.Statement.{statement}
+use Rattle.record.proofs.asked.Tie as tie
+
+shared-slice-read-operation : tie.Need-shared-slice-read-operation
+shared-slice-read-operation c = search needs
+
+set-up-requires : tie.Need-set-up-requires
+set-up-requires c κs = search needs
+
+two-requires : tie.Need-two-requires
+two-requires c κs = search needs
+
+eight-requires : tie.Need-eight-requires
+eight-requires c κs = search needs
+
+begin-requires : tie.Need-begin-requires
+begin-requires c κs = search needs
+
+begin-requires-2 : tie.Need-begin-requires-2
+begin-requires-2 c κs = search needs
+
+two-requires-2 : tie.Need-two-requires-2
+two-requires-2 c κs = search needs
+
+begin-requires-3 : tie.Need-begin-requires-3
+begin-requires-3 c κs = search needs
+
+begin-requires-4 : tie.Need-begin-requires-4
+begin-requires-4 c κs = search needs
+
+two-requires-3 : tie.Need-two-requires-3
+two-requires-3 c κs = search needs
+
+begin-requires-5 : tie.Need-begin-requires-5
+begin-requires-5 c κs = search needs
+
+begin-requires-6 : tie.Need-begin-requires-6
+begin-requires-6 c κs = search needs
+
+step-requires : tie.Need-step-requires
+step-requires c κs = search needs
+
+returns : tie.Need-returns
+returns c = rw (c .before .match .keys1) (c .set-up .ensures)
+
+returns-2 : tie.Need-returns-2
+unfolding commandOf unusedZero
+returns-2 c = rw (c .before .before .before .match .keys2, ← c .before .before .two .ensures, ← c .before .eight .ensures) (c .begin .ensures)
+
+returns-3 : tie.Need-returns-3
+unfolding commandOf unusedZero
+returns-3 c = rw (c .before .match .keys3) (c .begin2 .ensures)
+
+returns-4 : tie.Need-returns-4
+unfolding commandOf unusedZero
+returns-4 c = rw (c .before .before .match .keys4, ← c .before .two2 .ensures) (c .begin3 .ensures)
+
+returns-5 : tie.Need-returns-5
+unfolding commandOf unusedZero
+returns-5 c = rw (c .before .match .keys5) (c .begin4 .ensures)
+
+returns-6 : tie.Need-returns-6
+unfolding commandOf unusedZero
+returns-6 c = rw (c .before .before .match .keys6, ← c .before .two3 .ensures) (c .begin5 .ensures)
+
+returns-7 : tie.Need-returns-7
+unfolding commandOf unusedZero
+returns-7 c = rw (c .before .match .keys7) (c .begin6 .ensures)
+
+returns-8 : tie.Need-returns-8
+returns-8 c = rw (c .before .match .keys8) (c .step .ensures)
+
+returns-9 : tie.Need-returns-9
+returns-9 c =
+    let o = getD (c .before .before .before .args .rec .now) 0 0 in
+    let r = c .match .rest in
+    let l : 4 ≤ o = past-four 0 zero-le (r .0 .0 .0 .0 .0 .0 .0 .1) (r .0 .0 .0 .0 .0 .0 .1) (r .0 .0 .0 .0 .0 .1) (r .0 .0 .0 .0 .1) in
+    let h : 7 < o = past-four 4 l (r .0 .0 .0 .1) (r .0 .0 .1) (r .0 .1) (r .1) in
+    rw (lt-ltb 7 o h)
+
+pub asked-spec : {M : Type 1} → statement M
+asked-spec =
+    tie.close
+    (tie.spec
+    shared-slice-read-operation
+    set-up-requires
+    two-requires
+    eight-requires
+    begin-requires
+    begin-requires-2
+    two-requires-2
+    begin-requires-3
+    begin-requires-4
+    two-requires-3
+    begin-requires-5
+    begin-requires-6
+    step-requires
+    returns
+    returns-2
+    returns-3
+    returns-4
+    returns-5
+    returns-6
+    returns-7
+    returns-8
+    returns-9)

@@ -1,0 +1,184 @@
+// The record decoder.
+ghost use mathlib.Core.Path.{_≡_};
+ghost use mathlib.Core.Bool.{cond};
+ghost use Prim.Native.Nat.{_+_, _*_, _≤_, _<_};
+ghost use lib.Dec.{ltb};
+ghost use lib.ListN.{length, getD};
+ghost use Rattle.model.specs.Record.{number};
+ghost use Rattle.model.specs.Record as Model;
+ghost use Rattle.record.specs.Meaning.{operationOf, decodedOf};
+ghost use Rattle.record.specs.Parts.{checkedOf};
+use values::Reading;
+
+// An operation that a record begins, 1 to 6.
+pub enum Operation {
+    Put { register: u16, reading: Reading },
+    Open,
+    Read { register: u16 },
+    Close,
+    Get { register: u16 },
+    Collect,
+}
+
+pub enum Command {
+    SetUp { p: u8, v: u16, n: u16, clock: u32 },
+    Begin { worker: u8, operation: Operation },
+    Step { worker: u8 },
+}
+
+// A record read: a command, or the number of the refusal.
+pub enum Decoded {
+    Asks(Command),
+    Refuses(u8),
+}
+
+fn wide16(x: u8) -> u16
+    ensures { λ r. ⌜ (r ≡ x) × (r < 256) ⌝ }
+{
+    x as u16
+}
+
+fn wide32(x: u16) -> u32
+    ensures { λ r. ⌜ (r ≡ x) × (r < 65536) ⌝ }
+{
+    x as u32
+}
+
+fn wide64(x: u32) -> u64
+    ensures { λ r. ⌜ (r ≡ x) × (r < 4294967296) ⌝ }
+{
+    x as u64
+}
+
+// The numbers in one, two, four and eight bytes from place i on, least byte first.
+fn one(b: &[u8], i: usize) -> u8
+    requires { ⌜ i + 1 ≤ length (now b) ⌝ }
+    ensures { λ r. ⌜ r ≡ number (now (b .entry)) i 1 ⌝ }
+{
+    b[i]
+}
+
+fn two(b: &[u8], i: usize) -> u16
+    requires { ⌜ i + 2 ≤ length (now b) ⌝ }
+    ensures { λ r. ⌜ r ≡ number (now (b .entry)) i 2 ⌝ }
+{
+    wide16(one(b, i)) + 256 * wide16(one(b, i + 1))
+}
+
+fn four(b: &[u8], i: usize) -> u32
+    requires { ⌜ i + 4 ≤ length (now b) ⌝ }
+    ensures { λ r. ⌜ r ≡ number (now (b .entry)) i 4 ⌝ }
+{
+    wide32(two(b, i)) + 65536 * wide32(two(b, i + 2))
+}
+
+fn eight(b: &[u8], i: usize) -> u64
+    requires { ⌜ i + 8 ≤ length (now b) ⌝ }
+    ensures { λ r. ⌜ r ≡ number (now (b .entry)) i 8 ⌝ }
+{
+    wide64(four(b, i)) + 4294967296 * wide64(four(b, i + 4))
+}
+
+// Whether the n bytes from place i on are zero.
+fn zeros(b: &[u8], i: usize, n: usize) -> bool
+    requires { ⌜ i + n ≤ length (now b) ⌝ }
+    ensures { λ r. ⌜ r ≡ Model.zeros (now (b .entry)) i n ⌝ }
+{
+    let mut all = true;
+    for k in 0..n {
+        all = all & (b[i + k] == 0);
+    }
+    all
+}
+
+// Operation 0.
+fn set_up(rec: &[u8]) -> Decoded
+    requires { ⌜ 16 ≤ length (now rec) ⌝ }
+    ensures { λ r. ⌜ decodedOf r ≡ checkedOf (now (rec .entry)) 0 ⌝ }
+{
+    if zeros(rec, 6, 2) & zeros(rec, 12, 4) {
+        return Decoded::Asks(Command::SetUp {
+            p: one(rec, 1),
+            v: two(rec, 2),
+            n: two(rec, 4),
+            clock: four(rec, 8),
+        });
+    }
+    Decoded::Refuses(2)
+}
+
+// The begin of an operation that leaves n bytes from place i on unused.
+fn begin(rec: &[u8], i: usize, n: usize, operation: Operation) -> Decoded
+    requires { ⌜ (2 ≤ length (now rec)) × (i + n ≤ length (now rec)) ⌝ }
+    ensures { λ r. ⌜
+        decodedOf r
+        ≡ cond (Model.zeros (now (rec .entry)) i n)
+        (Model.Asks (Model.Begin (number (now (rec .entry)) 1 1) (operationOf operation)))
+        (Model.Refuses 2)
+        ⌝ }
+{
+    let worker = one(rec, 1);
+    if zeros(rec, i, n) {
+        return Decoded::Asks(Command::Begin { worker, operation });
+    }
+    Decoded::Refuses(2)
+}
+
+// Operation 7.
+fn step(rec: &[u8]) -> Decoded
+    requires { ⌜ 16 ≤ length (now rec) ⌝ }
+    ensures { λ r. ⌜ decodedOf r ≡ checkedOf (now (rec .entry)) 7 ⌝ }
+{
+    let worker = one(rec, 1);
+    if zeros(rec, 2, 14) {
+        return Decoded::Asks(Command::Step { worker });
+    }
+    Decoded::Refuses(2)
+}
+
+// A record of sixteen bytes, by its byte 0.
+fn asked(rec: &[u8]) -> Decoded
+    requires { ⌜ 16 ≤ length (now rec) ⌝ }
+    ensures { λ r. ⌜
+        decodedOf r
+        ≡ cond (ltb 7 (getD (now (rec .entry)) 0 0))
+        (Model.Refuses 1)
+        (checkedOf (now (rec .entry)) (getD (now (rec .entry)) 0 0))
+        ⌝ }
+{
+    let operation = rec[0];
+    match operation {
+        0 => set_up(rec),
+        1 => {
+            let register = two(rec, 2);
+            let reading = Reading {
+                count: eight(rec, 8),
+            };
+            begin(rec, 4, 4, Operation::Put { register, reading })
+        }
+        2 => begin(rec, 2, 14, Operation::Open),
+        3 => {
+            let register = two(rec, 2);
+            begin(rec, 4, 12, Operation::Read { register })
+        }
+        4 => begin(rec, 2, 14, Operation::Close),
+        5 => {
+            let register = two(rec, 2);
+            begin(rec, 4, 12, Operation::Get { register })
+        }
+        6 => begin(rec, 2, 14, Operation::Collect),
+        7 => step(rec),
+        _ => Decoded::Refuses(1),
+    }
+}
+
+// The command of a record, any bytes, any length. Refusals: 6 fewer than 16 bytes, 1 operation above 7, 2 an unused byte is not zero,
+// in this order. Bytes after the sixteenth are not looked at.
+pub fn decode(rec: &[u8]) -> Decoded
+    ensures { λ r. ⌜ decodedOf r ≡ Model.decode (now (rec .entry)) ⌝ }
+{
+    if rec.len() < 16 {
+        return Decoded::Refuses(6);
+    }
+    asked(rec)
+}

@@ -1,0 +1,56 @@
+-- `put_number` meets its contract: the loop keeps `Storing`, by which the bytes still to be stored lead to what is to be left behind.
+-- The measure is the number of those bytes.
+use Prim.Native.Nat.{_-_}
+use Rattle.row.proofs.Bytes.{Storing, storing-start, storing-turn, storing-end}
+use borrow.Author.Needs.{needs}
+use Rattle.row.proofs.put_number.Statement.{statement}
+use Rattle.row.proofs.put_number.Tie as tie
+
+abbrev Inv-loop : tie.InvT-loop
+Inv-loop row₀ from n x rest₀ i₀ row rest i = Storing row₀ row from n x rest i
+
+abbrev μ-loop : tie.MeasureT-loop
+μ-loop row₀ from n x rest₀ i₀ row rest i = n - i
+
+loop-holds : tie.Need-loop-holds Inv-loop μ-loop
+loop-holds c = storing-start _ _ _ _
+
+cast-row : tie.Need-cast-row Inv-loop μ-loop
+cast-row c = search needs
+
+add-row : tie.Need-add-row Inv-loop μ-loop
+add-row c = search needs
+
+slice-write-row : tie.Need-slice-write-row Inv-loop μ-loop
+slice-write-row c = search needs
+
+add-i : tie.Need-add-i Inv-loop μ-loop
+add-i c = search needs
+
+loop-less : tie.Need-loop-less Inv-loop μ-loop
+loop-less c = search needs
+
+loop-again : tie.Need-loop-again Inv-loop μ-loop
+loop-again c = storing-turn _ _ _ _ _ _ _ (c .before .loop .inv) (c .loop-test .taken)
+
+same-length : tie.Need-same-length Inv-loop μ-loop
+same-length c = c .before .loop .inv .kept
+
+returns : tie.Need-returns Inv-loop μ-loop
+returns c = storing-end _ _ _ _ _ _ _ (c .before .loop .inv) (c .loop-test .left) (c .before .before .pre)
+
+pub put-number-spec : {M : Type 1} → statement M
+put-number-spec =
+    tie.close
+    (tie.spec
+    Inv-loop
+    μ-loop
+    loop-holds
+    cast-row
+    add-row
+    slice-write-row
+    add-i
+    loop-less
+    loop-again
+    same-length
+    returns)

@@ -1,0 +1,9 @@
+-- What the row writer's answer means: for each case of the enum, document 01's number, as the model has it.
+use Rattle.model.specs.Row as Model
+use Rattle.row.specs.declared.RowAnswer.{RowAnswer}
+use Rattle.row.specs.declared.RowAnswer.the-variants.{Written, No}
+
+-- written, or the number of the refusal
+abbrev pub rowAnswerOf : RowAnswer → Model.RowAnswer
+rowAnswerOf Written = Model.Written
+rowAnswerOf (No k) = Model.RowNo k
