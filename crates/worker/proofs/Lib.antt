@@ -1,0 +1,2 @@
+pub mod Rep
+pub mod Ranges

@@ -1,0 +1,33 @@
+-- A local pool (document 01's term): "a count and at most 64 ranges".
+use mathlib.Core.Bool.{cond}
+use mathlib.Core.List.{List, [], _∷_}
+use Prim.Native.Nat.{ℕ, zero, suc, _+_}
+use lib.Dec.{ltb}
+use lib.ListN.{getD, set}
+use Rattle.model.specs.Store.{Range}
+use Rattle.worker.specs.declared.Pool.{Pool}
+
+-- the pool with one range more; unchanged where it is full
+abbrev pub appended : Pool → ℕ → ℕ → ℕ → Pool
+appended q slot low high =
+    let n : Pool =
+    record {
+      slots = set (q .slots) (q .len) slot;
+      lows = set (q .lows) (q .len) low;
+      highs = set (q .highs) (q .len) high;
+      len = q .len + 1;
+    } in
+    cond (ltb (q .len) 64) n q
+
+-- the i-th range of a pool
+abbrev pub rangeIn : Pool → ℕ → Range
+rangeIn q i = record { slot = getD (q .slots) i 0; low = getD (q .lows) i 0; high = getD (q .highs) i 0 }
+
+-- n ranges of a pool from the i-th on
+unfoldable pub rangesFrom : Pool → ℕ → ℕ → List Range
+rangesFrom q i zero = []
+rangesFrom q i (suc n) = rangeIn q i ∷ rangesFrom q (suc i) n
+
+-- the ranges of a pool: the first len
+abbrev pub rangesIn : Pool → List Range
+rangesIn q = rangesFrom q 0 (q .len)

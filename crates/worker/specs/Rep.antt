@@ -1,0 +1,92 @@
+-- How the model's worker stands in the types of this crate.
+use mathlib.Core.Bool.{cond}
+use mathlib.Core.List.{List, map}
+use Prim.Native.Nat.{ℕ}
+use lib.Dec.{ltb}
+use lib.ListN.{length, replicate}
+use Rattle.lists.specs.Over.{over}
+use Rattle.model.specs.Store as Model
+use Rattle.model.specs.Store.{Range, absent}
+use Rattle.values.specs.declared.Reading.{Reading}
+use Rattle.worker.specs.declared.Pool.{Pool}
+use Rattle.worker.specs.declared.Announced.{Announced}
+use Rattle.worker.specs.declared.Announced.the-variants.{Nothing, At}
+use Rattle.worker.specs.declared.Doing.{Doing}
+use Rattle.worker.specs.declared.Doing.the-variants.{
+  Idle,
+  PutPublish,
+  PutStamp,
+  PutHandIn,
+  FlushTake,
+  FlushRead,
+  FlushFree,
+  OpenAnnounce,
+  OpenPass,
+  ReadEnter,
+  ReadStand,
+  CloseWithdraw,
+  GetShow,
+}
+use Rattle.worker.specs.declared.Worker.{Worker}
+
+-- a list filled up with zeros to n entries
+unfoldable pub padded : ℕ → List ℕ → List ℕ
+padded n l = over l (replicate n 0)
+
+-- the ranges of a local pool: slots, lows and highs side by side, and how many they are
+abbrev pub poolRep : List Range → Pool
+poolRep l =
+    record {
+      slots = padded 64 (map (λ ρ. ρ .slot) l);
+      lows = padded 64 (map (λ ρ. ρ .low) l);
+      highs = padded 64 (map (λ ρ. ρ .high) l);
+      len = length l;
+    }
+
+-- an announced time or none
+abbrev pub announcedRep : ℕ → Announced
+announcedRep t = cond (ltb t absent) (At t) Nothing
+
+abbrev pub readingRep : Model.Reading → Reading
+readingRep x = record { count = x .count }
+
+-- of a merged list and of the needless ranges only how many they are
+abbrev pub doingRep : Model.Doing → Doing
+doingRep Model.Idle = Idle
+doingRep (Model.PutPublish r x) = PutPublish r (readingRep x)
+doingRep (Model.PutStamp r c) = PutStamp r c
+doingRep (Model.PutHandIn r c) = PutHandIn r c
+doingRep Model.FlushTake = FlushTake
+doingRep (Model.FlushRead m ts) = FlushRead (length m) (length ts)
+doingRep (Model.FlushFree m) = FlushFree (length m)
+doingRep Model.OpenAnnounce = OpenAnnounce
+doingRep Model.OpenPass = OpenPass
+doingRep (Model.ReadEnter r) = ReadEnter r
+doingRep (Model.ReadStand r c) = ReadStand r c
+doingRep Model.CloseWithdraw = CloseWithdraw
+doingRep (Model.GetShow r) = GetShow r
+
+-- the times that a flush has read; zeros in any other place
+abbrev pub timesRep : Model.Doing → List ℕ
+timesRep Model.Idle = replicate 16 0
+timesRep (Model.PutPublish r x) = replicate 16 0
+timesRep (Model.PutStamp r c) = replicate 16 0
+timesRep (Model.PutHandIn r c) = replicate 16 0
+timesRep Model.FlushTake = replicate 16 0
+timesRep (Model.FlushRead m ts) = padded 16 ts
+timesRep (Model.FlushFree m) = replicate 16 0
+timesRep Model.OpenAnnounce = replicate 16 0
+timesRep Model.OpenPass = replicate 16 0
+timesRep (Model.ReadEnter r) = replicate 16 0
+timesRep (Model.ReadStand r c) = replicate 16 0
+timesRep Model.CloseWithdraw = replicate 16 0
+timesRep (Model.GetShow r) = replicate 16 0
+
+abbrev pub workerRep : Model.Worker → Worker
+workerRep x =
+    record {
+      doing = doingRep (x .doing);
+      announced = announcedRep (x .announced);
+      pool = poolRep (x .pool);
+      times = timesRep (x .doing);
+    }

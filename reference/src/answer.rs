@@ -1,0 +1,111 @@
+//! Answers and refusals, with the numbers that document 01 gives them.
+
+use std::fmt;
+
+/// A refusal; its discriminant is the number in document 01's two tables.
+#[derive(Clone, Copy, Debug, PartialEq, Eq, PartialOrd, Ord, Hash)]
+#[repr(u8)]
+pub enum Refusal {
+    /// 1: operation above 7.
+    Operation = 1,
+    /// 2: an unused byte is not zero.
+    UnusedByte = 2,
+    /// 3: worker not below P.
+    Worker = 3,
+    /// 4: register not below V (256 for a read-out row).
+    Register = 4,
+    /// 5: setup outside its ranges.
+    Setup = 5,
+    /// 6: fewer than 16 bytes.
+    Length = 6,
+    /// 7: read-out buffer too short.
+    Buffer = 7,
+    /// 8: not set up.
+    NotSetUp = 8,
+    /// 9: setup when set up.
+    SetUp = 9,
+    /// 10: begin on a busy worker.
+    Busy = 10,
+    /// 11: step of an idle worker.
+    Idle = 11,
+    /// 12: open with a time announced.
+    Announced = 12,
+    /// 13: read or close with none announced.
+    NotAnnounced = 13,
+    /// 14: put's first step, every slot in some register's list.
+    NoFreeSlot = 14,
+    /// 15: open's first step, clock at its last value.
+    LastClock = 15,
+}
+
+impl Refusal {
+    /// All refusals, in the order of their numbers.
+    pub const ALL: [Refusal; 15] = [
+        Refusal::Operation,
+        Refusal::UnusedByte,
+        Refusal::Worker,
+        Refusal::Register,
+        Refusal::Setup,
+        Refusal::Length,
+        Refusal::Buffer,
+        Refusal::NotSetUp,
+        Refusal::SetUp,
+        Refusal::Busy,
+        Refusal::Idle,
+        Refusal::Announced,
+        Refusal::NotAnnounced,
+        Refusal::NoFreeSlot,
+        Refusal::LastClock,
+    ];
+
+    /// The refusal's number.
+    #[inline]
+    pub const fn number(self) -> u8 {
+        self as u8
+    }
+
+    /// The refusal with this number.
+    pub fn from_number(number: u64) -> Option<Refusal> {
+        let index = usize::try_from(number).ok()?.checked_sub(1)?;
+        Refusal::ALL.get(index).copied()
+    }
+
+    /// Is this met by a step that is taken (14 and 15), and not on reading a record?
+    pub const fn at_step(self) -> bool {
+        matches!(self, Refusal::NoFreeSlot | Refusal::LastClock)
+    }
+}
+
+/// What a record is answered; the log has one line for each.
+#[derive(Clone, Copy, Debug, PartialEq, Eq, Hash)]
+pub enum Answer {
+    /// Set up or begun.
+    Ok,
+    /// A step taken, the operation goes on.
+    Going,
+    /// A flush step that gave back this slot.
+    Freed(u16),
+    /// An open's answer: its time.
+    At(u32),
+    /// A get's or read's answer.
+    Value(u64),
+    /// The end of a put, close or collect.
+    Done,
+    /// Refused.
+    No(Refusal),
+}
+
+/// The words of the log.
+impl fmt::Display for Answer {
+    fn fmt(&self, f: &mut fmt::Formatter) -> fmt::Result {
+        match self {
+            Answer::Ok => write!(f, "ok"),
+            Answer::Going => write!(f, "going"),
+            Answer::Freed(slot) => write!(f, "freed {slot}"),
+            Answer::At(time) => write!(f, "at {time}"),
+            Answer::Value(value) => write!(f, "value {value}"),
+            Answer::Done => write!(f, "done"),
+            Answer::No(refusal) => write!(f, "no {}", refusal.number()),
+        }
+    }
+}

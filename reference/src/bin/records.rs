@@ -1,0 +1,45 @@
+//! Turns readable text into a record file and back; see the module `text` for the form.
+
+use reference::text;
+use std::error::Error;
+use std::io::{self, ErrorKind, Read, Write};
+use std::process::ExitCode;
+
+fn main() -> ExitCode {
+    match run() {
+        Ok(()) => ExitCode::SUCCESS,
+        Err(error) => {
+            eprintln!("records: {error}");
+            ExitCode::FAILURE
+        }
+    }
+}
+
+fn run() -> Result<(), Box<dyn Error>> {
+    let arguments: Vec<String> = std::env::args().skip(1).collect();
+    let (command, file) = match &arguments[..] {
+        [command] => (command.as_str(), None),
+        [command, file] => (command.as_str(), Some(file.as_str())),
+        _ => ("", None),
+    };
+    let output = match command {
+        "pack" => text::pack(&input(file)?)?,
+        "unpack" => text::unpack(&input(file)?).into_bytes(),
+        _ => return Err("usage: records pack|unpack [FILE]".into()),
+    };
+    let mut out = io::stdout().lock();
+    match out.write_all(&output).and_then(|()| out.flush()) {
+        Err(error) if error.kind() == ErrorKind::BrokenPipe => Ok(()),
+        result => Ok(result?),
+    }
+}
+
+/// The whole file, or standard input.
+fn input(file: Option<&str>) -> Result<Vec<u8>, Box<dyn Error>> {
+    let mut bytes = Vec::new();
+    match file {
+        Some(name) => bytes = std::fs::read(name).map_err(|error| format!("{name}: {error}"))?,
+        None => drop(io::stdin().lock().read_to_end(&mut bytes)?),
+    }
+    Ok(bytes)
+}

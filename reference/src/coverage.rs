@@ -1,0 +1,166 @@
+//! Which answers, refusals and branches of the steps a run reached.
+
+use crate::answer::{Answer, Refusal};
+use std::fmt;
+
+/// Told of each branch that a step takes. The empty observer `()` compiles to nothing.
+pub trait Observer {
+    /// Does the observer look at all? Branches that need work to tell apart are found only then.
+    const ON: bool;
+    fn branch(&mut self, branch: Branch);
+}
+
+impl Observer for () {
+    const ON: bool = false;
+    #[inline(always)]
+    fn branch(&mut self, _: Branch) {}
+}
+
+macro_rules! branches {
+    ($($name:ident $text:literal)*) => {
+        /// A branch of the steps.
+        #[derive(Clone, Copy, Debug, PartialEq, Eq)]
+        #[repr(usize)]
+        pub enum Branch { $(#[doc = $text] $name,)* }
+
+        impl Branch {
+            /// Every branch, with what it means.
+            pub const ALL: &'static [(Branch, &'static str)] = &[$((Branch::$name, $text),)*];
+        }
+    };
+}
+
+branches! {
+    PutRefused "put (1) meets no free slot"
+    PutPublishStamps "put (1) stamps an unstamped newest version"
+    PutPublishStampedAlready "put (1) finds the newest version stamped"
+    PutStamps "put (2) stamps its own version"
+    PutStampedAlready "put (2) finds the covered version's high closed"
+    PutLeavesOtherUnstamped "put (2) finds the high closed and leaves another put's version unstamped"
+    PutDone "put (3) leaves the local pool below B"
+    PutFlushes "put (3) fills the local pool and flushes"
+    PutOwnVersionFreed "put (3) after its own version was freed"
+    FlushTakesNone "flush (1) takes no pool"
+    FlushTakesOne "flush (1) takes one pool"
+    FlushTakesTwo "flush (1) takes two pools"
+    MergeEqualHighs "flush (1) merges two pools with an equal high"
+    FlushTime "flush (2) reads an announced time"
+    FlushNoTime "flush (2) reads no time"
+    RangeEndsAtTime "flush (3) meets a range whose high is a time read"
+    RangeStartsAtTime "flush (3) meets a range whose low is a time read"
+    RangeEmpty "flush (3) meets a range with low equal to high"
+    RangeBetweenTimes "flush (3) finds a range needless between two times"
+    SplitTwo "flush (3) queues the needed as two pools"
+    SplitTwoOdd "flush (3) halves an odd number"
+    SplitOne "flush (3) queues the needed as one pool"
+    SplitJoin "flush (3) merges needed ranges into the local pool"
+    SplitJoinNone "flush (3) has no needed range"
+    JoinEqualHighs "flush (3) merges local and needed with an equal high"
+    LocalQueued "flush (3) queues a local pool"
+    LocalEmpty "flush (3) has an empty local pool to queue"
+    NothingNeedless "flush (3) finds nothing needless"
+    FreeMiddle "flush (4) unlinks from the middle of a list"
+    FreeOldest "flush (4) unlinks the oldest of a list"
+    FreeMovesNoRead "flush (4) moves no read"
+    FreeMovesOneRead "flush (4) moves one read"
+    FreeMovesMoreReads "flush (4) moves several reads at once"
+    FlushDone "flush (5)"
+    CollectEmptyPool "collect begins its flush with an empty local pool"
+    CollectPool "collect begins its flush with ranges in the local pool"
+    OpenRefused "open (1) meets the last clock"
+    OpenAnnounces "open (1) announces"
+    OpenPasses "open (2) adds one to the clock"
+    OpenPassedAlready "open (2) finds the clock passed"
+    ReadStamps "read (1) stamps"
+    ReadStampedAlready "read (1) has nothing to stamp"
+    ReadFoundAtOnce "read (2) answers the version read (1) stood on"
+    ReadFound "read (2) answers after moving"
+    ReadMoves "read (2) moves to the older version"
+    GetStamps "get stamps"
+    GetStampedAlready "get has nothing to stamp"
+    Close "close withdraws"
+}
+
+/// Counts of everything a run reached.
+#[derive(Clone, Debug)]
+pub struct Coverage {
+    /// By kind: ok, going, freed, at, value, done.
+    pub answers: [u64; 6],
+    /// By refusal number; index 0 stays 0.
+    pub refusals: [u64; 16],
+    /// By branch.
+    pub branches: [u64; Branch::ALL.len()],
+}
+
+impl Default for Coverage {
+    fn default() -> Self {
+        Coverage { answers: [0; 6], refusals: [0; 16], branches: [0; Branch::ALL.len()] }
+    }
+}
+
+impl Observer for Coverage {
+    const ON: bool = true;
+    fn branch(&mut self, branch: Branch) {
+        self.branches[branch as usize] += 1;
+    }
+}
+
+impl Coverage {
+    const ANSWERS: [&'static str; 6] = ["ok", "going", "freed", "at", "value", "done"];
+
+    /// Counts an answer.
+    pub fn answered(&mut self, answer: Answer) {
+        let kind = match answer {
+            Answer::Ok => 0,
+            Answer::Going => 1,
+            Answer::Freed(_) => 2,
+            Answer::At(_) => 3,
+            Answer::Value(_) => 4,
+            Answer::Done => 5,
+            Answer::No(refusal) => {
+                self.refusals[usize::from(refusal.number())] += 1;
+                return;
+            }
+        };
+        self.answers[kind] += 1;
+    }
+
+    /// Adds another run's counts.
+    pub fn add(&mut self, other: &Coverage) {
+        fn each(to: &mut [u64], from: &[u64]) {
+            to.iter_mut().zip(from).for_each(|(to, from)| *to += from);
+        }
+        each(&mut self.answers, &other.answers);
+        each(&mut self.refusals, &other.refusals);
+        each(&mut self.branches, &other.branches);
+    }
+
+    /// Every count with its name. Refusal 7 is the row writer's and has no part in a log.
+    pub fn counts(&self) -> Vec<(String, u64)> {
+        let answers = Self::ANSWERS.iter().zip(self.answers);
+        let answers = answers.map(|(name, n)| (format!("answer {name}"), n));
+        let refusals = Refusal::ALL.iter().filter(|&&r| r != Refusal::Buffer);
+        let refusals = refusals.map(|r| {
+            let number = r.number();
+            (format!("no {number}"), self.refusals[usize::from(number)])
+        });
+        let branches = Branch::ALL.iter().zip(self.branches);
+        let branches = branches.map(|((_, text), n)| (text.to_string(), n));
+        answers.chain(refusals).chain(branches).collect()
+    }
+
+    /// What was never reached.
+    pub fn missing(&self) -> Vec<String> {
+        let counts = self.counts().into_iter();
+        counts.filter(|(_, n)| *n == 0).map(|(name, _)| name).collect()
+    }
+}
+
+impl fmt::Display for Coverage {
+    fn fmt(&self, f: &mut fmt::Formatter) -> fmt::Result {
+        for (name, n) in self.counts() {
+            writeln!(f, "{n:>12}  {name}")?;
+        }
+        Ok(())
+    }
+}

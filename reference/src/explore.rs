@@ -1,0 +1,246 @@
+//! Complete exploration of small hubs: every record of an alphabet in every reachable state.
+//!
+//! The clock only rises and ends at its last value, so that a hub set up near it has finitely
+//! many states. Each state carries the plain registers of demand 3; each new state is checked
+//! against the invariant, each record against demand 3 and the refusals.
+
+use crate::answer::Answer;
+use crate::fault::Fault;
+use crate::hub::Hub;
+use crate::invariant::{self, Ghost};
+use crate::pool::Range;
+use crate::record::Record;
+use crate::store::{Doing, Store};
+use std::collections::HashSet;
+use std::hash::{BuildHasherDefault, Hasher};
+
+/// The hub to explore: its setup and the values that puts may bring.
+#[derive(Clone, Copy, Debug)]
+pub struct Size {
+    pub workers: u8,
+    pub registers: u16,
+    pub slots: u16,
+    pub clock: u32,
+    pub values: &'static [u64],
+}
+
+/// What an exploration went through.
+#[derive(Clone, Copy, Debug, Default, PartialEq, Eq)]
+pub struct Explored {
+    pub states: usize,
+    pub records: usize,
+}
+
+/// Explores all that can be reached; an error says what failed, and in which state. A hub with a
+/// fault breaks the invariant soon; without `invariants` only demand 3 and the refusals count.
+pub fn explore<F: Fault + Clone>(size: Size, invariants: bool) -> Result<Explored, String> {
+    let mut hub = Hub::<F>::with_row(usize::from(size.slots));
+    let Size { workers, registers, slots, clock, .. } = size;
+    let setup = Record::Setup { workers, registers, slots, clock };
+    if hub.take_record(setup) != Answer::Ok {
+        return Err(format!("{setup:?} is refused"));
+    }
+    let ghost = Ghost::start(store(&hub));
+    let alphabet = alphabet(size);
+    let coder = Coder::new::<F>(size);
+    let mut seen: HashSet<Box<[u8]>, BuildHasherDefault<Mix>> = HashSet::default();
+    let mut code = Vec::new();
+    let mut next_code = Vec::new();
+    coder.encode(store(&hub), &ghost, &mut code);
+    seen.insert(code.as_slice().into());
+    let mut open = vec![(hub, ghost)];
+    let mut explored = Explored { states: 1, records: 0 };
+    while let Some((hub, ghost)) = open.pop() {
+        coder.encode(store(&hub), &ghost, &mut code);
+        let mut next = hub.clone();
+        for &record in &alphabet {
+            let failed = |reason| format!("{reason}\nat {record:?} in {:?}", store(&hub));
+            let answer = next.take_record(record);
+            explored.records += 1;
+            let mut next_ghost = ghost.clone();
+            next_ghost.follow(store(&hub), record, answer, store(&next)).map_err(failed)?;
+            coder.encode(store(&next), &next_ghost, &mut next_code);
+            if matches!(answer, Answer::No(refusal) if !refusal.at_step()) {
+                if code != next_code {
+                    return Err(failed("a refused record changes the store".to_string()));
+                }
+                // Unchanged, so it serves for the next record too.
+                continue;
+            }
+            if !seen.contains(next_code.as_slice()) {
+                if invariants {
+                    invariant::check(store(&next)).map_err(failed)?;
+                    next_ghost.check(store(&next)).map_err(failed)?;
+                }
+                seen.insert(next_code.as_slice().into());
+                explored.states += 1;
+                open.push((next, next_ghost));
+            }
+            next = hub.clone();
+        }
+    }
+    Ok(explored)
+}
+
+fn store<F: Fault>(hub: &Hub<F>) -> &Store {
+    hub.store().expect("set up")
+}
+
+/// Every record whose fields fit, with the values of the alphabet.
+fn alphabet(size: Size) -> Vec<Record> {
+    let mut records = Vec::new();
+    for worker in 0..size.workers {
+        records.push(Record::Step { worker });
+        records.push(Record::Open { worker });
+        records.push(Record::Close { worker });
+        records.push(Record::Collect { worker });
+        for register in 0..size.registers {
+            records.push(Record::Read { worker, register });
+            records.push(Record::Get { worker, register });
+            let put = |&value| Record::Put { worker, register, value };
+            records.extend(size.values.iter().map(put));
+        }
+    }
+    records
+}
+
+/// Writes a state as bytes, one string for each state that can behave differently: what no later
+/// step looks at is left out.
+struct Coder {
+    base: u32,
+    values: &'static [u64],
+    /// Contents of free slots matter (to a fault only).
+    freed_slots: bool,
+    /// Puts' own versions matter (to a fault only).
+    own_versions: bool,
+    /// A flush has its times before its pools (with a fault only).
+    times_first: bool,
+}
+
+impl Coder {
+    const NONE: u8 = 255;
+
+    fn new<F: Fault>(size: Size) -> Coder {
+        Coder {
+            base: size.clock,
+            values: size.values,
+            freed_slots: F::LEAVE_READ,
+            own_versions: F::COVERING_LOW,
+            times_first: F::TIMES_FIRST,
+        }
+    }
+
+    /// Times are 0, or from the starting clock on.
+    fn time(&self, time: Option<u32>) -> u8 {
+        match time {
+            None => Coder::NONE,
+            Some(0) => 254,
+            Some(time) => u8::try_from(time - self.base).expect("few times"),
+        }
+    }
+
+    /// Values are 0 or of the alphabet.
+    fn value(&self, value: u64) -> u8 {
+        let place = self.values.iter().position(|&known| known == value);
+        place.map_or(0, |place| place as u8 + 1)
+    }
+
+    fn range(&self, range: &Range, code: &mut Vec<u8>) {
+        code.extend([range.slot as u8, self.time(Some(range.low)), self.time(Some(range.high))]);
+    }
+
+    fn ranges(&self, ranges: &[Range], code: &mut Vec<u8>) {
+        code.push(ranges.len() as u8);
+        ranges.iter().for_each(|range| self.range(range, code));
+    }
+
+    fn encode(&self, store: &Store, ghost: &Ghost, code: &mut Vec<u8>) {
+        code.clear();
+        code.push(self.time(Some(store.clock)));
+        code.push(store.free.len() as u8);
+        code.extend(store.free.iter().map(|&slot| slot as u8));
+        code.extend(store.newest.iter().map(|&slot| slot as u8));
+        for (index, slot) in store.slots.iter().enumerate() {
+            if self.freed_slots || !store.free.contains(&(index as u16)) {
+                let link = |link: Option<u16>| link.map_or(Coder::NONE, |slot| slot as u8);
+                code.extend([self.value(slot.value), self.time(slot.low), self.time(slot.high)]);
+                code.extend([link(slot.older), link(slot.newer)]);
+            }
+        }
+        code.push(store.queue.len() as u8);
+        store.queue.pools().for_each(|pool| self.ranges(pool, code));
+        for worker in &store.workers {
+            code.push(self.time(worker.announced));
+            self.ranges(&worker.local, code);
+            self.doing(worker.doing, code);
+            let (times, pools) = match worker.doing {
+                Doing::FlushTake => (self.times_first, false),
+                Doing::FlushTimes { .. } => (true, !self.times_first),
+                Doing::FlushSplit => (true, true),
+                _ => (false, false),
+            };
+            if times {
+                code.push(worker.times.len() as u8);
+                code.extend(worker.times.iter().map(|&time| self.time(Some(time))));
+            }
+            if pools {
+                self.ranges(&worker.merged, code);
+            }
+            if let Doing::FlushFree { next } = worker.doing {
+                self.ranges(&worker.merged[usize::from(next)..], code);
+            }
+        }
+        code.extend(ghost.registers.iter().map(|&value| self.value(value)));
+        for copy in &ghost.copies {
+            match copy {
+                Some(copy) => code.extend(copy.iter().map(|&value| self.value(value))),
+                None => code.push(Coder::NONE),
+            }
+        }
+        code.extend(ghost.reading.iter().map(|r| r.map_or(Coder::NONE, |r| r as u8)));
+    }
+
+    fn doing(&self, doing: Doing, code: &mut Vec<u8>) {
+        let own_version = |own: u16| if self.own_versions { own as u8 } else { Coder::NONE };
+        match doing {
+            Doing::Idle => code.push(0),
+            Doing::PutPublish { register, value } => {
+                code.extend([1, register as u8, self.value(value)]);
+            }
+            Doing::PutStamp { register, covered, own } => {
+                code.extend([2, register as u8, covered as u8, own_version(own)]);
+            }
+            Doing::PutHandIn { covered, own } => code.extend([3, covered as u8, own_version(own)]),
+            Doing::FlushTake => code.push(4),
+            Doing::FlushTimes { next } => code.extend([5, next]),
+            Doing::FlushSplit => code.push(6),
+            // The list that follows says how much is left.
+            Doing::FlushFree { .. } => code.push(7),
+            Doing::OpenAnnounce => code.push(8),
+            Doing::OpenPass => code.push(9),
+            Doing::ReadStart { register } => code.extend([10, register as u8]),
+            Doing::ReadAt { slot, .. } => code.extend([11, slot as u8]),
+            Doing::Get { register } => code.extend([12, register as u8]),
+            Doing::Close => code.push(13),
+        }
+    }
+}
+
+/// A quick hash of byte strings.
+#[derive(Default)]
+struct Mix(u64);
+
+impl Hasher for Mix {
+    fn write(&mut self, bytes: &[u8]) {
+        for chunk in bytes.chunks(8) {
+            let mut word = [0; 8];
+            word[..chunk.len()].copy_from_slice(chunk);
+            let mixed = (self.0 ^ u64::from_le_bytes(word)).wrapping_mul(0x9e37_79b9_7f4a_7c15);
+            self.0 = mixed ^ mixed >> 29;
+        }
+    }
+
+    fn finish(&self) -> u64 {
+        self.0.wrapping_mul(0xbf58_476d_1ce4_e5b9) ^ self.0 >> 32
+    }
+}

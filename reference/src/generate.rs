@@ -1,0 +1,448 @@
+//! Seeded random scripts. A kind says what a script has much of; the hub runs alongside, so that
+//! most records are accepted and the rest are refused on purpose.
+
+use crate::hub::Hub;
+use crate::record::{Record, LAST_OPERATION, LENGTH};
+use crate::store::{Doing, Store, LAST_CLOCK, MAX_REGISTERS, MAX_SLOTS, MAX_WORKERS};
+
+/// A small random number generator (splitmix64).
+#[derive(Clone, Debug)]
+pub struct Random(u64);
+
+impl Random {
+    pub fn new(seed: u64) -> Random {
+        Random(seed)
+    }
+
+    /// Any 64 bits.
+    pub fn bits(&mut self) -> u64 {
+        self.0 = self.0.wrapping_add(0x9e37_79b9_7f4a_7c15);
+        let mut z = self.0;
+        z = (z ^ (z >> 30)).wrapping_mul(0xbf58_476d_1ce4_e5b9);
+        z = (z ^ (z >> 27)).wrapping_mul(0x94d0_49bb_1331_11eb);
+        z ^ (z >> 31)
+    }
+
+    /// A number below `bound`, which is not 0.
+    pub fn below(&mut self, bound: u64) -> u64 {
+        ((u128::from(self.bits()) * u128::from(bound)) >> 64) as u64
+    }
+
+    /// A number from `low` to `high`, both included.
+    pub fn between(&mut self, low: u64, high: u64) -> u64 {
+        low + self.below(high - low + 1)
+    }
+
+    /// True in so many of a thousand.
+    pub fn chance(&mut self, permille: u64) -> bool {
+        self.below(1000) < permille
+    }
+
+    /// One of these.
+    pub fn pick<T: Copy>(&mut self, from: &[T]) -> T {
+        from[self.below(from.len() as u64) as usize]
+    }
+
+    /// An index, each as often as its weight.
+    pub fn weighted(&mut self, weights: &[u64]) -> usize {
+        let mut rest = self.below(weights.iter().sum());
+        for (index, &weight) in weights.iter().enumerate() {
+            if rest < weight {
+                return index;
+            }
+            rest -= weight;
+        }
+        unreachable!("the rest is below the sum")
+    }
+}
+
+/// What a script has much of.
+#[derive(Clone, Copy, Debug, PartialEq, Eq, Hash)]
+pub enum Kind {
+    /// Any bytes at all.
+    Uniform,
+    /// A bit of everything.
+    Mixed,
+    /// Hardly more slots than registers.
+    Slots,
+    /// A clock near its end.
+    Clock,
+    /// Snapshots that stay open for long.
+    Snapshots,
+    /// Many collects.
+    Collects,
+    /// Slow reads while versions are freed under them.
+    Reads,
+    /// Setups when set up.
+    Setups,
+    /// A rest of a record at the end.
+    Tails,
+    /// Every refusal on reading, often several reasons at once.
+    Invalid,
+    /// The largest hub.
+    Large,
+    /// One or two workers, so that every put or two flushes.
+    Batches,
+    /// Workers that stop in the middle of a put or flush for long.
+    Stalled,
+}
+
+impl Kind {
+    pub const ALL: [(Kind, &'static str); 13] = [
+        (Kind::Uniform, "uniform"),
+        (Kind::Mixed, "mixed"),
+        (Kind::Slots, "slots"),
+        (Kind::Clock, "clock"),
+        (Kind::Snapshots, "snapshots"),
+        (Kind::Collects, "collects"),
+        (Kind::Reads, "reads"),
+        (Kind::Setups, "setups"),
+        (Kind::Tails, "tails"),
+        (Kind::Invalid, "invalid"),
+        (Kind::Large, "large"),
+        (Kind::Batches, "batches"),
+        (Kind::Stalled, "stalled"),
+    ];
+
+    /// The kind with this name.
+    pub fn named(name: &str) -> Option<Kind> {
+        let found = Kind::ALL.iter().find(|(_, kind_name)| *kind_name == name);
+        found.map(|(kind, _)| *kind)
+    }
+}
+
+/// Weights of the operations that an idle worker may begin.
+#[derive(Clone, Copy, Debug)]
+struct Weights {
+    put: u64,
+    open: u64,
+    read: u64,
+    close: u64,
+    get: u64,
+    collect: u64,
+}
+
+/// The sizes and habits of a kind. Pairs are lowest and highest; rates are of a thousand.
+#[derive(Clone, Copy, Debug)]
+struct Profile {
+    workers: (u64, u64),
+    registers: (u64, u64),
+    /// Slots beyond one for each register.
+    spare: (u64, u64),
+    clock: (u64, u64),
+    weights: Weights,
+    /// Most steps that a worker takes in a row.
+    burst: u64,
+    /// Refused on purpose.
+    invalid: u64,
+    /// Setups among them.
+    setup: u64,
+    /// A busy worker falls still after a step.
+    stall: u64,
+    /// A read falls still after a step.
+    stall_read: u64,
+    /// Longest stillness, in records.
+    stillness: u64,
+}
+
+const MIXED: Profile = Profile {
+    workers: (1, 16),
+    registers: (1, 8),
+    spare: (0, 60),
+    clock: (1, 1000),
+    weights: Weights { put: 40, open: 12, read: 20, close: 8, get: 10, collect: 6 },
+    burst: 6,
+    invalid: 20,
+    setup: 5,
+    stall: 10,
+    stall_read: 30,
+    stillness: 200,
+};
+
+impl Profile {
+    fn of(kind: Kind) -> Profile {
+        let last = u64::from(LAST_CLOCK);
+        match kind {
+            Kind::Uniform | Kind::Mixed | Kind::Tails => MIXED,
+            Kind::Slots => Profile {
+                workers: (1, 4),
+                registers: (1, 4),
+                spare: (0, 5),
+                weights: Weights { put: 60, open: 8, read: 10, close: 6, get: 6, collect: 16 },
+                ..MIXED
+            },
+            Kind::Clock => Profile {
+                workers: (1, 4),
+                registers: (1, 3),
+                spare: (1, 12),
+                clock: (last - 12, last),
+                weights: Weights { put: 30, open: 30, read: 15, close: 25, get: 5, collect: 8 },
+                ..MIXED
+            },
+            Kind::Snapshots => Profile {
+                workers: (1, 4),
+                registers: (2, 16),
+                spare: (10, 120),
+                weights: Weights { put: 70, open: 12, read: 12, close: 2, get: 3, collect: 6 },
+                ..MIXED
+            },
+            Kind::Collects => Profile {
+                workers: (1, 4),
+                registers: (1, 4),
+                spare: (2, 20),
+                weights: Weights { put: 40, open: 10, read: 10, close: 8, get: 4, collect: 40 },
+                ..MIXED
+            },
+            Kind::Reads => Profile {
+                workers: (2, 6),
+                registers: (1, 2),
+                spare: (4, 24),
+                weights: Weights { put: 40, open: 14, read: 40, close: 6, get: 2, collect: 24 },
+                stall_read: 500,
+                stillness: 120,
+                ..MIXED
+            },
+            Kind::Setups => Profile { invalid: 200, setup: 800, ..MIXED },
+            Kind::Invalid => Profile { invalid: 500, setup: 60, ..MIXED },
+            Kind::Large => Profile {
+                workers: (16, 16),
+                registers: (256, 256),
+                spare: (2048 - 256, 2048 - 256),
+                weights: Weights { put: 60, open: 10, read: 20, close: 8, get: 6, collect: 2 },
+                invalid: 5,
+                burst: 12,
+                ..MIXED
+            },
+            Kind::Batches => Profile {
+                workers: (1, 2),
+                registers: (1, 6),
+                spare: (2, 30),
+                weights: Weights { put: 60, open: 10, read: 8, close: 8, get: 4, collect: 6 },
+                ..MIXED
+            },
+            Kind::Stalled => Profile {
+                workers: (2, 4),
+                registers: (1, 2),
+                spare: (2, 10),
+                weights: Weights { put: 50, open: 16, read: 12, close: 14, get: 2, collect: 24 },
+                stall: 120,
+                stall_read: 120,
+                stillness: 150,
+                ..MIXED
+            },
+        }
+    }
+}
+
+/// A script of `count` records, the last one maybe short.
+pub fn script(kind: Kind, seed: u64, count: usize) -> Vec<u8> {
+    let mut random = Random::new(seed ^ (kind as u64) << 56);
+    let mut file = Vec::with_capacity(count * LENGTH);
+    if kind == Kind::Uniform {
+        file.extend((0..count * LENGTH).map(|_| random.bits() as u8));
+    } else {
+        Writer::new(kind, &mut random).write(&mut file, count, &mut random);
+    }
+    let tail = match kind {
+        Kind::Tails => true,
+        Kind::Uniform => random.chance(500),
+        _ => random.chance(20),
+    };
+    if tail && !file.is_empty() {
+        file.truncate(file.len() - random.between(1, LENGTH as u64 - 1) as usize);
+    }
+    file
+}
+
+/// Writes one script, with the hub beside it.
+struct Writer {
+    profile: Profile,
+    hub: Hub,
+    workers: u64,
+    registers: u64,
+    setup: Record,
+    /// For each worker, up to which record it is still.
+    still: [usize; MAX_WORKERS],
+}
+
+impl Writer {
+    fn new(kind: Kind, random: &mut Random) -> Writer {
+        let profile = Profile::of(kind);
+        let mut from = |(low, high)| random.between(low, high);
+        let (workers, registers) = (from(profile.workers), from(profile.registers));
+        let slots = registers + from(profile.spare);
+        let clock = from(profile.clock);
+        Writer {
+            profile,
+            hub: Hub::new(),
+            workers,
+            registers,
+            setup: Record::Setup {
+                workers: workers as u8,
+                registers: registers as u16,
+                slots: slots as u16,
+                clock: clock as u32,
+            },
+            still: [0; MAX_WORKERS],
+        }
+    }
+
+    fn write(&mut self, file: &mut Vec<u8>, count: usize, random: &mut Random) {
+        let mut burst: Option<(u8, u64)> = None;
+        for place in 0..count {
+            let bytes = if self.hub.store().is_none() && random.chance(700) {
+                self.setup.encode()
+            } else if self.hub.store().is_none() || random.chance(self.profile.invalid) {
+                self.refused(random)
+            } else {
+                let worker = match burst.take() {
+                    Some((worker, left)) if left > 0 => {
+                        burst = Some((worker, left - 1));
+                        worker
+                    }
+                    _ => {
+                        let worker = self.awake(place, random);
+                        burst = Some((worker, random.below(self.profile.burst)));
+                        worker
+                    }
+                };
+                self.accepted(worker, random).encode()
+            };
+            self.hub.take(&bytes);
+            if bytes[0] == LAST_OPERATION && self.falls_still(bytes[1], place, random) {
+                burst = None;
+            }
+            file.extend_from_slice(&bytes);
+        }
+    }
+
+    fn store(&self) -> &Store {
+        self.hub.store().expect("set up")
+    }
+
+    /// A worker that is not still, or any after some tries.
+    fn awake(&mut self, place: usize, random: &mut Random) -> u8 {
+        let mut worker = random.below(self.workers);
+        for _ in 0..8 {
+            if self.still[worker as usize] <= place {
+                break;
+            }
+            worker = random.below(self.workers);
+        }
+        worker as u8
+    }
+
+    /// After a step: does a worker that is still busy fall still?
+    fn falls_still(&mut self, worker: u8, place: usize, random: &mut Random) -> bool {
+        let Some(store) = self.hub.store() else { return false };
+        let Some(record) = store.workers.get(usize::from(worker)) else { return false };
+        let rate = match record.doing {
+            Doing::Idle => return false,
+            Doing::ReadAt { .. } => self.profile.stall_read,
+            _ => self.profile.stall,
+        };
+        let falls = random.chance(rate);
+        if falls {
+            self.still[usize::from(worker)] =
+                place + random.between(1, self.profile.stillness) as usize;
+        }
+        falls
+    }
+
+    /// A record that the worker's state allows.
+    fn accepted(&mut self, worker: u8, random: &mut Random) -> Record {
+        let record = &self.store().workers[usize::from(worker)];
+        if record.doing != Doing::Idle {
+            return Record::Step { worker };
+        }
+        let Weights { put, open, read, close, get, collect } = self.profile.weights;
+        let snapshot = record.announced.is_some();
+        let weights = [
+            put,
+            if snapshot { 0 } else { open },
+            if snapshot { read } else { 0 },
+            if snapshot { close } else { 0 },
+            get,
+            collect,
+        ];
+        let register = random.below(self.registers) as u16;
+        match random.weighted(&weights) {
+            0 => Record::Put { worker, register, value: value(random) },
+            1 => Record::Open { worker },
+            2 => Record::Read { worker, register },
+            3 => Record::Close { worker },
+            4 => Record::Get { worker, register },
+            _ => Record::Collect { worker },
+        }
+    }
+
+    /// A record with one reason or more to be refused (now and then with none).
+    fn refused(&mut self, random: &mut Random) -> [u8; LENGTH] {
+        let worker = random.below(self.workers) as u8;
+        let register = random.below(self.registers) as u16;
+        if random.chance(self.profile.setup) {
+            return self.any_setup(random).encode();
+        }
+        let mut bytes = match random.below(8) {
+            0 => self.any_setup(random),
+            1 => Record::Put { worker, register, value: value(random) },
+            2 => Record::Open { worker },
+            3 => Record::Read { worker, register },
+            4 => Record::Close { worker },
+            5 => Record::Get { worker, register },
+            6 => Record::Collect { worker },
+            _ => Record::Step { worker },
+        }
+        .encode();
+        // Half of these only meet the state: busy or idle, a time or none.
+        if random.chance(500) {
+            for _ in 0..random.between(1, 3) {
+                self.spoil(&mut bytes, random);
+            }
+        }
+        bytes
+    }
+
+    /// Gives a record one more reason to be refused.
+    fn spoil(&self, bytes: &mut [u8; LENGTH], random: &mut Random) {
+        let past = |random: &mut Random, bound: u64, most: u64| match random.below(3) {
+            0 => bound.min(most),
+            1 => random.between(bound.min(most), most),
+            _ => most,
+        };
+        match random.below(4) {
+            0 => bytes[0] = past(random, u64::from(LAST_OPERATION) + 1, 255) as u8,
+            1 => bytes[random.between(2, 15) as usize] |= 1 << random.below(8),
+            2 => bytes[1] = past(random, self.workers, 255) as u8,
+            _ => {
+                let register = past(random, self.registers, 65535) as u16;
+                bytes[2..4].copy_from_slice(&register.to_le_bytes());
+            }
+        }
+    }
+
+    /// The script's setup, or one with a field at or past a bound.
+    fn any_setup(&self, random: &mut Random) -> Record {
+        let Record::Setup { mut workers, mut registers, mut slots, mut clock } = self.setup else {
+            unreachable!("a setup")
+        };
+        match random.below(6) {
+            0 => workers = random.pick(&[0, MAX_WORKERS as u8 + 1, 255]),
+            1 => registers = random.pick(&[0, MAX_REGISTERS + 1, 65535]),
+            2 => slots = random.pick(&[0, registers - 1, MAX_SLOTS + 1, 65535]),
+            3 => clock = 0,
+            4 => (workers, registers, slots, clock) = (0, 0, 0, 0),
+            _ => {}
+        }
+        Record::Setup { workers, registers, slots, clock }
+    }
+}
+
+/// Mostly small values that can be told apart, sometimes any or the largest.
+fn value(random: &mut Random) -> u64 {
+    match random.below(16) {
+        0 => random.bits(),
+        1 => u64::MAX,
+        _ => random.between(1, 999_999),
+    }
+}

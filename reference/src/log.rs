@@ -1,0 +1,195 @@
+//! The log: the text of a line, both ways, and the run from records to lines.
+
+use crate::answer::{Answer, Refusal};
+use crate::coverage::Observer;
+use crate::fault::Fault;
+use crate::hub::Hub;
+use crate::record;
+use std::io::{self, Read, Write};
+
+/// Bytes read at a time: 4096 records.
+const PIECE: usize = 4096 * record::LENGTH;
+
+/// A count kept as its decimal digits, so that each line only adds one.
+#[derive(Clone, Debug)]
+pub struct Decimal {
+    digits: [u8; 20],
+    start: usize,
+}
+
+impl Default for Decimal {
+    fn default() -> Decimal {
+        Decimal { digits: [b'0'; 20], start: 19 }
+    }
+}
+
+impl Decimal {
+    /// The digits, most significant first.
+    #[inline]
+    pub fn digits(&self) -> &[u8] {
+        &self.digits[self.start..]
+    }
+
+    /// Adds one.
+    #[inline]
+    pub fn increment(&mut self) {
+        let mut place = self.digits.len() - 1;
+        while self.digits[place] == b'9' {
+            self.digits[place] = b'0';
+            place -= 1;
+        }
+        self.digits[place] += 1;
+        self.start = self.start.min(place);
+    }
+}
+
+/// Appends a number in decimal.
+fn append_number(text: &mut Vec<u8>, mut number: u64) {
+    let mut digits = [0; 20];
+    let mut start = digits.len();
+    loop {
+        start -= 1;
+        digits[start] = b'0' + (number % 10) as u8;
+        number /= 10;
+        if number == 0 {
+            break;
+        }
+    }
+    text.extend_from_slice(&digits[start..]);
+}
+
+/// Appends an answer's words; `Display` has the same, more slowly.
+#[inline]
+pub fn append_answer(text: &mut Vec<u8>, answer: Answer) {
+    let (words, number): (&[u8], u64) = match answer {
+        Answer::Ok => return text.extend_from_slice(b"ok"),
+        Answer::Going => return text.extend_from_slice(b"going"),
+        Answer::Done => return text.extend_from_slice(b"done"),
+        Answer::Freed(slot) => (b"freed ", u64::from(slot)),
+        Answer::At(time) => (b"at ", u64::from(time)),
+        Answer::Value(value) => (b"value ", value),
+        Answer::No(refusal) => (b"no ", u64::from(refusal.number())),
+    };
+    text.extend_from_slice(words);
+    append_number(text, number);
+}
+
+/// Appends one line: the record's number, a space, the answer's words.
+#[inline]
+pub fn append_line(text: &mut Vec<u8>, number: &Decimal, answer: Answer) {
+    text.extend_from_slice(number.digits());
+    text.push(b' ');
+    append_answer(text, answer);
+    text.push(b'\n');
+}
+
+/// A number written as the log writes it: decimal digits without a leading zero.
+fn parse_number(text: &str) -> Option<u64> {
+    let plain = text.bytes().all(|b| b.is_ascii_digit());
+    let leading_zero = text.len() > 1 && text.starts_with('0');
+    (plain && !leading_zero).then(|| text.parse().ok()).flatten()
+}
+
+/// Reads an answer's words.
+pub fn parse_answer(words: &str) -> Option<Answer> {
+    Some(match words.split_once(' ') {
+        None => match words {
+            "ok" => Answer::Ok,
+            "going" => Answer::Going,
+            "done" => Answer::Done,
+            _ => return None,
+        },
+        Some((word, number)) => {
+            let number = parse_number(number)?;
+            match word {
+                "freed" => Answer::Freed(number.try_into().ok()?),
+                "at" => Answer::At(number.try_into().ok()?),
+                "value" => Answer::Value(number),
+                "no" => Answer::No(Refusal::from_number(number)?),
+                _ => return None,
+            }
+        }
+    })
+}
+
+/// Reads a whole log; the lines must be numbered from 0. An error says which line and why.
+pub fn parse_log(text: &str) -> Result<Vec<Answer>, String> {
+    let lines = text.lines().enumerate();
+    lines
+        .map(|(expected, line)| {
+            let (number, words) = line.split_once(' ').unwrap_or((line, ""));
+            if parse_number(number) != Some(expected as u64) {
+                return Err(format!(
+                    "log line {expected} does not begin with its number: {line:?}"
+                ));
+            }
+            parse_answer(words)
+                .ok_or_else(|| format!("log line {expected} has no answer of a log: {line:?}"))
+        })
+        .collect()
+}
+
+/// The answers to a whole file: sixteen bytes a record, a rest of 1 to 15 bytes as one more.
+pub fn answers<F: Fault, O: Observer>(hub: &mut Hub<F, O>, file: &[u8]) -> Vec<Answer> {
+    file.chunks(record::LENGTH).map(|bytes| hub.take(bytes)).collect()
+}
+
+/// The log of a whole file, as text.
+pub fn log_text(answers: &[Answer]) -> Vec<u8> {
+    let mut text = Vec::new();
+    let mut number = Decimal::default();
+    for &answer in answers {
+        append_line(&mut text, &number, answer);
+        number.increment();
+    }
+    text
+}
+
+/// Fills the buffer from `from` on as far as one read goes; 0 at the end of the input.
+fn read_some(input: &mut impl Read, buffer: &mut [u8]) -> io::Result<usize> {
+    loop {
+        match input.read(buffer) {
+            Err(error) if error.kind() == io::ErrorKind::Interrupted => {}
+            result => return result,
+        }
+    }
+}
+
+/// Reads records in pieces of any size and writes the log; each piece's lines go out before the
+/// next is read. `each` sees every answer.
+pub fn run<F: Fault, O: Observer>(
+    hub: &mut Hub<F, O>,
+    input: &mut impl Read,
+    output: &mut impl Write,
+    mut each: impl FnMut(&mut Hub<F, O>, Answer),
+) -> io::Result<()> {
+    let mut buffer = vec![0; PIECE];
+    let mut text = Vec::with_capacity(PIECE);
+    let mut number = Decimal::default();
+    let mut held = 0;
+    loop {
+        let got = read_some(input, &mut buffer[held..])?;
+        let filled = held + got;
+        let mut records = buffer[..filled].chunks_exact(record::LENGTH);
+        for bytes in &mut records {
+            let answer = hub.take(bytes);
+            each(hub, answer);
+            append_line(&mut text, &number, answer);
+            number.increment();
+        }
+        let rest = records.remainder();
+        if got == 0 && !rest.is_empty() {
+            let answer = hub.take(rest);
+            each(hub, answer);
+            append_line(&mut text, &number, answer);
+        }
+        output.write_all(&text)?;
+        output.flush()?;
+        text.clear();
+        if got == 0 {
+            return Ok(());
+        }
+        held = rest.len();
+        buffer.copy_within(filled - held..filled, 0);
+    }
+}

@@ -1,0 +1,100 @@
+//! Records of sixteen bytes: decoding with the refusals 6, 1 and 2, encoding.
+
+use crate::answer::Refusal;
+
+/// Bytes in a record.
+pub const LENGTH: usize = 16;
+
+/// The highest operation number in use; above it is refusal 1.
+pub const LAST_OPERATION: u8 = 7;
+
+/// A record whose bytes are well formed. Whether its fields fit the hub is the hub's question.
+#[derive(Clone, Copy, Debug, PartialEq, Eq, Hash)]
+pub enum Record {
+    Setup { workers: u8, registers: u16, slots: u16, clock: u32 },
+    Put { worker: u8, register: u16, value: u64 },
+    Open { worker: u8 },
+    Read { worker: u8, register: u16 },
+    Close { worker: u8 },
+    Get { worker: u8, register: u16 },
+    Collect { worker: u8 },
+    Step { worker: u8 },
+}
+
+/// For each operation, the bytes it does not use, as masks over the two halves of a record.
+const UNUSED: [(u64, u64); LAST_OPERATION as usize + 1] = {
+    const WORKER_ONLY: (u64, u64) = (!0xffff, !0);
+    const WORKER_REGISTER: (u64, u64) = (!0xffff_ffff, !0);
+    [
+        (!0xffff_ffff_ffff, !0xffff_ffff), // setup: bytes 0 to 5 and 8 to 11
+        (!0xffff_ffff, 0),                 // put: bytes 0 to 3 and 8 to 15
+        WORKER_ONLY,                       // open
+        WORKER_REGISTER,                   // read
+        WORKER_ONLY,                       // close
+        WORKER_REGISTER,                   // get
+        WORKER_ONLY,                       // collect
+        WORKER_ONLY,                       // step
+    ]
+};
+
+impl Record {
+    /// Decodes the first sixteen bytes; refusals 6, 1 and 2 in this order.
+    #[inline]
+    pub fn decode(bytes: &[u8]) -> Result<Record, Refusal> {
+        let Some((bytes, _)) = bytes.split_first_chunk::<LENGTH>() else {
+            return Err(Refusal::Length);
+        };
+        let bits = u128::from_le_bytes(*bytes);
+        let (first, second) = (bits as u64, (bits >> 64) as u64);
+        let operation = first as u8;
+        let Some(&(unused_first, unused_second)) = UNUSED.get(operation as usize) else {
+            return Err(Refusal::Operation);
+        };
+        if (first & unused_first) | (second & unused_second) != 0 {
+            return Err(Refusal::UnusedByte);
+        }
+        let worker = (first >> 8) as u8;
+        let register = (first >> 16) as u16;
+        Ok(match operation {
+            0 => Record::Setup {
+                workers: worker,
+                registers: register,
+                slots: (first >> 32) as u16,
+                clock: second as u32,
+            },
+            1 => Record::Put { worker, register, value: second },
+            2 => Record::Open { worker },
+            3 => Record::Read { worker, register },
+            4 => Record::Close { worker },
+            5 => Record::Get { worker, register },
+            6 => Record::Collect { worker },
+            _ => Record::Step { worker },
+        })
+    }
+
+    /// The record's sixteen bytes.
+    pub fn encode(self) -> [u8; LENGTH] {
+        let mut bytes = [0; LENGTH];
+        let (operation, worker, register) = match self {
+            Record::Setup { workers, registers, slots, clock } => {
+                bytes[4..6].copy_from_slice(&slots.to_le_bytes());
+                bytes[8..12].copy_from_slice(&clock.to_le_bytes());
+                (0, workers, registers)
+            }
+            Record::Put { worker, register, value } => {
+                bytes[8..].copy_from_slice(&value.to_le_bytes());
+                (1, worker, register)
+            }
+            Record::Open { worker } => (2, worker, 0),
+            Record::Read { worker, register } => (3, worker, register),
+            Record::Close { worker } => (4, worker, 0),
+            Record::Get { worker, register } => (5, worker, register),
+            Record::Collect { worker } => (6, worker, 0),
+            Record::Step { worker } => (7, worker, 0),
+        };
+        bytes[0] = operation;
+        bytes[1] = worker;
+        bytes[2..4].copy_from_slice(&register.to_le_bytes());
+        bytes
+    }
+}

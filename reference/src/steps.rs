@@ -1,0 +1,175 @@
+//! The steps of put, open, read, get and close. Each gives what the worker does next and the
+//! answer.
+
+use crate::answer::{Answer, Refusal};
+use crate::coverage::{Branch, Observer};
+use crate::fault::Fault;
+use crate::flush;
+use crate::pool::Range;
+use crate::store::{Doing, Slot, Store, LAST_CLOCK};
+
+impl Store {
+    /// Document 01's *stamp*: if the newest version has no low, sets that low and the next older
+    /// version's high to the clock. Says whether it did.
+    #[inline]
+    fn stamp(&mut self, register: u16) -> bool {
+        let newest = &mut self.slots[usize::from(self.newest[usize::from(register)])];
+        if newest.low.is_some() {
+            return false;
+        }
+        newest.low = Some(self.clock);
+        if let Some(older) = newest.older {
+            self.slots[usize::from(older)].high = Some(self.clock);
+        }
+        true
+    }
+
+    /// Put (1).
+    pub(crate) fn put_publish<O: Observer>(
+        &mut self,
+        register: u16,
+        value: u64,
+        seen: &mut O,
+    ) -> (Doing, Answer) {
+        let Some(own) = self.free.pop() else {
+            seen.branch(Branch::PutRefused);
+            return (Doing::Idle, Answer::No(Refusal::NoFreeSlot));
+        };
+        let stamped = self.stamp(register);
+        seen.branch(if stamped {
+            Branch::PutPublishStamps
+        } else {
+            Branch::PutPublishStampedAlready
+        });
+        let covered = std::mem::replace(&mut self.newest[usize::from(register)], own);
+        self.slots[usize::from(covered)].newer = Some(own);
+        self.slots[usize::from(own)] =
+            Slot { value, low: None, high: None, older: Some(covered), newer: None };
+        (Doing::PutStamp { register, covered, own }, Answer::Going)
+    }
+
+    /// Put (2).
+    pub(crate) fn put_stamp<O: Observer>(
+        &mut self,
+        register: u16,
+        covered: u16,
+        own: u16,
+        seen: &mut O,
+    ) -> (Doing, Answer) {
+        if self.slots[usize::from(covered)].high.is_none() {
+            seen.branch(Branch::PutStamps);
+            self.stamp(register);
+        } else if O::ON {
+            let newest = self.newest[usize::from(register)];
+            seen.branch(if self.slots[usize::from(newest)].low.is_none() {
+                Branch::PutLeavesOtherUnstamped
+            } else {
+                Branch::PutStampedAlready
+            });
+        }
+        (Doing::PutHandIn { covered, own }, Answer::Going)
+    }
+
+    /// Put (3).
+    pub(crate) fn put_hand_in<F: Fault, O: Observer>(
+        &mut self,
+        w: usize,
+        covered: u16,
+        own: u16,
+        seen: &mut O,
+    ) -> (Doing, Answer) {
+        let version = &self.slots[usize::from(covered)];
+        // Both are set: put (2) saw to it.
+        let mut range = Range {
+            slot: covered,
+            low: version.low.unwrap_or(LAST_CLOCK),
+            high: version.high.unwrap_or(LAST_CLOCK),
+        };
+        if F::COVERING_LOW {
+            range.high = self.slots[usize::from(own)].low.unwrap_or(LAST_CLOCK);
+        }
+        if O::ON && version.newer != Some(own) {
+            seen.branch(Branch::PutOwnVersionFreed);
+        }
+        let local = &mut self.workers[w].local;
+        local.push(range);
+        if local.len() >= self.batch {
+            seen.branch(Branch::PutFlushes);
+            (flush::start::<F>(), Answer::Going)
+        } else {
+            seen.branch(Branch::PutDone);
+            (Doing::Idle, Answer::Done)
+        }
+    }
+
+    /// Open (1).
+    pub(crate) fn open_announce<O: Observer>(&mut self, w: usize, seen: &mut O) -> (Doing, Answer) {
+        if self.clock == LAST_CLOCK {
+            seen.branch(Branch::OpenRefused);
+            return (Doing::Idle, Answer::No(Refusal::LastClock));
+        }
+        seen.branch(Branch::OpenAnnounces);
+        self.workers[w].announced = Some(self.clock);
+        (Doing::OpenPass, Answer::Going)
+    }
+
+    /// Open (2).
+    pub(crate) fn open_pass<O: Observer>(&mut self, w: usize, seen: &mut O) -> (Doing, Answer) {
+        // The worker announced in its last step and has taken none since.
+        let time = self.workers[w].announced.unwrap_or(self.clock);
+        if self.clock == time {
+            seen.branch(Branch::OpenPasses);
+            self.clock += 1;
+        } else {
+            seen.branch(Branch::OpenPassedAlready);
+        }
+        (Doing::Idle, Answer::At(time))
+    }
+
+    /// Read (1).
+    pub(crate) fn read_start<O: Observer>(
+        &mut self,
+        register: u16,
+        seen: &mut O,
+    ) -> (Doing, Answer) {
+        let stamped = self.stamp(register);
+        seen.branch(if stamped { Branch::ReadStamps } else { Branch::ReadStampedAlready });
+        let slot = self.newest[usize::from(register)];
+        (Doing::ReadAt { slot, first: true }, Answer::Going)
+    }
+
+    /// Read (2).
+    #[inline]
+    pub(crate) fn read_at<O: Observer>(
+        &mut self,
+        w: usize,
+        slot: u16,
+        first: bool,
+        seen: &mut O,
+    ) -> (Doing, Answer) {
+        let version = &self.slots[usize::from(slot)];
+        if version.low.is_some() && version.low <= self.workers[w].announced {
+            seen.branch(if first { Branch::ReadFoundAtOnce } else { Branch::ReadFound });
+            return (Doing::Idle, Answer::Value(version.value));
+        }
+        seen.branch(Branch::ReadMoves);
+        // In the right hub there always is an older version here.
+        let slot = version.older.unwrap_or(slot);
+        (Doing::ReadAt { slot, first: false }, Answer::Going)
+    }
+
+    /// Get.
+    pub(crate) fn get<O: Observer>(&mut self, register: u16, seen: &mut O) -> (Doing, Answer) {
+        let stamped = self.stamp(register);
+        seen.branch(if stamped { Branch::GetStamps } else { Branch::GetStampedAlready });
+        let newest = self.newest[usize::from(register)];
+        (Doing::Idle, Answer::Value(self.slots[usize::from(newest)].value))
+    }
+
+    /// Close.
+    pub(crate) fn close<O: Observer>(&mut self, w: usize, seen: &mut O) -> (Doing, Answer) {
+        seen.branch(Branch::Close);
+        self.workers[w].announced = None;
+        (Doing::Idle, Answer::Done)
+    }
+}

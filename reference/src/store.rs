@@ -1,0 +1,241 @@
+//! The store: slots, workers, setup, the begin of operations, and which step comes next.
+
+use crate::answer::{Answer, Refusal};
+use crate::coverage::{Branch, Observer};
+use crate::fault::Fault;
+use crate::flush;
+use crate::pool::{batch_size, Queue, Range, MAX_BATCH};
+use crate::record::Record;
+
+/// Most workers.
+pub const MAX_WORKERS: usize = 16;
+/// Most registers.
+pub const MAX_REGISTERS: u16 = 256;
+/// Most slots.
+pub const MAX_SLOTS: u16 = 2048;
+/// The clock's last value: an open there gets 15.
+pub const LAST_CLOCK: u32 = u32::MAX;
+
+/// A version slot. Free slots have no neighbours; the rest of their contents means nothing.
+#[derive(Clone, Copy, Debug, Default, PartialEq, Eq)]
+pub struct Slot {
+    pub value: u64,
+    /// None: unset, between publishing and stamping.
+    pub low: Option<u32>,
+    /// None: open, above every time.
+    pub high: Option<u32>,
+    pub older: Option<u16>,
+    pub newer: Option<u16>,
+}
+
+/// What a worker is doing: nothing, or one operation with its place in it.
+/// Each case names the step that comes next.
+#[derive(Clone, Copy, Debug, PartialEq, Eq)]
+pub enum Doing {
+    Idle,
+    /// Put (1).
+    PutPublish {
+        register: u16,
+        value: u64,
+    },
+    /// Put (2). `own` is the put's own version; only a fault looks at it.
+    PutStamp {
+        register: u16,
+        covered: u16,
+        own: u16,
+    },
+    /// Put (3).
+    PutHandIn {
+        covered: u16,
+        own: u16,
+    },
+    /// Flush (1), begun by a collect or a full local pool.
+    FlushTake,
+    /// Flush (2), about to read this worker's time.
+    FlushTimes {
+        next: u8,
+    },
+    /// Flush (3).
+    FlushSplit,
+    /// Flush (4), or (5) where `next` is past the needless list.
+    FlushFree {
+        next: u16,
+    },
+    /// Open (1).
+    OpenAnnounce,
+    /// Open (2).
+    OpenPass,
+    /// Read (1).
+    ReadStart {
+        register: u16,
+    },
+    /// Read (2), standing on a slot; `first` until it moves.
+    ReadAt {
+        slot: u16,
+        first: bool,
+    },
+    Get {
+        register: u16,
+    },
+    Close,
+}
+
+/// A worker's record.
+#[derive(Clone, Debug, PartialEq, Eq)]
+pub struct Worker {
+    pub doing: Doing,
+    /// The announced time.
+    pub announced: Option<u32>,
+    /// The local pool.
+    pub local: Vec<Range>,
+    /// The times a flush has read so far.
+    pub times: Vec<u32>,
+    /// A flush's merged list; from the split on, its needless part.
+    pub merged: Vec<Range>,
+}
+
+impl Worker {
+    /// The starting record: idle, no time, empty pool. Its lists have room for all they will hold.
+    pub fn start() -> Worker {
+        Worker {
+            doing: Doing::Idle,
+            announced: None,
+            local: Vec::with_capacity(MAX_BATCH),
+            times: Vec::with_capacity(MAX_WORKERS),
+            merged: Vec::with_capacity(4 * MAX_BATCH),
+        }
+    }
+}
+
+/// The store that an accepted setup leaves.
+#[derive(Clone, Debug, PartialEq, Eq)]
+pub struct Store {
+    /// B.
+    pub batch: usize,
+    pub clock: u32,
+    /// One record for each of the P workers.
+    pub workers: Vec<Worker>,
+    /// Each register's newest version.
+    pub newest: Vec<u16>,
+    /// The N slots.
+    pub slots: Vec<Slot>,
+    /// The free slots; the last is taken first.
+    pub free: Vec<u16>,
+    pub queue: Queue,
+    /// Room for the needed part of a split.
+    pub(crate) needed: Vec<Range>,
+}
+
+impl Store {
+    /// The store at setup, or 5.
+    pub fn set_up(
+        row_length: usize,
+        workers: u8,
+        registers: u16,
+        slots: u16,
+        clock: u32,
+    ) -> Result<Store, Refusal> {
+        let fits = (1..=MAX_WORKERS).contains(&usize::from(workers))
+            && (1..=MAX_REGISTERS).contains(&registers)
+            && (registers..=MAX_SLOTS).contains(&slots)
+            && usize::from(slots) <= row_length
+            && clock >= 1;
+        if !fits {
+            return Err(Refusal::Setup);
+        }
+        let first = Slot { low: Some(0), ..Slot::default() };
+        let mut row = vec![Slot::default(); usize::from(slots)];
+        row[..usize::from(registers)].fill(first);
+        Ok(Store {
+            batch: batch_size(usize::from(workers)),
+            clock,
+            workers: (0..workers).map(|_| Worker::start()).collect(),
+            newest: (0..registers).collect(),
+            slots: row,
+            // V is taken first.
+            free: (registers..slots).rev().collect(),
+            queue: Queue::with_capacity(usize::from(slots)),
+            needed: Vec::with_capacity(4 * MAX_BATCH),
+        })
+    }
+
+    /// Takes a well-formed record. To a store that is set up, a setup is refusal 9.
+    #[inline]
+    pub fn take<F: Fault, O: Observer>(
+        &mut self,
+        record: Record,
+        seen: &mut O,
+    ) -> Result<Answer, Refusal> {
+        match record {
+            Record::Step { worker } => return self.step::<F, O>(worker, seen),
+            Record::Setup { .. } => return Err(Refusal::SetUp),
+            Record::Put { worker, register, value } => {
+                self.begin(worker, register, Doing::PutPublish { register, value })
+            }
+            Record::Open { worker } => self.begin(worker, 0, Doing::OpenAnnounce),
+            Record::Read { worker, register } => {
+                self.begin(worker, register, Doing::ReadStart { register })
+            }
+            Record::Close { worker } => self.begin(worker, 0, Doing::Close),
+            Record::Get { worker, register } => {
+                self.begin(worker, register, Doing::Get { register })
+            }
+            Record::Collect { worker } => {
+                self.begin(worker, 0, flush::start::<F>())?;
+                if O::ON {
+                    let pool = &self.workers[usize::from(worker)].local;
+                    let empty = pool.is_empty();
+                    seen.branch(if empty { Branch::CollectEmptyPool } else { Branch::CollectPool });
+                }
+                Ok(())
+            }
+        }
+        .map(|()| Answer::Ok)
+    }
+
+    /// Begins an operation: 3, 4, 10, then 12 or 13, else the worker is busy with it. An
+    /// operation without a register gives 0, which is below every V.
+    fn begin(&mut self, worker: u8, register: u16, doing: Doing) -> Result<(), Refusal> {
+        let worker = self.workers.get_mut(usize::from(worker)).ok_or(Refusal::Worker)?;
+        if usize::from(register) >= self.newest.len() {
+            return Err(Refusal::Register);
+        }
+        if worker.doing != Doing::Idle {
+            return Err(Refusal::Busy);
+        }
+        match (doing, worker.announced) {
+            (Doing::OpenAnnounce, Some(_)) => return Err(Refusal::Announced),
+            (Doing::ReadStart { .. } | Doing::Close, None) => return Err(Refusal::NotAnnounced),
+            _ => {}
+        }
+        worker.doing = doing;
+        Ok(())
+    }
+
+    /// Takes one step of a worker: 3, 11, else the step, which may itself meet 14 or 15.
+    #[inline]
+    fn step<F: Fault, O: Observer>(&mut self, worker: u8, seen: &mut O) -> Result<Answer, Refusal> {
+        let w = usize::from(worker);
+        let doing = self.workers.get(w).ok_or(Refusal::Worker)?.doing;
+        let (next, answer) = match doing {
+            Doing::Idle => return Err(Refusal::Idle),
+            Doing::PutPublish { register, value } => self.put_publish(register, value, seen),
+            Doing::PutStamp { register, covered, own } => {
+                self.put_stamp(register, covered, own, seen)
+            }
+            Doing::PutHandIn { covered, own } => self.put_hand_in::<F, O>(w, covered, own, seen),
+            Doing::FlushTake => self.flush_take::<F, O>(w, seen),
+            Doing::FlushTimes { next } => self.flush_times::<F, O>(w, next, seen),
+            Doing::FlushSplit => self.flush_split::<F, O>(w, seen),
+            Doing::FlushFree { next } => self.flush_free::<F, O>(w, next, seen),
+            Doing::OpenAnnounce => self.open_announce(w, seen),
+            Doing::OpenPass => self.open_pass(w, seen),
+            Doing::ReadStart { register } => self.read_start(register, seen),
+            Doing::ReadAt { slot, first } => self.read_at(w, slot, first, seen),
+            Doing::Get { register } => self.get(register, seen),
+            Doing::Close => self.close(w, seen),
+        };
+        self.workers[w].doing = next;
+        Ok(answer)
+    }
+}

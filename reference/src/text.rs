@@ -1,0 +1,208 @@
+//! Readable text for record files, and back: any file unpacks and packs to the same bytes.
+//!
+//! One command a line; `#` begins a comment, blank lines are skipped:
+//!
+//! ```text
+//! setup P V N CLOCK
+//! put WORKER REGISTER VALUE
+//! open WORKER
+//! read WORKER REGISTER
+//! close WORKER
+//! get WORKER REGISTER
+//! collect WORKER
+//! step WORKER [xCOUNT]
+//! bytes HEX...
+//! ```
+//!
+//! `bytes` gives a record by its bytes, fewer than sixteen only as the last command.
+
+use crate::record::{Record, LENGTH};
+use std::fmt::{self, Write};
+use std::str::FromStr;
+
+/// Most repetitions that one line may ask for.
+pub const MAX_REPEAT: usize = 1_000_000;
+
+/// Why a text was not packed.
+#[derive(Clone, Debug, PartialEq, Eq)]
+pub struct PackError {
+    /// Counted from 1.
+    pub line: usize,
+    pub reason: String,
+}
+
+impl fmt::Display for PackError {
+    fn fmt(&self, f: &mut fmt::Formatter) -> fmt::Result {
+        write!(f, "line {}: {}", self.line, self.reason)
+    }
+}
+
+impl std::error::Error for PackError {}
+
+/// Turns text into a record file.
+pub fn pack(text: &[u8]) -> Result<Vec<u8>, PackError> {
+    let mut file = Vec::new();
+    let mut short_line = None;
+    for (index, line) in text.split(|&byte| byte == b'\n').enumerate() {
+        let line_number = index + 1;
+        let error = |reason| PackError { line: line_number, reason };
+        let line = std::str::from_utf8(line).map_err(|_| error("not UTF-8 text".to_string()))?;
+        let command = line.split('#').next().unwrap_or_default();
+        let words: Vec<&str> = command.split_whitespace().collect();
+        if words.is_empty() {
+            continue;
+        }
+        if let Some(short) = short_line {
+            return Err(PackError {
+                line: short,
+                reason: "fewer than 16 bytes, but more commands follow".to_string(),
+            });
+        }
+        append_command(&mut file, &words).map_err(error)?;
+        if file.len() % LENGTH != 0 {
+            short_line = Some(line_number);
+        }
+    }
+    Ok(file)
+}
+
+/// Appends one command's bytes.
+fn append_command(file: &mut Vec<u8>, words: &[&str]) -> Result<(), String> {
+    let mut repeat = 1;
+    let record = match *words {
+        ["setup", workers, registers, slots, clock] => Record::Setup {
+            workers: number(workers, "number of workers")?,
+            registers: number(registers, "number of registers")?,
+            slots: number(slots, "number of slots")?,
+            clock: number(clock, "clock")?,
+        },
+        ["put", worker, register, value] => Record::Put {
+            worker: number(worker, "worker")?,
+            register: number(register, "register")?,
+            value: number(value, "value")?,
+        },
+        ["open", worker] => Record::Open { worker: number(worker, "worker")? },
+        ["read", worker, register] => Record::Read {
+            worker: number(worker, "worker")?,
+            register: number(register, "register")?,
+        },
+        ["close", worker] => Record::Close { worker: number(worker, "worker")? },
+        ["get", worker, register] => Record::Get {
+            worker: number(worker, "worker")?,
+            register: number(register, "register")?,
+        },
+        ["collect", worker] => Record::Collect { worker: number(worker, "worker")? },
+        ["step", worker] => Record::Step { worker: number(worker, "worker")? },
+        ["step", worker, times] => {
+            repeat = repetition(times)?;
+            Record::Step { worker: number(worker, "worker")? }
+        }
+        ["bytes", ref hex @ ..] => {
+            file.extend(hex_bytes(hex)?);
+            return Ok(());
+        }
+        [name, ..] => return Err(usage(name)),
+        [] => return Ok(()),
+    };
+    let bytes = record.encode();
+    (0..repeat).for_each(|_| file.extend_from_slice(&bytes));
+    Ok(())
+}
+
+/// A field that does not fit its bytes cannot be written.
+fn number<T: FromStr>(word: &str, what: &str) -> Result<T, String> {
+    let digits = word.bytes().all(|byte| byte.is_ascii_digit());
+    digits
+        .then(|| word.parse().ok())
+        .flatten()
+        .ok_or_else(|| format!("{what} {word:?} is no number that fits its bytes"))
+}
+
+fn repetition(word: &str) -> Result<usize, String> {
+    let count = word.strip_prefix('x').and_then(|digits| number(digits, "").ok());
+    count
+        .filter(|count| (1..=MAX_REPEAT).contains(count))
+        .ok_or_else(|| format!("repetition {word:?} is not x1 to x{MAX_REPEAT}"))
+}
+
+/// One to sixteen bytes, each two hexadecimal digits; spaces between bytes are free.
+fn hex_bytes(words: &[&str]) -> Result<Vec<u8>, String> {
+    let mut bytes = Vec::with_capacity(LENGTH);
+    for word in words {
+        let digits = word.chars().map(|c| c.to_digit(16).map(|digit| digit as u8));
+        let digits: Option<Vec<u8>> = digits.collect();
+        match digits {
+            Some(digits) if digits.len() % 2 == 0 => {
+                bytes.extend(digits.chunks(2).map(|pair| pair[0] << 4 | pair[1]));
+            }
+            _ => return Err(format!("{word:?} is not pairs of hexadecimal digits")),
+        }
+    }
+    if (1..=LENGTH).contains(&bytes.len()) {
+        Ok(bytes)
+    } else {
+        Err(format!("{} bytes where a record has 1 to 16", bytes.len()))
+    }
+}
+
+fn usage(name: &str) -> String {
+    let form = match name {
+        "setup" => "setup P V N CLOCK",
+        "put" => "put WORKER REGISTER VALUE",
+        "open" => "open WORKER",
+        "read" => "read WORKER REGISTER",
+        "close" => "close WORKER",
+        "get" => "get WORKER REGISTER",
+        "collect" => "collect WORKER",
+        "step" => "step WORKER [xCOUNT]",
+        _ => return format!("unknown command {name:?}"),
+    };
+    format!("not of the form: {form}")
+}
+
+/// Turns a record file into text. Steps of one worker in a row become one line.
+pub fn unpack(file: &[u8]) -> String {
+    let mut text = String::new();
+    let mut records = file.chunks(LENGTH).peekable();
+    while let Some(bytes) = records.next() {
+        match Record::decode(bytes) {
+            Ok(Record::Step { worker }) => {
+                let mut repeat = 1;
+                while repeat < MAX_REPEAT && records.next_if_eq(&bytes).is_some() {
+                    repeat += 1;
+                }
+                match repeat {
+                    1 => writeln!(text, "step {worker}"),
+                    _ => writeln!(text, "step {worker} x{repeat}"),
+                }
+            }
+            Ok(record) => write_command(&mut text, record),
+            Err(_) => write_bytes(&mut text, bytes),
+        }
+        .expect("writing to a string");
+    }
+    text
+}
+
+fn write_command(text: &mut String, record: Record) -> fmt::Result {
+    match record {
+        Record::Setup { workers, registers, slots, clock } => {
+            writeln!(text, "setup {workers} {registers} {slots} {clock}")
+        }
+        Record::Put { worker, register, value } => {
+            writeln!(text, "put {worker} {register} {value}")
+        }
+        Record::Open { worker } => writeln!(text, "open {worker}"),
+        Record::Read { worker, register } => writeln!(text, "read {worker} {register}"),
+        Record::Close { worker } => writeln!(text, "close {worker}"),
+        Record::Get { worker, register } => writeln!(text, "get {worker} {register}"),
+        Record::Collect { worker } => writeln!(text, "collect {worker}"),
+        Record::Step { worker } => writeln!(text, "step {worker}"),
+    }
+}
+
+fn write_bytes(text: &mut String, bytes: &[u8]) -> fmt::Result {
+    write!(text, "bytes")?;
+    bytes.iter().try_for_each(|byte| write!(text, " {byte:02x}"))?;
+    writeln!(text)
+}

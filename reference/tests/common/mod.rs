@@ -1,0 +1,62 @@
+//! What the tests share: short names for records, scripts from text, runs to log lines.
+#![allow(dead_code)]
+
+use reference::coverage::Coverage;
+use reference::fault::Right;
+use reference::store::{Store, MAX_SLOTS};
+use reference::{log, text, Answer, Hub, Refusal};
+
+/// The records of a readable text.
+pub fn records(script: &str) -> Vec<u8> {
+    text::pack(script.as_bytes()).expect("a well-formed script")
+}
+
+/// The answers to a readable text, as words.
+pub fn run(script: &str) -> Vec<String> {
+    words(&log::answers(&mut Hub::new(), &records(script)))
+}
+
+/// Answers as the log's words, without numbers.
+pub fn words(answers: &[Answer]) -> Vec<String> {
+    let word = |&answer| {
+        let mut text = Vec::new();
+        log::append_answer(&mut text, answer);
+        String::from_utf8(text).expect("plain text")
+    };
+    answers.iter().map(word).collect()
+}
+
+/// A hub after a readable text, every record of which was answered neither 1 to 13.
+pub fn hub_after(script: &str) -> Hub {
+    let mut hub = Hub::new();
+    for (index, bytes) in records(script).chunks(16).enumerate() {
+        let answer = hub.take(bytes);
+        let refused = matches!(answer, Answer::No(refusal) if !refusal.at_step());
+        assert!(!refused, "record {index} of {script:?}: {answer:?}");
+    }
+    hub
+}
+
+/// The store of a hub that is set up.
+pub fn store(hub: &Hub) -> &Store {
+    hub.store().expect("set up")
+}
+
+/// Takes the records of a readable text and gives the last answer.
+pub fn last(hub: &mut Hub, script: &str) -> Answer {
+    let answers = log::answers(hub, &records(script));
+    *answers.last().expect("a record")
+}
+
+/// Refused with this number.
+pub fn no(number: u64) -> Answer {
+    Answer::No(Refusal::from_number(number).expect("a refusal"))
+}
+
+/// The answers to a file with counts of what was reached.
+pub fn covered(file: &[u8]) -> (Vec<Answer>, Coverage) {
+    let mut hub = Hub::<Right, Coverage>::with_row(usize::from(MAX_SLOTS));
+    let answers = log::answers(&mut hub, file);
+    answers.iter().for_each(|&answer| hub.observer.answered(answer));
+    (answers, hub.observer)
+}

@@ -1,0 +1,112 @@
+//! The log: document 01's example byte for byte, pieces of any size, rests, the words.
+
+mod common;
+
+use common::records;
+use reference::generate::{script, Kind, Random};
+use reference::log::{self, Decimal};
+use reference::{Answer, Hub, Refusal};
+use std::io::{self, Read};
+
+const EXAMPLE: &str = "
+    setup 1 1 2 1
+    put 0 0 7
+    step 0 x7
+    put 0 0 9
+    step 0
+    collect 0
+    step 0 x5";
+
+fn log_of(file: &[u8]) -> String {
+    let mut output = Vec::new();
+    log::run(&mut Hub::new(), &mut &file[..], &mut output, |_, _| {}).unwrap();
+    String::from_utf8(output).unwrap()
+}
+
+#[test]
+fn example_of_document_01() {
+    let expected = "0 ok\n1 ok\n2 going\n3 going\n4 going\n5 going\n6 going\n7 going\n8 done\n\
+        9 ok\n10 no 14\n11 ok\n12 going\n13 going\n14 going\n15 freed 0\n16 done\n";
+    assert_eq!(log_of(&records(EXAMPLE)), expected);
+}
+
+/// Hands out its bytes in pieces of random sizes.
+struct Pieces<'a>(&'a [u8], Random);
+
+impl Read for Pieces<'_> {
+    fn read(&mut self, buffer: &mut [u8]) -> io::Result<usize> {
+        if self.1.chance(100) {
+            return Err(io::ErrorKind::Interrupted.into());
+        }
+        let most = self.0.len().min(buffer.len());
+        let length = if self.1.chance(50) { most } else { most.min(1 + self.1.below(40) as usize) };
+        buffer[..length].copy_from_slice(&self.0[..length]);
+        self.0 = &self.0[length..];
+        Ok(length)
+    }
+}
+
+#[test]
+fn pieces_of_any_size_give_one_log() {
+    for seed in 0..20 {
+        let file = script(Kind::Tails, seed, 12_000);
+        let mut output = Vec::new();
+        let mut pieces = Pieces(&file, Random::new(seed));
+        log::run(&mut Hub::new(), &mut pieces, &mut output, |_, _| {}).unwrap();
+        assert_eq!(output, log::log_text(&log::answers(&mut Hub::new(), &file)));
+    }
+}
+
+#[test]
+fn empty_file_prints_nothing() {
+    assert_eq!(log_of(&[]), "");
+}
+
+#[test]
+fn a_rest_of_a_record_gets_6() {
+    for length in 1..16 {
+        assert_eq!(log_of(&vec![0; length]), "0 no 6\n");
+        let mut file = records("setup 1 1 1 1");
+        file.extend(vec![7; length]);
+        assert_eq!(log_of(&file), "0 ok\n1 no 6\n");
+    }
+}
+
+#[test]
+fn numbers_of_lines() {
+    let mut number = Decimal::default();
+    for expected in 0..120_000 {
+        assert_eq!(number.digits(), expected.to_string().as_bytes());
+        number.increment();
+    }
+}
+
+#[test]
+fn words_both_ways() {
+    let mut answers = vec![Answer::Ok, Answer::Going, Answer::Done];
+    answers.extend([0, 1, 9, 10, 2047].map(Answer::Freed));
+    answers.extend([1, 5, 4294967294].map(Answer::At));
+    answers.extend([0, 7, 1 << 63, u64::MAX].map(Answer::Value));
+    answers.extend(Refusal::ALL.map(Answer::No));
+    let text = String::from_utf8(log::log_text(&answers)).unwrap();
+    assert!(text.contains("14 value 18446744073709551615\n"));
+    let lines = answers.iter().enumerate();
+    assert_eq!(text, lines.map(|(n, answer)| format!("{n} {answer}\n")).collect::<String>());
+    assert_eq!(log::parse_log(&text), Ok(answers));
+}
+
+#[test]
+fn what_is_no_log() {
+    for text in [
+        "0 yes\n",
+        "1 ok\n",
+        "0  ok\n",
+        "0 ok \n",
+        "0 freed\n",
+        "0 freed 01\n",
+        "0 no 16\n",
+        "ok\n",
+    ] {
+        assert!(log::parse_log(text).is_err(), "{text:?}");
+    }
+}

@@ -1,0 +1,297 @@
+//! A slow hub written straight from document 01's sentences, with other data: each register's
+//! list is a vector, each pool a vector of vectors, times are wide numbers. Both hubs give one log.
+
+mod common;
+
+use reference::generate::{script, Kind};
+use reference::log;
+use reference::Hub;
+use std::collections::VecDeque;
+
+/// An open high and an unset low: above every time.
+const NONE: u64 = u64::MAX;
+
+#[derive(Clone, Default)]
+struct Version {
+    value: u64,
+    low: u64,
+    high: u64,
+}
+
+/// Slot, low, high.
+type Range = (usize, u64, u64);
+
+#[derive(Clone, Default)]
+struct Worker {
+    /// Operation number, register, value; none when idle.
+    operation: Option<(u8, usize, u64)>,
+    /// Steps of it taken; in a flush, steps of the flush.
+    steps: usize,
+    flushing: bool,
+    time: Option<u64>,
+    pool: Vec<Range>,
+    covered: usize,
+    standing: Option<usize>,
+    merged: Vec<Range>,
+    times: Vec<u64>,
+    needless: VecDeque<usize>,
+}
+
+#[derive(Default)]
+struct Plain {
+    workers: Vec<Worker>,
+    clock: u64,
+    batch: usize,
+    slots: Vec<Version>,
+    /// Oldest first.
+    lists: Vec<Vec<usize>>,
+    /// Next to be taken first.
+    free: VecDeque<usize>,
+    queue: VecDeque<Vec<Range>>,
+}
+
+fn number(bytes: &[u8]) -> u64 {
+    bytes.iter().rev().fold(0, |n, &byte| n * 256 + u64::from(byte))
+}
+
+fn merge(first: &[Range], second: &[Range]) -> Vec<Range> {
+    let mut all = [first, second].concat();
+    all.sort_by_key(|&(_, _, high)| high);
+    all
+}
+
+impl Plain {
+    fn take(&mut self, bytes: &[u8]) -> String {
+        self.answer(bytes).unwrap_or_else(|refusal| format!("no {refusal}"))
+    }
+
+    fn answer(&mut self, bytes: &[u8]) -> Result<String, u8> {
+        if bytes.len() < 16 {
+            return Err(6);
+        }
+        let operation = bytes[0];
+        let unused: Vec<usize> = match operation {
+            0 => vec![6, 7, 12, 13, 14, 15],
+            1 => (4..8).collect(),
+            3 | 5 => (4..16).collect(),
+            2 | 4 | 6 | 7 => (2..16).collect(),
+            _ => return Err(1),
+        };
+        if unused.iter().any(|&place| bytes[place] != 0) {
+            return Err(2);
+        }
+        let set_up = !self.workers.is_empty();
+        let (w, register) = (usize::from(bytes[1]), number(&bytes[2..4]) as usize);
+        match (operation, set_up) {
+            (0, true) => return Err(9),
+            (0, false) => return self.set_up(w, register, bytes),
+            (_, false) => return Err(8),
+            _ => {}
+        }
+        if w >= self.workers.len() {
+            return Err(3);
+        }
+        if register >= self.lists.len() {
+            return Err(4);
+        }
+        let worker = &mut self.workers[w];
+        if operation == 7 {
+            return match worker.operation {
+                None => Err(11),
+                Some(doing) => self.step(w, doing),
+            };
+        }
+        match (worker.operation, operation, worker.time) {
+            (Some(_), _, _) => Err(10),
+            (_, 2, Some(_)) => Err(12),
+            (_, 3 | 4, None) => Err(13),
+            _ => {
+                worker.operation = Some((operation, register, number(&bytes[8..])));
+                worker.steps = 0;
+                worker.flushing = operation == 6;
+                Ok("ok".to_string())
+            }
+        }
+    }
+
+    fn set_up(&mut self, p: usize, v: usize, bytes: &[u8]) -> Result<String, u8> {
+        let (n, clock) = (number(&bytes[4..6]) as usize, number(&bytes[8..12]));
+        let fits = (1..=16).contains(&p) && (1..=256).contains(&v) && (v..=2048).contains(&n);
+        if !fits || clock < 1 {
+            return Err(5);
+        }
+        self.workers = vec![Worker::default(); p];
+        self.clock = clock;
+        self.batch = [1, 2, 6, 8, 15, 18, 21, 24, 36, 40, 44, 48, 52, 56, 60, 64][p - 1];
+        self.slots = vec![Version { value: 0, low: 0, high: NONE }; n];
+        self.lists = (0..v).map(|register| vec![register]).collect();
+        self.free = (v..n).collect();
+        Ok("ok".to_string())
+    }
+
+    fn stamp(&mut self, register: usize) {
+        let list = &self.lists[register];
+        let newest = list[list.len() - 1];
+        if self.slots[newest].low == NONE {
+            self.slots[newest].low = self.clock;
+            self.slots[list[list.len() - 2]].high = self.clock;
+        }
+    }
+
+    fn end(&mut self, w: usize, words: String) -> Result<String, u8> {
+        self.workers[w].operation = None;
+        Ok(words)
+    }
+
+    fn step(&mut self, w: usize, doing: (u8, usize, u64)) -> Result<String, u8> {
+        let (operation, register, value) = doing;
+        self.workers[w].steps += 1;
+        let steps = self.workers[w].steps;
+        let going = Ok("going".to_string());
+        if self.workers[w].flushing {
+            return self.flush(w, steps);
+        }
+        match (operation, steps) {
+            (1, 1) => {
+                if self.free.is_empty() {
+                    return self.end(w, "no 14".to_string());
+                }
+                self.stamp(register);
+                let slot = self.free.pop_front().unwrap();
+                self.workers[w].covered = *self.lists[register].last().unwrap();
+                self.slots[slot] = Version { value, low: NONE, high: NONE };
+                self.lists[register].push(slot);
+                going
+            }
+            (1, 2) => {
+                if self.slots[self.workers[w].covered].high == NONE {
+                    self.stamp(register);
+                }
+                going
+            }
+            (1, _) => {
+                let slot = self.workers[w].covered;
+                let range = (slot, self.slots[slot].low, self.slots[slot].high);
+                self.workers[w].pool.push(range);
+                if self.workers[w].pool.len() == self.batch {
+                    self.workers[w].flushing = true;
+                    self.workers[w].steps = 0;
+                    going
+                } else {
+                    self.end(w, "done".to_string())
+                }
+            }
+            (2, 1) => {
+                if self.clock == 4294967295 {
+                    return self.end(w, "no 15".to_string());
+                }
+                self.workers[w].time = Some(self.clock);
+                going
+            }
+            (2, _) => {
+                let time = self.workers[w].time.unwrap();
+                if self.clock == time {
+                    self.clock += 1;
+                }
+                self.end(w, format!("at {time}"))
+            }
+            (3, 1) => {
+                self.stamp(register);
+                self.workers[w].standing = self.lists[register].last().copied();
+                going
+            }
+            (3, _) => {
+                let slot = self.workers[w].standing.unwrap();
+                if self.slots[slot].low <= self.workers[w].time.unwrap() {
+                    self.workers[w].standing = None;
+                    return self.end(w, format!("value {}", self.slots[slot].value));
+                }
+                self.workers[w].standing = Some(self.older(slot));
+                going
+            }
+            (4, _) => {
+                self.workers[w].time = None;
+                self.end(w, "done".to_string())
+            }
+            _ => {
+                self.stamp(register);
+                let newest = *self.lists[register].last().unwrap();
+                self.end(w, format!("value {}", self.slots[newest].value))
+            }
+        }
+    }
+
+    fn older(&self, slot: usize) -> usize {
+        let list = self.lists.iter().find(|list| list.contains(&slot)).unwrap();
+        list[list.iter().position(|&other| other == slot).unwrap() - 1]
+    }
+
+    fn flush(&mut self, w: usize, steps: usize) -> Result<String, u8> {
+        let going = Ok("going".to_string());
+        let p = self.workers.len();
+        if steps == 1 {
+            let first = self.queue.pop_front().unwrap_or_default();
+            let second = self.queue.pop_front().unwrap_or_default();
+            self.workers[w].merged = merge(&first, &second);
+            self.workers[w].times.clear();
+            return going;
+        }
+        if steps <= 1 + p {
+            let time = self.workers[steps - 2].time;
+            self.workers[w].times.extend(time);
+            return going;
+        }
+        if steps == 2 + p {
+            self.split(w);
+            return going;
+        }
+        let Some(slot) = self.workers[w].needless.pop_front() else {
+            return self.end(w, "done".to_string());
+        };
+        let reading: Vec<usize> =
+            (0..p).filter(|&other| self.workers[other].standing == Some(slot)).collect();
+        for other in reading {
+            self.workers[other].standing = Some(self.older(slot));
+        }
+        self.lists.iter_mut().for_each(|list| list.retain(|&other| other != slot));
+        self.free.push_front(slot);
+        Ok(format!("freed {slot}"))
+    }
+
+    fn split(&mut self, w: usize) {
+        let Worker { times, merged, pool, needless, .. } = &mut self.workers[w];
+        let is_needed = |&(_, low, high): &Range| times.iter().any(|&a| low <= a && a < high);
+        let (needed, rest): (Vec<Range>, Vec<Range>) = merged.drain(..).partition(is_needed);
+        *needless = rest.iter().map(|&(slot, _, _)| slot).collect();
+        if needed.len() > 2 * self.batch {
+            let half = needed.len() - needed.len() / 2;
+            self.queue.push_back(needed[..half].to_vec());
+            self.queue.push_back(needed[half..].to_vec());
+        } else if needed.len() > self.batch {
+            self.queue.push_back(needed);
+        } else {
+            *pool = merge(pool, &needed);
+        }
+        if !pool.is_empty() {
+            self.queue.push_back(std::mem::take(pool));
+        }
+    }
+}
+
+#[test]
+fn both_hubs_give_one_log() {
+    for (kind, name) in Kind::ALL {
+        let (seeds, count) = if kind == Kind::Large { (4, 30_000) } else { (150, 1500) };
+        for seed in 0..seeds {
+            let file = script(kind, 9000 + seed, count);
+            let mut plain = Plain::default();
+            let expected: Vec<String> = file.chunks(16).map(|bytes| plain.take(bytes)).collect();
+            let answers = common::words(&log::answers(&mut Hub::new(), &file));
+            let differs = answers.iter().zip(&expected).position(|(a, b)| a != b);
+            if let Some(at) = differs {
+                panic!("{name} {seed}, record {at}: {} and {}", answers[at], expected[at]);
+            }
+            assert_eq!(answers.len(), expected.len());
+        }
+    }
+}

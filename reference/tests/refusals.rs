@@ -1,0 +1,261 @@
+//! Each refusal in its case and in no other, and the order among them.
+
+mod common;
+
+use common::{last, no, records, run, words};
+use reference::generate::{script, Kind};
+use reference::record::LENGTH;
+use reference::store::{Doing, Store};
+use reference::{Answer, Hub, Refusal};
+use std::collections::HashSet;
+
+/// Document 01's order of the refusals on reading.
+const ORDER: [u8; 12] = [6, 1, 2, 8, 9, 5, 3, 4, 10, 11, 12, 13];
+
+/// The bytes that operations 0 to 7 use.
+const USED: [&[usize]; 8] = [
+    &[0, 1, 2, 3, 4, 5, 8, 9, 10, 11],
+    &[0, 1, 2, 3, 8, 9, 10, 11, 12, 13, 14, 15],
+    &[0, 1],
+    &[0, 1, 2, 3],
+    &[0, 1],
+    &[0, 1, 2, 3],
+    &[0, 1],
+    &[0, 1],
+];
+
+/// Every refusal that a record deserves by itself, straight from the two tables.
+fn deserved(bytes: &[u8], store: Option<&Store>) -> Vec<u8> {
+    let mut numbers = Vec::new();
+    if bytes.len() < LENGTH {
+        return vec![6];
+    }
+    let operation = bytes[0];
+    if operation > 7 {
+        return vec![1];
+    }
+    let used = USED[usize::from(operation)];
+    if (0..LENGTH).any(|place| bytes[place] != 0 && !used.contains(&place)) {
+        numbers.push(2);
+    }
+    let two = |place| u64::from(bytes[place]) + 256 * u64::from(bytes[place + 1]);
+    if operation == 0 {
+        let (workers, registers, slots) = (u64::from(bytes[1]), two(2), two(4));
+        let clock = two(8) + 65536 * two(10);
+        if store.is_some() {
+            numbers.push(9);
+        }
+        let fits = (1..=16).contains(&workers)
+            && (1..=256).contains(&registers)
+            && registers <= slots
+            && slots <= 2048
+            && clock >= 1;
+        if !fits {
+            numbers.push(5);
+        }
+        return numbers;
+    }
+    let Some(store) = store else {
+        numbers.push(8);
+        return numbers;
+    };
+    let register_used = matches!(operation, 1 | 3 | 5);
+    if register_used && two(2) >= store.newest.len() as u64 {
+        numbers.push(4);
+    }
+    let Some(worker) = store.workers.get(usize::from(bytes[1])) else {
+        numbers.push(3);
+        return numbers;
+    };
+    let (idle, time) = (worker.doing == Doing::Idle, worker.announced.is_some());
+    match operation {
+        7 if idle => numbers.push(11),
+        1..=6 if !idle => numbers.push(10),
+        _ => {}
+    }
+    match operation {
+        2 if time => numbers.push(12),
+        3 | 4 if !time => numbers.push(13),
+        _ => {}
+    }
+    numbers
+}
+
+#[test]
+fn the_first_deserved_refusal_in_the_order() {
+    let mut pairs = HashSet::new();
+    for (kind, _) in Kind::ALL {
+        for seed in 0..60 {
+            let mut hub = Hub::new();
+            for bytes in script(kind, 1000 + seed, 400).chunks(LENGTH) {
+                let numbers = deserved(bytes, hub.store());
+                let before = if numbers.is_empty() { None } else { hub.store().cloned() };
+                let answer = hub.take(bytes);
+                let place = |number: &u8| ORDER.iter().position(|other| other == number);
+                match numbers.iter().min_by_key(|number| place(number)) {
+                    Some(&first) => {
+                        assert_eq!(answer, no(u64::from(first)), "{bytes:?}");
+                        assert!(before.as_ref() == hub.store(), "{bytes:?} changes the store");
+                        pairs.extend(numbers.iter().map(|&other| (first, other)));
+                    }
+                    None => {
+                        let refused = matches!(answer, Answer::No(refusal) if !refusal.at_step());
+                        assert!(!refused, "{bytes:?}: {answer:?}");
+                    }
+                }
+            }
+        }
+    }
+    // Records with two reasons were among them, for every pair that can meet in one record.
+    for pair in [
+        (2, 8),
+        (2, 9),
+        (2, 5),
+        (2, 3),
+        (2, 4),
+        (2, 10),
+        (2, 11),
+        (2, 12),
+        (2, 13),
+        (9, 5),
+        (3, 4),
+        (4, 10),
+        (4, 13),
+        (10, 12),
+        (10, 13),
+    ] {
+        assert!(pairs.contains(&pair), "{pair:?} did not meet");
+    }
+    for number in ORDER {
+        assert!(pairs.contains(&(number, number)), "{number} was not met");
+    }
+}
+
+#[test]
+fn records_that_deserve_several() {
+    let busy = "setup 2 1 2 1\n put 0 0 1";
+    let snapshot_busy = "setup 2 1 2 1\n open 0\n step 0 x2\n put 0 0 1";
+    let cases = [
+        // A rest is 6 whatever it holds, and before setup too.
+        ("", "bytes ff ff ff", 6),
+        (busy, "bytes ff ff", 6),
+        // Operation above 7, with bytes that any operation leaves unused, before setup.
+        ("", "bytes 08 ff ff ff ff ff ff ff ff ff ff ff ff ff ff ff", 1),
+        // An unused byte before setup, in a second setup out of range, with a wrong worker.
+        ("", "bytes 07 00 01 00 00 00 00 00 00 00 00 00 00 00 00 00", 2),
+        (busy, "bytes 00 ff 00 00 00 00 01 00 00 00 00 00 00 00 00 00", 2),
+        (busy, "bytes 03 ff ff ff 00 00 00 00 00 00 00 00 00 00 00 01", 2),
+        // Not set up, with worker and register too large.
+        ("", "put 255 65535 1", 8),
+        ("", "step 255", 8),
+        // A second setup outside its ranges.
+        (busy, "setup 0 0 0 0", 9),
+        ("", "setup 0 0 0 0", 5),
+        // Worker and register, register and busy, busy and snapshot.
+        (busy, "read 2 1", 3),
+        (busy, "step 2", 3),
+        (busy, "read 0 1", 4),
+        (busy, "put 0 65535 1", 4),
+        (busy, "read 0 0", 10),
+        (busy, "close 0", 10),
+        (snapshot_busy, "open 0", 10),
+        (busy, "read 1 1", 4),
+        (busy, "step 1", 11),
+        (busy, "read 1 0", 13),
+        (busy, "close 1", 13),
+        ("setup 1 1 1 1\n open 0\n step 0 x2", "open 0", 12),
+    ];
+    for (before, record, number) in cases {
+        let mut hub = common::hub_after(before);
+        assert_eq!(last(&mut hub, record), no(number), "{record:?} after {before:?}");
+    }
+}
+
+#[test]
+fn unused_bytes_one_by_one() {
+    for (operation, used) in USED.iter().enumerate() {
+        for place in 1..LENGTH {
+            let mut bytes = [0; LENGTH];
+            bytes[0] = operation as u8;
+            bytes[place] = 0x80;
+            let refused = Hub::new().take(&bytes) == no(2);
+            assert_eq!(refused, !used.contains(&place), "operation {operation}, byte {place}");
+        }
+    }
+}
+
+#[test]
+fn operations_above_7() {
+    for operation in 0..=255 {
+        let mut bytes = [0; LENGTH];
+        bytes[0] = operation;
+        let expected = match operation {
+            0 => no(5),
+            1..=7 => no(8),
+            _ => no(1),
+        };
+        assert_eq!(Hub::new().take(&bytes), expected);
+    }
+}
+
+#[test]
+fn refusal_14_changes_nothing_but_the_worker() {
+    // Worker 0's put is published and unstamped; worker 1's put meets 14 and stamps nothing.
+    let mut hub = common::hub_after("setup 2 1 2 1\n put 0 0 7\n step 0\n put 1 0 8");
+    let before = hub.store().unwrap().clone();
+    assert_eq!(last(&mut hub, "step 1"), no(14));
+    let after = hub.store().unwrap();
+    assert_eq!(after.slots, before.slots);
+    assert_eq!(after.newest, before.newest);
+    assert_eq!(after.clock, before.clock);
+    assert_eq!(after.workers[0].doing, before.workers[0].doing);
+    assert_eq!(after.workers[1].doing, Doing::Idle);
+    // The step was taken: the worker is idle now.
+    assert_eq!(last(&mut hub, "step 1"), no(11));
+    assert_eq!(last(&mut hub, "put 1 0 8"), Answer::Ok);
+}
+
+#[test]
+fn refusal_15_announces_nothing() {
+    let script = "setup 1 1 1 4294967295
+        open 0
+        step 0
+        close 0
+        open 0
+        step 0";
+    assert_eq!(run(script), ["ok", "ok", "no 15", "no 13", "ok", "no 15"]);
+}
+
+#[test]
+fn fields_at_their_bounds() {
+    let script = "setup 3 4 8 1
+        get 2 3
+        step 2
+        get 3 3
+        get 2 4
+        get 255 65535
+        put 0 256 1
+        collect 3
+        step 255";
+    let expected = ["ok", "ok", "value 0", "no 3", "no 4", "no 3", "no 4", "no 3", "no 3"];
+    assert_eq!(run(script), expected);
+}
+
+#[test]
+fn the_tables_numbers() {
+    for (place, refusal) in Refusal::ALL.iter().enumerate() {
+        assert_eq!(usize::from(refusal.number()), place + 1);
+        assert_eq!(Refusal::from_number(place as u64 + 1), Some(*refusal));
+    }
+    assert_eq!(Refusal::from_number(0), None);
+    assert_eq!(Refusal::from_number(16), None);
+    assert_eq!(words(&[no(15)]), ["no 15"]);
+}
+
+#[test]
+fn a_snapshot_is_announced_from_opens_first_step() {
+    // Between open's steps the worker is busy; after them it has a time.
+    let file = records("setup 1 1 1 1\n open 0\n step 0\n open 0\n step 0\n open 0\n close 0");
+    let answers = reference::log::answers(&mut Hub::new(), &file);
+    assert_eq!(words(&answers), ["ok", "ok", "going", "no 10", "at 1", "no 12", "ok"]);
+}

@@ -1,0 +1,141 @@
+//! The text tool: round trips for any bytes, the form of each command, errors with their lines.
+
+mod common;
+
+use common::records;
+use reference::generate::{script, Kind, Random};
+use reference::record::LENGTH;
+use reference::text::{pack, unpack, MAX_REPEAT};
+use reference::Record;
+
+fn round_trip(file: &[u8]) {
+    let text = unpack(file);
+    assert_eq!(pack(text.as_bytes()).as_deref(), Ok(file), "{text}");
+}
+
+#[test]
+fn any_bytes_come_back() {
+    let mut random = Random::new(7);
+    for length in 0..400 {
+        let file: Vec<u8> = (0..length).map(|_| random.bits() as u8).collect();
+        round_trip(&file);
+        // Mostly zero bytes and small numbers: many of these are well-formed records.
+        let sparse =
+            |random: &mut Random| if random.chance(850) { 0 } else { random.below(9) as u8 };
+        let file: Vec<u8> = (0..length).map(|_| sparse(&mut random)).collect();
+        round_trip(&file);
+    }
+}
+
+#[test]
+fn scripts_come_back() {
+    for (kind, _) in Kind::ALL {
+        (0..20).for_each(|seed| round_trip(&script(kind, seed, 300)));
+    }
+}
+
+#[test]
+fn text_comes_back_too() {
+    let text = "setup 16 256 2048 4294967295
+put 255 65535 18446744073709551615
+open 3
+read 4 9
+close 5
+get 0 0
+collect 15
+step 1
+step 2 x3
+bytes 08 00 00 00 00 00 00 00 00 00 00 00 00 00 00 01
+bytes ff
+";
+    assert_eq!(unpack(&pack(text.as_bytes()).unwrap()), text);
+}
+
+#[test]
+fn commands_and_their_bytes() {
+    let cases: [(&str, [u8; LENGTH]); 9] = [
+        ("setup 2 258 772 84281096", [0, 2, 2, 1, 4, 3, 0, 0, 8, 7, 6, 5, 0, 0, 0, 0]),
+        ("put 3 258 578437695752307201", [1, 3, 2, 1, 0, 0, 0, 0, 1, 2, 3, 4, 5, 6, 7, 8]),
+        ("open 9", [2, 9, 0, 0, 0, 0, 0, 0, 0, 0, 0, 0, 0, 0, 0, 0]),
+        ("read 9 513", [3, 9, 1, 2, 0, 0, 0, 0, 0, 0, 0, 0, 0, 0, 0, 0]),
+        ("close 9", [4, 9, 0, 0, 0, 0, 0, 0, 0, 0, 0, 0, 0, 0, 0, 0]),
+        ("get 9 513", [5, 9, 1, 2, 0, 0, 0, 0, 0, 0, 0, 0, 0, 0, 0, 0]),
+        ("collect 9", [6, 9, 0, 0, 0, 0, 0, 0, 0, 0, 0, 0, 0, 0, 0, 0]),
+        ("step 9", [7, 9, 0, 0, 0, 0, 0, 0, 0, 0, 0, 0, 0, 0, 0, 0]),
+        (
+            "bytes 000102030405060708090a0b0c0D0E0f",
+            [0, 1, 2, 3, 4, 5, 6, 7, 8, 9, 10, 11, 12, 13, 14, 15],
+        ),
+    ];
+    for (text, bytes) in cases {
+        assert_eq!(records(text), bytes, "{text}");
+    }
+}
+
+#[test]
+fn well_formed_records_decode_to_what_was_encoded() {
+    let mut random = Random::new(3);
+    for _ in 0..2000 {
+        let (worker, register) = (random.bits() as u8, random.bits() as u16);
+        let (slots, clock, value) = (random.bits() as u16, random.bits() as u32, random.bits());
+        let record = random.pick(&[
+            Record::Setup { workers: worker, registers: register, slots, clock },
+            Record::Put { worker, register, value },
+            Record::Open { worker },
+            Record::Read { worker, register },
+            Record::Close { worker },
+            Record::Get { worker, register },
+            Record::Collect { worker },
+            Record::Step { worker },
+        ]);
+        assert_eq!(Record::decode(&record.encode()), Ok(record));
+        assert_eq!(records(&unpack(&record.encode())), record.encode());
+    }
+}
+
+#[test]
+fn comments_blank_lines_and_spaces() {
+    let text = "# a hub\n\n  setup 1 1 1 1   # the smallest\r\n\t\nstep 0 x2 #\n#end";
+    assert_eq!(records(text), records("setup 1 1 1 1\nstep 0\nstep 0"));
+    assert_eq!(records(""), []);
+}
+
+#[test]
+fn long_runs_of_steps() {
+    let file = records(&format!("step 3 x{MAX_REPEAT}\nstep 3 x2\nstep 4"));
+    assert_eq!(file.len(), (MAX_REPEAT + 3) * LENGTH);
+    assert_eq!(unpack(&file), format!("step 3 x{MAX_REPEAT}\nstep 3 x2\nstep 4\n"));
+}
+
+#[test]
+fn errors_say_line_and_reason() {
+    let cases = [
+        ("open", 1, "not of the form: open WORKER"),
+        ("\nput 1 2", 2, "not of the form: put WORKER REGISTER VALUE"),
+        ("open 1\nfly 3", 2, "unknown command \"fly\""),
+        ("open 256", 1, "worker \"256\" is no number that fits its bytes"),
+        ("open -1", 1, "worker \"-1\" is no number that fits its bytes"),
+        ("open +1", 1, "worker \"+1\" is no number that fits its bytes"),
+        ("read 0 65536", 1, "register \"65536\" is no number that fits its bytes"),
+        (
+            "put 0 0 18446744073709551616",
+            1,
+            "value \"18446744073709551616\" is no number that fits its bytes",
+        ),
+        ("setup 1 1 1 4294967296", 1, "clock \"4294967296\" is no number that fits its bytes"),
+        ("step 0 3", 1, "repetition \"3\" is not x1 to x1000000"),
+        ("step 0 x0", 1, "repetition \"x0\" is not x1 to x1000000"),
+        ("step 0 x1 x1", 1, "not of the form: step WORKER [xCOUNT]"),
+        ("bytes", 1, "0 bytes where a record has 1 to 16"),
+        ("bytes 0", 1, "\"0\" is not pairs of hexadecimal digits"),
+        ("bytes 0g", 1, "\"0g\" is not pairs of hexadecimal digits"),
+        ("bytes 00112233445566778899aabbccddeeff00", 1, "17 bytes where a record has 1 to 16"),
+        ("open 1\nbytes 00\n\n# more\nopen 1", 2, "fewer than 16 bytes, but more commands follow"),
+    ];
+    for (text, line, reason) in cases {
+        let error = pack(text.as_bytes()).unwrap_err();
+        assert_eq!((error.line, error.reason.as_str()), (line, reason), "{text:?}");
+    }
+    let error = pack(b"open 1\n\xff").unwrap_err();
+    assert_eq!(error.to_string(), "line 2: not UTF-8 text");
+}
