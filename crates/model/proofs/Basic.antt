@@ -1,6 +1,6 @@
 -- Small facts that every layer uses: tests, lists, how often a number stands in a list.
-use mathlib.Core.Path.{_≡_, refl, ap, subst}
-use mathlib.Core.Bool.{Bool, true, false, cond}
+use mathlib.Core.Path.{_≡_, refl, sym, ap, subst}
+use mathlib.Core.Bool.{Bool, true, false, cond, true≢false, _&&_}
 use mathlib.Core.Logic.{_≢_, _⊎_, inl, inr}
 use mathlib.Core.List.{List, [], _∷_, _++_, map}
 use Prim.Native.Nat.{ℕ, zero, suc, _+_, _≤_, _<_}
@@ -128,3 +128,8 @@ unfolding occurrences
 occurrences-at [] i d h = absurd (not-suc-le-zero h)
 occurrences-at (x ∷ l) zero d h = omega (arith, hit-same x)
 occurrences-at (x ∷ l) (suc i) d h = omega (arith, occurrences-at l i d (le-of-suc-le-suc h))
+
+-- both parts of a conjunction that holds
+pub and-both : (a b : Bool) → a && b ≡ true → (a ≡ true) × (b ≡ true)
+and-both true b e = (refl, e)
+and-both false b e = absurd (true≢false (sym e))

@@ -12,7 +12,7 @@ use borrow.Author.Tests as Tests
 use Rattle.model.specs.Store.{absent, Doing, Idle, PutPublish, PutStamp, PutHandIn, FlushTake, FlushRead, FlushFree, OpenAnnounce, OpenPass, ReadEnter, ReadStand, CloseWithdraw, GetShow, Store, workerAt, slotAt}
 use Rattle.model.specs.Answer.{Answer}
 use Rattle.model.specs.Demand.{Ending, Unfinished, RefusedAt, FinishedAt, Call, isUnfinished, runningOf, stampedOver, passed, takesEffect, filterBelow, changeEffects, atEnd, finishes, endEffects, callAt}
-use Rattle.model.proofs.Basic.{eq-cases, le-cases}
+use Rattle.model.proofs.Basic.{eq-cases, le-cases, and-both}
 use Rattle.model.proofs.Invariant.{Running}
 
 ------------------------------------------------------------------------
@@ -24,10 +24,6 @@ un-is Unfinished z = refl
 un-is (RefusedAt i) z = absurd (true≢false (sym z))
 un-is (FinishedAt i a) z = absurd (true≢false (sym z))
 
-both : (a b : Bool) → _&&_ a b ≡ true → (a ≡ true) × (b ≡ true)
-both true b e = (refl, e)
-both false b e = absurd (true≢false (sym e))
-
 find : (h : List Call) (w k : ℕ) → k < length h → callAt h k .worker ≡ w → callAt h k .ending ≡ Unfinished
     → ((i : ℕ) → i < length h → callAt h i .worker ≡ w → callAt h i .ending ≡ Unfinished → i ≡ k) → runningOf h w ≡ k
 unfolding runningOf isUnfinished
@@ -37,7 +33,7 @@ find (d ∷ h) w (suc k) b a u f = go (_&&_ (eqb (d .worker) w) (isUnfinished (d
   where
     go : (t : Bool) → _&&_ (eqb (d .worker) w) (isUnfinished (d .ending)) ≡ t → runningOf h w ≡ k → cond t 0 (suc (runningOf h w)) ≡ suc k
     go true e r =
-        let q = both (eqb (d .worker) w) (isUnfinished (d .ending)) e in
+        let q = and-both (eqb (d .worker) w) (isUnfinished (d .ending)) e in
         absurd (omega (arith, f 0 (omega arith) (Tests.eqb-true (d .worker) w (q .0)) (un-is (d .ending) (q .1))))
     go false e r = ap suc r
 

@@ -12,7 +12,7 @@ use Rattle.model.specs.Answer.{Answer, Ok, Going, Freed, At, Value, Done
 use Rattle.model.specs.Record.{Operation}
 use Rattle.model.specs.Demand.{Ending, Unfinished, RefusedAt, FinishedAt, Call, endAs, endFor, Plain, feed, shows, call₀, occurrences, Stands, Agrees, callAt}
 use Rattle.model.proofs.Basic.{hit-other, lt-cases, eq-cases, occurrences-snoc}
-use Rattle.model.proofs.Linear.{Lin, lin-skip, lin-begin, lin-end, lin-end-shown, ended-length, ended-same, ended-own, ended-other}
+use Rattle.model.proofs.Linear.{Lin, lin-skip, lin-begin, lin-end, lin-end-agree, ended-length, ended-same, ended-own, ended-other}
 use Rattle.model.proofs.Invariant.{Running, NoneRunning}
 
 pub record Hist (now w : ℕ) (h : List Call) (o : List ℕ) (p : Plain) (h′ : List Call) (o′ : List ℕ) (p′ : Plain) : Type 0 where
@@ -168,7 +168,7 @@ module _ (now w : ℕ) (h : List Call) (o : List ℕ) (p : Plain) (L : Lin now h
             same⁻ j (f .within) .0,
             omega (arith, occurrences-snoc j o k, hit-other k j (λ e. n (sym (f .own) ∙ ap (λ (q : ℕ). callAt h q .worker) (sym e) ∙ K .own))),
           );
-          linear = lin-end-shown now w a h k (K .within) (K .own) (K .unfinished) (K .only) o p L nt st ag;
+          linear = lin-end-agree now w a h k (K .within) (K .own) (K .unfinished) (K .only) o p L nt st ag;
           registers = rg;
           copy = cp;
         }

@@ -25,3 +25,4 @@ pub mod Total
 pub mod Full
 pub mod Reached
 pub mod Refusals
+pub mod Document

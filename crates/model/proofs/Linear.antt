@@ -12,9 +12,9 @@ use lib.Seq.{getD-append-seam}
 use borrow.Author.Tests.{eqb-true, eq-eqb}
 use Rattle.model.specs.Store.{Reading}
 use Rattle.model.specs.Answer.{Answer, Ok, Going, Freed, At, Value, Done, No}
-use Rattle.model.specs.Steps.{shown}
+use Rattle.model.specs.Steps.{answerFor}
 use Rattle.model.specs.Record.{Operation, Put, Open, Read, Close, Get, Collect}
-use Rattle.model.specs.Demand.{Ending, Unfinished, RefusedAt, FinishedAt, Call, ends, endAs, endOnce, endFor, Plain, plain₀, feed, shows, call₀, finishes, occurrences, All, Stands, EndsBefore, Ordered, Agrees, Shown, IsOrder, callAt}
+use Rattle.model.specs.Demand.{Ending, Unfinished, RefusedAt, FinishedAt, Call, ends, endAs, endOnce, endFor, Plain, plain₀, feed, shows, call₀, finishes, occurrences, All, Stands, EndsBefore, Ordered, Agrees, RegistersAgree, IsOrder, callAt}
 use Rattle.model.proofs.Basic.{hit-same, hit-other, occurrences-snoc, eq-cases, lt-cases, All-append, getD-map}
 
 unfoldable pub after : List Call → Plain → List ℕ → Plain
@@ -54,15 +54,15 @@ after-mono h h′ p (i ∷ o) c =
     let e = c i (omega (arith, hit-same i)) in
     rw (e .0, e .1) (after-mono h h′ (feed p (callAt h i .worker) (callAt h i .operation)) o (λ j x. c j (omega arith)))
 
-pub Shown-mono : (h h′ : List Call) (p : Plain) (o : List ℕ)
+pub RegistersAgree-mono : (h h′ : List Call) (p : Plain) (o : List ℕ)
     → ((i : ℕ) → 0 < occurrences i o → (callAt h′ i .operation ≡ callAt h i .operation) × (callAt h′ i .worker ≡ callAt h i .worker))
     → ((i : ℕ) (s : Option Reading) → 0 < occurrences i o → Agrees (callAt h i .operation) (callAt h i .ending) s → Agrees (callAt h i .operation) (callAt h′ i .ending) s)
-    → Shown h p o → Shown h′ p o
-unfolding Shown occurrences
-Shown-mono h h′ p [] c a t = tt
-Shown-mono h h′ p (i ∷ o) c a t =
+    → RegistersAgree h p o → RegistersAgree h′ p o
+unfolding RegistersAgree occurrences
+RegistersAgree-mono h h′ p [] c a t = tt
+RegistersAgree-mono h h′ p (i ∷ o) c a t =
     let e = c i (omega (arith, hit-same i)) in
-    rw (e .0, e .1) (a i _ (omega (arith, hit-same i)) (t .0), Shown-mono h h′ (feed p (callAt h i .worker) (callAt h i .operation)) o (λ j x. c j (omega arith)) (λ j s x. a j s (omega arith)) (t .1))
+    rw (e .0, e .1) (a i _ (omega (arith, hit-same i)) (t .0), RegistersAgree-mono h h′ (feed p (callAt h i .worker) (callAt h i .operation)) o (λ j x. c j (omega arith)) (λ j s x. a j s (omega arith)) (t .1))
 
 ------------------------------------------------------------------------
 -- One more at the end
@@ -80,12 +80,12 @@ unfolding after
 after-snoc h p [] k = refl
 after-snoc h p (i ∷ o) k = after-snoc h (feed p (callAt h i .worker) (callAt h i .operation)) o k
 
-pub Shown-snoc : (h : List Call) (p : Plain) (o : List ℕ) (k : ℕ)
+pub RegistersAgree-snoc : (h : List Call) (p : Plain) (o : List ℕ) (k : ℕ)
     → Agrees (callAt h k .operation) (callAt h k .ending) (shows (after h p o) (callAt h k .worker) (callAt h k .operation))
-    → Shown h p o → Shown h p (o ++ (k ∷ []))
-unfolding Shown after
-Shown-snoc h p [] k a t = (a, tt)
-Shown-snoc h p (i ∷ o) k a t = (t .0, Shown-snoc h (feed p (callAt h i .worker) (callAt h i .operation)) o k a (t .1))
+    → RegistersAgree h p o → RegistersAgree h p (o ++ (k ∷ []))
+unfolding RegistersAgree after
+RegistersAgree-snoc h p [] k a t = (a, tt)
+RegistersAgree-snoc h p (i ∷ o) k a t = (t .0, RegistersAgree-snoc h (feed p (callAt h i .worker) (callAt h i .operation)) o k a (t .1))
 
 ------------------------------------------------------------------------
 -- The order so far: of the operations h, with the plain registers p that it has come to, before record `now`
@@ -116,17 +116,17 @@ agrees-refused (Get r) i s = tt
 agrees-refused Collect i s = tt
 
 -- an answer that shows a reading ends its operation as finished, and frees nothing
-pub shown-ends : (x : Reading) → ends (shown x) ≡ true
-unfolding shown ends
-shown-ends x = refl
+pub answerFor-ends : (x : Reading) → ends (answerFor x) ≡ true
+unfolding answerFor ends
+answerFor-ends x = refl
 
-pub shown-finishes : (x : Reading) → finishes (shown x) ≡ true
-unfolding shown finishes
-shown-finishes x = refl
+pub answerFor-finishes : (x : Reading) → finishes (answerFor x) ≡ true
+unfolding answerFor finishes
+answerFor-finishes x = refl
 
-pub shown-end : (i : ℕ) (x : Reading) → endAs i (shown x) ≡ FinishedAt i (shown x)
-unfolding shown endAs
-shown-end i x = refl
+pub answerFor-end : (i : ℕ) (x : Reading) → endAs i (answerFor x) ≡ FinishedAt i (answerFor x)
+unfolding answerFor endAs
+answerFor-end i x = refl
 
 module _ {now : ℕ} {h : List Call} {o : List ℕ} {p : Plain} (L : Lin now h o p) where
   pub inside : (i : ℕ) → 0 < occurrences i o → i < length h
@@ -141,7 +141,7 @@ module _ {now : ℕ} {h : List Call} {o : List ℕ} {p : Plain} (L : Lin now h o
               within = λ i x. L .isOrder .within i (omega (arith, length-append h (d ∷ [])));
               stands = λ i x. ⊎-elim (old i) (new i x) (lt-cases i (length h));
               ordered = Ordered-mono h h′ o (λ i x. ap (λ (v : Call). v .begun) (keep i x)) (λ i j x y z. subst (λ (v : Call). EndsBefore (callAt h i .begun) (v .ending)) (keep j y) z) (L .isOrder .ordered);
-              shown = Shown-mono h h′ plain₀ o (λ i x. (ap (λ (v : Call). v .operation) (keep i x), ap (λ (v : Call). v .worker) (keep i x))) (λ i s x. subst (λ (v : Call). Agrees (callAt h i .operation) (v .ending) s) (sym (keep i x))) (L .isOrder .shown);
+              registersAgree = RegistersAgree-mono h h′ plain₀ o (λ i x. (ap (λ (v : Call). v .operation) (keep i x), ap (λ (v : Call). v .worker) (keep i x))) (λ i s x. subst (λ (v : Call). Agrees (callAt h i .operation) (v .ending) s) (sym (keep i x))) (L .isOrder .registersAgree);
             };
         early = λ i x. ⊎-elim (λ u. omega (arith, L .early i (u .0), ap (λ (v : Call). v .begun) (List·getD-append h (d ∷ []) call₀ i (u .0)))) (λ u. omega (arith, b, ap (λ (v : Call). v .begun) (last i x (u .0)))) (lt-cases i (length h));
         come = after-mono h h′ plain₀ o (λ i x. (ap (λ (v : Call). v .operation) (keep i x), ap (λ (v : Call). v .worker) (keep i x))) ∙ L .come;
@@ -173,7 +173,7 @@ module _ {now : ℕ} {h : List Call} {o : List ℕ} {p : Plain} (L : Lin now h o
               within = λ i y. omega (arith, occurrences-snoc i o k, L .isOrder .within i y, hit-other k i (omega arith));
               stands = λ i y. ⊎-elim (own i) (other i y) (eq-cases k i);
               ordered = Ordered-snoc h o k (λ i y e. subst (EndsBefore (callAt h i .begun)) u e) (L .isOrder .ordered);
-              shown = Shown-snoc h plain₀ o k (rw u (agrees-unended (callAt h k .operation) _)) (L .isOrder .shown);
+              registersAgree = RegistersAgree-snoc h plain₀ o k (rw u (agrees-unended (callAt h k .operation) _)) (L .isOrder .registersAgree);
             };
         early = L .early;
         come = after-snoc h plain₀ o k ∙ ap (λ (q : Plain). feed q (callAt h k .worker) (callAt h k .operation)) (L .come);
@@ -274,23 +274,23 @@ module _ (now w : ℕ) (a : Answer) (h : List Call) (k : ℕ) (kin : k < length 
                     (λ e. subst (λ (q : Ending). Stands q (occurrences i o)) (sym (ended-other i y (e .0))) (L .isOrder .stands i y))
                     (eq-cases k i);
                 ordered = orderedE;
-                shown =
-                    Shown-mono h ended plain₀ o (λ i x. ended-same i (inside L i x))
+                registersAgree =
+                    RegistersAgree-mono h ended plain₀ o (λ i x. ended-same i (inside L i x))
                     (λ i s x z. ⊎-elim
                     (λ e. subst (λ (q : ℕ). Agrees (callAt h q .operation) (callAt ended q .ending) s) (e .0) (subst (λ (q : Ending). Agrees (callAt h k .operation) q s) (sym ended-own) (ag s)))
                     (λ e. subst (λ (q : Ending). Agrees (callAt h i .operation) q s) (sym (ended-other i (inside L i x) (e .0))) z)
                     (eq-cases k i))
-                    (L .isOrder .shown);
+                    (L .isOrder .registersAgree);
               };
           early = earlyE;
           come = comeE;
         }
 
     -- it takes effect at its end, and what it answers is what is shown
-    pub lin-end-shown : occurrences k o ≡ 0 → Stands (endAs now a) 1
+    pub lin-end-agree : occurrences k o ≡ 0 → Stands (endAs now a) 1
         → Agrees (callAt h k .operation) (endAs now a) (shows p w (callAt h k .operation))
         → Lin (now + 1) ended (o ++ (k ∷ [])) (feed p w (callAt h k .operation))
-    lin-end-shown z st ag =
+    lin-end-agree z st ag =
         record {
           isOrder =
               record {
@@ -306,12 +306,12 @@ module _ (now w : ℕ) (a : Answer) (h : List Call) (k : ℕ) (kin : k < length 
                     Ordered-snoc ended o k
                     (λ i x e. late i (L .early i (inside L i x)) (subst (EndsBefore (callAt h i .begun)) ended-own (subst (λ (q : ℕ). EndsBefore q (callAt ended k .ending)) (ended-begun i (inside L i x)) e)))
                     orderedE;
-                shown =
-                    Shown-snoc ended plain₀ o k
+                registersAgree =
+                    RegistersAgree-snoc ended plain₀ o k
                     (rw (comeE, ended-own, ended-same k kin .0, ended-same k kin .1, kw) ag)
-                    (Shown-mono h ended plain₀ o (λ i x. ended-same i (inside L i x))
+                    (RegistersAgree-mono h ended plain₀ o (λ i x. ended-same i (inside L i x))
                     (λ i s x g. subst (λ (q : Ending). Agrees (callAt h i .operation) q s) (sym (ended-other i (inside L i x) (λ e. omega (arith, z, subst (λ (q : ℕ). 0 < occurrences q o) (sym e) x)))) g)
-                    (L .isOrder .shown));
+                    (L .isOrder .registersAgree));
               };
           early = earlyE;
           come = after-snoc ended plain₀ o k ∙ rw (comeE, ended-same k kin .0, ended-same k kin .1, kw);

@@ -1,5 +1,5 @@
 -- Demand 3, for every accepted setup and every list of records.
-use mathlib.Core.Path.{_≡_, sym, ap, _∙_, subst}
+use mathlib.Core.Path.{_≡_, refl, sym, ap, _∙_, subst}
 use mathlib.Core.Logic.{⊎-elim}
 use mathlib.Core.List.{List, [], _∷_, _++_, map}
 use Prim.Native.Nat.{ℕ, zero, suc, _+_, _<_}
@@ -7,9 +7,9 @@ use native.Mathlib.Nat.{not-suc-le-zero, le-of-suc-le-suc}
 use native.Mathlib.Omega.{arith}
 use lib.ListN.{length, getD}
 use Rattle.model.specs.Store.{Store, Hub, up}
-use Rattle.model.specs.Answer.{Freed}
+use Rattle.model.specs.Answer.{Answer, Freed}
 use Rattle.model.specs.Record.{decode}
-use Rattle.model.specs.Apply.{fresh, apply}
+use Rattle.model.specs.Apply.{fresh, apply, answersTo}
 use Rattle.model.specs.Demand.{Event, events, Call, observe, history, Plain, plain₀, effects, order, occurrences, All, IsOrder, FreesNothingNeeded, TookBy, Took, event₀, FreedOnce, Demand3, Demand, exchange}
 use Rattle.model.proofs.Basic.{app-nil, app-assoc}
 use Rattle.model.proofs.Invariant.{Inv}
@@ -93,3 +93,9 @@ demand batch row b e bs =
   where
     whole : {free : List ℕ} {es : List Event} → Result 0 free es [] [] → Demand3 es
     whole R = record { isOrder = R .isOrder; freesNothingNeeded = R .safe; freedOnce = R .once }
+
+-- the answers that the log shows are those of the events
+pub answers-of-events : (batch : ℕ → ℕ) (h : Hub) (bs : List (List ℕ)) → map (λ (e : Event). e .answer) (events batch h bs) ≡ answersTo batch h bs
+unfolding events answersTo
+answers-of-events batch h [] = refl
+answers-of-events batch h (b ∷ bs) = ap (λ (l : List Answer). apply batch h b .answer ∷ l) (answers-of-events batch (apply batch h b .hub) bs)

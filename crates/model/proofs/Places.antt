@@ -13,13 +13,13 @@ use borrow.Author.Tests as Tests
 use Rattle.model.specs.Store.{absent, Reading, Slot, Range, Doing, Idle, PutPublish, PutStamp, PutHandIn, FlushTake, FlushRead, FlushFree, OpenAnnounce, OpenPass, ReadEnter, ReadStand, CloseWithdraw, GetShow, Worker, Store, workerAt, slotAt, newestOf, holders, held, rangeOf, withQueue, withWorker, withDoing, place}
 use Rattle.model.specs.Answer.{Done, No}
 use Rattle.model.specs.Ranges.{needed, filter, merge, firstTwo, neededPools, joining, queuedPool}
-use Rattle.model.specs.Steps.{readTimes, shown}
+use Rattle.model.specs.Steps.{readTimes, answerFor}
 use Rattle.model.specs.Record.{Operation, Put, Open, Read, Close, Get, Collect}
 use Rattle.model.specs.Apply.{firstPlace, registerBelow, mayOpen, mayUseTime}
 use Rattle.model.specs.Demand.{Ending, Unfinished, FinishedAt, Call, endAs, endFor, Plain, feed, inCopy, shows, atEnd, finishes, endEffects, occurrences, All, Stands, Agrees, callAt}
 use Rattle.model.specs.Reached.{sumBy}
 use Rattle.model.proofs.Basic.{hit-other, lt-cases, eq-cases, All-append, All-get, All-map, app-nil, getD-right, occurrences-append, occurrences-at}
-use Rattle.model.proofs.Linear.{agrees-refused, shown-end, shown-finishes}
+use Rattle.model.proofs.Linear.{agrees-refused, answerFor-end, answerFor-finishes}
 use Rattle.model.proofs.Slots.{nth}
 use Rattle.model.proofs.Chain.{On-found, On-on, Fine, Past, Next}
 use Rattle.model.proofs.Count.{cnt, sumBy-append, cnt-append, cnt-merge, cnt-split, cnt-queued, cnt-firstTwo, cnt-sent, All-merge, All-keep, All-queued, All-firstTwo, All-rest, All-toQueue, All-toLocal, All-kept, not-needed}
@@ -469,21 +469,21 @@ module _ (now : ℕ) (s : Store) (olds : List (List ℕ)) (h : List Call) (o : L
       })
 
   module _ (r c : ℕ) (e : workerAt s w .doing ≡ ReadStand r c) where
-    pub found-kept : slotAt s c .low ≤ t → Kept now (to Idle) (map (endFor now w (shown (slotAt s c .value))) h) (o ++ endEffects h w (shown (slotAt s c .value)))
-    unfolding feed shows inCopy atEnd shown
+    pub found-kept : slotAt s c .low ≤ t → Kept now (to Idle) (map (endFor now w (answerFor (slotAt s c .value))) h) (o ++ endEffects h w (answerFor (slotAt s c .value)))
+    unfolding feed shows inCopy atEnd answerFor
     found-kept z =
         let a = cur-is (ReadStand r c) e in
         let d = doing-is (ReadStand r c) e in
         let f = d .2 in
-        one-more o (endEffects h w (shown (slotAt s c .value))) (a .0) (own-is (a .1) (shown (slotAt s c .value)) (shown-finishes (slotAt s c .value)) (ap atEnd (a .2 .0)))
+        one-more o (endEffects h w (answerFor (slotAt s c .value))) (a .0) (own-is (a .1) (answerFor (slotAt s c .value)) (answerFor-finishes (slotAt s c .value)) (ap atEnd (a .2 .0)))
         (place-inv (ReadStand r c) Idle e (λ i. refl) (calm (ReadStand r c) tt e) _ (o ++ (a .0 ∷ [])) (feed p w (callAt h (a .0) .operation))
-        (hist-show now w h o p (I .linear) (shown (slotAt s c .value)) (a .0) (a .1) (a .2 .1)
-        (subst (λ (q : Ending). Stands q 1) (sym (shown-end now (slotAt s c .value))) refl)
-        (subst (λ (q : Ending). Agrees (callAt h (a .0) .operation) q (shows p w (callAt h (a .0) .operation))) (sym (shown-end now (slotAt s c .value)))
-        (subst (λ (q : Operation). Agrees q (FinishedAt now (shown (slotAt s c .value))) (shows p w q)) (sym (a .2 .0))
-        (f .0 r, ap (λ q. inCopy q r) (f .1), ap shown (On-found (s .slots) t c (f .0 r) (chain x r) (f .2) z))))
+        (hist-show now w h o p (I .linear) (answerFor (slotAt s c .value)) (a .0) (a .1) (a .2 .1)
+        (subst (λ (q : Ending). Stands q 1) (sym (answerFor-end now (slotAt s c .value))) refl)
+        (subst (λ (q : Ending). Agrees (callAt h (a .0) .operation) q (shows p w (callAt h (a .0) .operation))) (sym (answerFor-end now (slotAt s c .value)))
+        (subst (λ (q : Operation). Agrees q (FinishedAt now (answerFor (slotAt s c .value))) (shows p w q)) (sym (a .2 .0))
+        (f .0 r, ap (λ q. inCopy q r) (f .1), ap answerFor (On-found (s .slots) t c (f .0 r) (chain x r) (f .2) z))))
         (λ i. rw (a .2 .0)) (λ v n. rw (a .2 .0)))
-        (rw (a .2 .0)) (inr (d .1)) (end-shut now w h o p (I .linear) (shown (slotAt s c .value)) (a .0) (a .1)))
+        (rw (a .2 .0)) (inr (d .1)) (end-shut now w h o p (I .linear) (answerFor (slotAt s c .value)) (a .0) (a .1)))
 
     pub on-kept : t < slotAt s c .low → Kept now (to (ReadStand r (slotAt s c .older))) h o
     on-kept z =

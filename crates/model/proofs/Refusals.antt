@@ -9,7 +9,7 @@ use lib.Dec.{ltb, leb, eqb}
 use lib.ListN.{length, getD}
 use Rattle.model.specs.Store.{absent, lastClock, Reading, Range, Doing, Idle, PutPublish, PutStamp, PutHandIn, FlushTake, FlushRead, FlushFree, OpenAnnounce, OpenPass, ReadEnter, ReadStand, CloseWithdraw, GetShow, Store, Hub, blank, up, workerAt, slotAt, holders, rangeOf, withWorker, place}
 use Rattle.model.specs.Answer.{Going, Done, No, Stepped, Applied}
-use Rattle.model.specs.Steps.{putPublish, putStamp, putHandIn, flushTake, flushSplit, flushRead, flushFree, openAnnounce, openPass, shown, readEnter, readStand, getShow, closeWithdraw, stepAt}
+use Rattle.model.specs.Steps.{putPublish, putStamp, putHandIn, flushTake, flushSplit, flushRead, flushFree, openAnnounce, openPass, answerFor, readEnter, readStand, getShow, closeWithdraw, stepAt}
 use Rattle.model.specs.Record.{Operation, SetUp, Begin, Step, Decoded, Asks, Refuses, decode, commandOf, unusedZero}
 use Rattle.model.specs.Apply.{refuse, inRanges, setUp, registerBelow, isIdle, mayOpen, mayUseTime, begin, step, obey, applyDecoded, apply}
 use Rattle.model.specs.Refusals.{EndsWell, Demand1}
@@ -49,7 +49,7 @@ module _ (batch : ℕ → ℕ) (s : Store) (w : ℕ) where
   free-well (ρ ∷ m) = tt
 
   step-well : (d : Doing) → Well (stepAt batch s w d)
-  unfolding stepAt putStamp flushTake flushRead flushSplit openAnnounce openPass readEnter readStand getShow closeWithdraw shown
+  unfolding stepAt putStamp flushTake flushRead flushSplit openAnnounce openPass readEnter readStand getShow closeWithdraw answerFor
   step-well Idle = on-reading (up s) (Asks (Step w)) 11 (omega arith) (omega arith) (λ e. omega (arith, e))
   step-well (PutPublish r x) = put-well r x (s .free)
   step-well (PutStamp r c) = tt

@@ -14,9 +14,9 @@ use Rattle.model.specs.Store.{absent, lastClock, reading₀, Slot, start
 use Rattle.model.specs.Answer.{Ok, Applied}
 use Rattle.model.specs.Record.{Sizes, SetUp, Begin, Step, Decoded, Asks, Refuses, decode}
 use Rattle.model.specs.Apply.{refuse, inRanges, firstSlots, fresh, setUp, obey, applyDecoded, apply}
-use Rattle.model.specs.Demand.{plain₀, occurrences, Ordered, Shown}
+use Rattle.model.specs.Demand.{plain₀, occurrences, Ordered, RegistersAgree}
 use Rattle.model.specs.Reached.{sumBy}
-use Rattle.model.proofs.Basic.{hit-eq, hit-other, lt-cases, eq-cases, cond-both}
+use Rattle.model.proofs.Basic.{hit-eq, hit-other, lt-cases, eq-cases, cond-both, and-both}
 use Rattle.model.proofs.Linear.{Lin, after}
 use Rattle.model.proofs.Slots.{nth}
 use Rattle.model.proofs.Chain.{Linked, Fine}
@@ -148,17 +148,13 @@ module _ (z : Sizes) (row : List Slot) (long : z .N ≤ length row) (v≤n : z .
       first-lin : Lin 0 [] [] plain₀
       first-lin =
           record {
-            isOrder = record { within = λ i z. refl; stands = λ i z. absurd (not-suc-le-zero z); ordered = unfold Ordered in tt; shown = unfold Shown in tt };
+            isOrder = record { within = λ i z. refl; stands = λ i z. absurd (not-suc-le-zero z); ordered = unfold Ordered in tt; registersAgree = unfold RegistersAgree in tt };
             early = λ i z. absurd (not-suc-le-zero z);
             come = unfold after in refl;
           }
 
 ------------------------------------------------------------------------
 -- What an accepted setup is
-
-and-both : (a b : Bool) → a && b ≡ true → (a ≡ true) × (b ≡ true)
-and-both true b e = (refl, e)
-and-both false b e = absurd (true≢false (sym e))
 
 pub record InRanges (z : Sizes) : Type 0 where
   pub one≤P : 1 ≤ z .P

@@ -8,12 +8,12 @@ use native.Mathlib.Omega.{arith}
 use lib.Dec.{eqb}
 use Rattle.model.specs.Store.{absent, Reading, Idle, PutStamp, PutHandIn, ReadEnter, ReadStand, GetShow, Store, workerAt, slotAt, newestOf, place}
 use Rattle.model.specs.Versions.{stamp}
-use Rattle.model.specs.Steps.{shown}
+use Rattle.model.specs.Steps.{answerFor}
 use Rattle.model.specs.Record.{Operation}
 use Rattle.model.specs.Demand.{Ending, FinishedAt, Call, endFor, Plain, feed, shows, changeEffects, atEnd, endEffects, Stands, Agrees, callAt}
 use Rattle.model.proofs.Basic.{eq-cases, All-get, app-assoc}
 use Rattle.model.proofs.Effect.{own-is, change-none}
-use Rattle.model.proofs.Linear.{shown-end, shown-finishes}
+use Rattle.model.proofs.Linear.{answerFor-end, answerFor-finishes}
 use Rattle.model.proofs.Slots.{nth, stamp-value}
 use Rattle.model.proofs.Chain.{Past}
 use Rattle.model.proofs.Invariant.{ctx, old, Snap, PlaceHolds, Inv}
@@ -72,21 +72,21 @@ module _ (now : ℕ) (s : Store) (olds : List (List ℕ)) (h : List Call) (o : L
       S : Snap (ctx (stamp s r) olds) (T .p) w (workerAt s w .announced)
       S = T .inv .workers w wb .snapshot (d .1)
 
-  pub show-kept : (r : ℕ) → workerAt s w .doing ≡ GetShow r → Kept now (place (stamp s r) w Idle) (map (endFor now w (shown (slotAt s (newestOf s r) .value))) h) (o ++ (changeEffects h s (stamp s r) ++ endEffects h w (shown (slotAt s (newestOf s r) .value))))
-  unfolding stamp feed shows atEnd shown
+  pub show-kept : (r : ℕ) → workerAt s w .doing ≡ GetShow r → Kept now (place (stamp s r) w Idle) (map (endFor now w (answerFor (slotAt s (newestOf s r) .value))) h) (o ++ (changeEffects h s (stamp s r) ++ endEffects h w (answerFor (slotAt s (newestOf s r) .value))))
+  unfolding stamp feed shows atEnd answerFor
   show-kept r e =
       let a = cur-is now (stamp s r) olds h (T .o) (T .p) (T .inv) w wb (GetShow r) e in
-      subst (Kept now (place (stamp s r) w Idle) (map (endFor now w (shown v)) h)) (app-assoc o (changeEffects h s (stamp s r)) (endEffects h w (shown v)))
-      (subst (λ (q : List ℕ). Kept now (place (stamp s r) w Idle) (map (endFor now w (shown v)) h) (q ++ endEffects h w (shown v))) (T .grown)
-      (one-more (T .o) (endEffects h w (shown v)) (a .0) (own-is (a .1) (shown v) (shown-finishes v) (ap atEnd (a .2 .0)))
+      subst (Kept now (place (stamp s r) w Idle) (map (endFor now w (answerFor v)) h)) (app-assoc o (changeEffects h s (stamp s r)) (endEffects h w (answerFor v)))
+      (subst (λ (q : List ℕ). Kept now (place (stamp s r) w Idle) (map (endFor now w (answerFor v)) h) (q ++ endEffects h w (answerFor v))) (T .grown)
+      (one-more (T .o) (endEffects h w (answerFor v)) (a .0) (own-is (a .1) (answerFor v) (answerFor-finishes v) (ap atEnd (a .2 .0)))
       (place-inv now (stamp s r) olds h (T .o) (T .p) (T .inv) w wb (GetShow r) Idle e (λ i. refl) (calm now (stamp s r) olds h (T .o) (T .p) (T .inv) w wb (GetShow r) tt e)
       _ (T .o ++ (a .0 ∷ [])) (feed (T .p) w (callAt h (a .0) .operation))
-      (hist-show now w h (T .o) (T .p) (T .inv .linear) (shown v) (a .0) (a .1) (a .2 .1)
-      (subst (λ (q : Ending). Stands q 1) (sym (shown-end now v)) refl)
-      (subst (λ (q : Ending). Agrees (callAt h (a .0) .operation) q (shows (T .p) w (callAt h (a .0) .operation))) (sym (shown-end now v))
-      (subst (λ (q : Operation). Agrees q (FinishedAt now (shown v)) (shows (T .p) w q)) (sym (a .2 .0)) (T .p .registers r, refl, ap shown val)))
+      (hist-show now w h (T .o) (T .p) (T .inv .linear) (answerFor v) (a .0) (a .1) (a .2 .1)
+      (subst (λ (q : Ending). Stands q 1) (sym (answerFor-end now v)) refl)
+      (subst (λ (q : Ending). Agrees (callAt h (a .0) .operation) q (shows (T .p) w (callAt h (a .0) .operation))) (sym (answerFor-end now v))
+      (subst (λ (q : Operation). Agrees q (FinishedAt now (answerFor v)) (shows (T .p) w q)) (sym (a .2 .0)) (T .p .registers r, refl, ap answerFor val)))
       (λ i. rw (a .2 .0)) (λ i n. rw (a .2 .0)))
-      (rw (a .2 .0)) (d .1) (end-shut now w h (T .o) (T .p) (T .inv .linear) (shown v) (a .0) (a .1)))))
+      (rw (a .2 .0)) (d .1) (end-shut now w h (T .o) (T .p) (T .inv .linear) (answerFor v) (a .0) (a .1)))))
     where
       v : Reading
       v = slotAt s (newestOf s r) .value

@@ -12,12 +12,12 @@ use borrow.Author.Tests as Tests
 use Rattle.model.specs.Store.{absent, Reading, Slot, Range, Doing, Idle, PutPublish, PutStamp, PutHandIn, FlushTake, FlushRead, FlushFree, OpenAnnounce, OpenPass, ReadEnter, ReadStand, CloseWithdraw, GetShow, Store, workerAt, slotAt, newestOf, holders, rangeOf, withWorker, place, up}
 use Rattle.model.specs.Answer.{Answer, Ok, Going, Freed, At, Value, Done, No, Stepped}
 use Rattle.model.specs.Versions.{stamp}
-use Rattle.model.specs.Steps.{putPublish, putStamp, putHandIn, flushTake, flushSplit, flushRead, flushFree, openAnnounce, openPass, shown, readEnter, readStand, getShow, closeWithdraw, stepAt}
+use Rattle.model.specs.Steps.{putPublish, putStamp, putHandIn, flushTake, flushSplit, flushRead, flushFree, openAnnounce, openPass, answerFor, readEnter, readStand, getShow, closeWithdraw, stepAt}
 use Rattle.model.specs.Demand.{Call, ends, endFor, Plain, changeEffects, finishes, endEffects, occurrences, FreesNothingNeeded, TookIn}
 use Rattle.model.proofs.Basic.{hit-same, hit-other, eq-cases, cond-both, app-nil}
 use Rattle.model.proofs.Slots.{nth, link-new, unlink-part}
 use Rattle.model.proofs.Effect.{change-none, change-same}
-use Rattle.model.proofs.Linear.{lin-skip, shown-ends}
+use Rattle.model.proofs.Linear.{lin-skip, answerFor-ends}
 use Rattle.model.proofs.Invariant.{Inv, inDoing}
 use Rattle.model.proofs.Apart.{below≤1, free-in}
 use Rattle.model.proofs.Stamp.{Stamped, stamp-inv}
@@ -57,9 +57,9 @@ quiet K e n =
       stays = λ c z. inl (subst (λ (l : List ℕ). 0 < occurrences c l) (sym e) z);
     }
 
-shown-frees-not : (x : Reading) → NotFreed (shown x)
-unfolding shown
-shown-frees-not x = tt
+answerFor-frees-not : (x : Reading) → NotFreed (answerFor x)
+unfolding answerFor
+answerFor-frees-not x = tt
 
 -- the slots and the clock are as they were
 pub change-still : (h : List Call) (s t : Store) → t .clock ≡ s .clock → t .slots ≡ s .slots → changeEffects h s t ≡ []
@@ -80,9 +80,9 @@ module _ {now : ℕ} (s : Store) {w : ℕ} {h : List Call} {o : List ℕ} where
       quiet (subst (λ (q : List ℕ). Kept now t (seen now w a h) (o ++ q)) (sym (ap (λ (q : List ℕ). changeEffects h s t ++ q) y ∙ app-nil (changeEffects h s t))) K) e n
 
   -- a step that shows a reading
-  shows-it : (x : Reading) (t : Store) → Kept now t (map (endFor now w (shown x)) h) (o ++ (changeEffects h s t ++ endEffects h w (shown x))) → t .free ≡ s .free → After now s w h o (record { store = t; answer = shown x })
+  shows-it : (x : Reading) (t : Store) → Kept now t (map (endFor now w (answerFor x)) h) (o ++ (changeEffects h s t ++ endEffects h w (answerFor x))) → t .free ≡ s .free → After now s w h o (record { store = t; answer = answerFor x })
   shows-it x t K e =
-      quiet (subst (λ (b : Bool). Kept now t (cond b (map (endFor now w (shown x)) h) h) (o ++ (changeEffects h s t ++ endEffects h w (shown x)))) (sym (shown-ends x)) K) e (shown-frees-not x)
+      quiet (subst (λ (b : Bool). Kept now t (cond b (map (endFor now w (answerFor x)) h) h) (o ++ (changeEffects h s t ++ endEffects h w (answerFor x)))) (sym (answerFor-ends x)) K) e (answerFor-frees-not x)
 
 own-going : (h : List Call) (w : ℕ) → endEffects h w Going ≡ []
 unfolding endEffects finishes
@@ -224,7 +224,7 @@ module _ (batch : ℕ → ℕ) (now : ℕ) (s : Store) (olds : List (List ℕ)) 
   step-after (ReadStand r c) e =
       cond-both (After now s w h o) (leb (slotAt s c .low) (workerAt s w .announced)) _ _
       (λ u. shows-it s (slotAt s c .value) (place s w Idle)
-      (subst (λ (q : List ℕ). Kept now (place s w Idle) (map (endFor now w (shown (slotAt s c .value))) h) (o ++ (q ++ endEffects h w (shown (slotAt s c .value))))) (sym (change-still h s (place s w Idle) refl refl))
+      (subst (λ (q : List ℕ). Kept now (place s w Idle) (map (endFor now w (answerFor (slotAt s c .value))) h) (o ++ (q ++ endEffects h w (answerFor (slotAt s c .value))))) (sym (change-still h s (place s w Idle) refl refl))
       (found-kept now s olds h o p I w wb r c e (Tests.leb-true (slotAt s c .low) (workerAt s w .announced) u)))
       refl)
       (λ u. plain s _ Going refl refl (own-going h w) (on-kept now s olds h o p I w wb r c e (Tests.leb-false (slotAt s c .low) (workerAt s w .announced) u)) refl tt)

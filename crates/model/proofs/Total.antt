@@ -8,7 +8,7 @@ use native.Mathlib.Omega.{arith}
 use lib.ListN.{length}
 use Rattle.model.specs.Store.{Range, Doing, Idle, PutPublish, PutStamp, PutHandIn, FlushTake, FlushRead, FlushFree, OpenAnnounce, OpenPass, ReadEnter, ReadStand, CloseWithdraw, GetShow, Worker, Store}
 use Rattle.model.specs.Demand.{Call, Plain, occurrences}
-use Rattle.model.specs.Reached.{sumBy, inHand, heldBy}
+use Rattle.model.specs.Reached.{sumBy, inHand, versionsHeld}
 use Rattle.model.proofs.Basic.{hit, hit-same, hit-eq, hit-other, lt-cases, eq-cases}
 use Rattle.model.proofs.Count.{cnt}
 use Rattle.model.proofs.Invariant.{Inv, inDoing, pendW, pend, below}
@@ -99,7 +99,7 @@ module _ (n : ℕ) where
   hand-all CloseWithdraw h = sumTo-zero n
   hand-all (GetShow r) h = sumTo-zero n
 
-  work-all : (ws : List Worker) → ((c : ℕ) → n ≤ c → sumBy (pendW c) ws ≡ 0) → sumTo n (λ c. sumBy (pendW c) ws) ≡ sumBy heldBy ws
+  work-all : (ws : List Worker) → ((c : ℕ) → n ≤ c → sumBy (pendW c) ws ≡ 0) → sumTo n (λ c. sumBy (pendW c) ws) ≡ sumBy versionsHeld ws
   unfolding sumBy
   work-all [] h = sumTo-zero n
   work-all (y ∷ ws) h =
@@ -130,7 +130,7 @@ sumTo-below : (n : ℕ) → sumTo n (λ c. below c n) ≡ n
 sumTo-below n = sumTo-same n (λ c. below c n) (λ c. 1) (λ c z. ⊎-elim (λ u. u .1) (λ u. absurd (omega (arith, z, u .0))) (below-is c n)) ∙ ones n
 
 pub total : {now : ℕ} {s : Store} {olds : List (List ℕ)} {h : List Call} {o : List ℕ} {p : Plain} → Inv now s olds h o p
-    → sumBy heldBy (s .workers) + sumBy length (s .queue) + (length (s .free) + s .V') ≡ s .N
+    → sumBy versionsHeld (s .workers) + sumBy length (s .queue) + (length (s .free) + s .V') ≡ s .N
 total {s = s} I =
     omega (
       arith,

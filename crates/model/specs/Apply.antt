@@ -6,7 +6,7 @@ use Prim.Native.Nat.{ℕ, zero, suc, _-_}
 use lib.Dec.{ltb, leb}
 use lib.ListN.{length, take, replicate}
 use Rattle.model.specs.Store.{absent, lastClock, reading₀, Slot, Doing, Idle, PutPublish, PutStamp, PutHandIn, FlushTake, FlushRead, FlushFree, OpenAnnounce, OpenPass, ReadEnter, ReadStand, CloseWithdraw, GetShow, startWorker, Store, Hub, blank, up, upFrom, workerAt, place}
-use Rattle.model.specs.Answer.{Answer, Ok, No, Stepped, Applied}
+use Rattle.model.specs.Answer.{Answer, Ok, No, Applied}
 use Rattle.model.specs.Versions.{alone}
 use Rattle.model.specs.Steps.{stepAt}
 use Rattle.model.specs.Record.{Operation, Put, Open, Read, Close, Get, Collect, Sizes, Command, SetUp, Begin, Step, Decoded, Asks, Refuses, decode}
@@ -38,8 +38,9 @@ firstSlots zero (z ∷ l) = alone z ∷ firstSlots zero l
 firstSlots (suc v) (z ∷ l) =
     record { value = reading₀; low = 0; high = absent; older = absent; newer = absent } ∷ firstSlots v l
 
--- "At setup, whatever the lent memory held, every worker has its starting record, the queue is empty, and register r has the one
--- version in slot r. Slots V to N−1 are free, V taken first, then V+1 and so on."
+-- "At setup, whatever the lent memory held, every worker has its starting record, the queue is empty, and register r has the one version in
+-- slot r, value 0, low 0, high open. Slots V to N−1 are free, V taken first, then V+1 and so on." The row beyond N is not in the store; that
+-- it keeps its contents is said where memory is lent.
 unfoldable pub fresh : Sizes → List Slot → Store
 fresh z row =
     record {
@@ -155,7 +156,12 @@ applyDecoded batch h (Refuses k) = refuse h k
 unfoldable pub apply : (ℕ → ℕ) → Hub → List ℕ → Applied
 apply batch h b = applyDecoded batch h (decode b)
 
--- the answers to a list of records, each meeting the hub as the last one left it
+-- the hub after a list of records, each meeting the hub as the last one left it
+unfoldable pub hubAfter : (ℕ → ℕ) → Hub → List (List ℕ) → Hub
+hubAfter batch h [] = h
+hubAfter batch h (b ∷ bs) = hubAfter batch (apply batch h b .hub) bs
+
+-- and the answers to them
 unfoldable pub answersTo : (ℕ → ℕ) → Hub → List (List ℕ) → List Answer
 answersTo batch h [] = []
 answersTo batch h (b ∷ bs) =

@@ -1,6 +1,6 @@
 -- B, the batch size (document 01's term): "the number of workers times its base-2 logarithm rounded up, and 1 for one worker".
 -- Everything else takes the batch size as a parameter, a function of the number of workers.
-use mathlib.Core.Bool.{Bool, true, false, cond}
+use mathlib.Core.Bool.{cond}
 use Prim.Native.Nat.{ℕ, zero, suc, _*_, _^_}
 use lib.Dec.{leb}
 
@@ -13,6 +13,6 @@ leastFrom (suc f) p k₀ = cond (leb p (2 ^ k₀)) k₀ (leastFrom f p (suc k₀
 unfoldable pub logUp : ℕ → ℕ
 logUp p = leastFrom p p 0
 
--- no worker counts as one worker; a hub has at least one
+-- a hub has at least one worker; for none the figure is that of one
 unfoldable pub batchOf : ℕ → ℕ
 batchOf p = cond (leb p 1) 1 (p * logUp p)

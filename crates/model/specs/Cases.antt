@@ -1,16 +1,16 @@
--- The starred cases of document 01 ("Cases"), in one table, and its log example. They are proved in proofs/Cases.antt.
+-- The starred cases of document 01 ("Cases") in one table, the layout of a record, and the log example. They are proved in proofs/Cases.antt.
 use mathlib.Core.Path.{_≡_}
-use mathlib.Core.Bool.{Bool, true, false}
+use mathlib.Core.Bool.{true, false}
 use mathlib.Core.List.{List, [], _∷_, _++_, map}
 use Prim.Native.Nat.{ℕ}
-use lib.ListN.{length, replicate, getD}
+use lib.ListN.{length, replicate, getD, set}
 use Rattle.model.specs.Store.{absent, Range, Slot, slot₀, FlushRead, startWorker, Store, Hub, blank, up}
 use Rattle.model.specs.Batch.{batchOf}
-use Rattle.model.specs.Answer.{Answer, Ok, Going, Freed, At, Value, Done, No, Applied}
+use Rattle.model.specs.Answer.{Answer, Ok, Going, At, Value, No}
 use Rattle.model.specs.Ranges.{needed, merge}
 use Rattle.model.specs.Steps.{flushSplit}
-use Rattle.model.specs.Record.{Operation, Put, Open, Read, Close, Get, Collect, Sizes, Command, SetUp, Begin, Step}
-use Rattle.model.specs.Apply.{apply, answersTo}
+use Rattle.model.specs.Record.{Put, Open, Read, Close, Get, Collect, Command, SetUp, Begin, Step, Asks, Refuses, decode}
+use Rattle.model.specs.Apply.{hubAfter, answersTo}
 use Rattle.model.specs.Row.{bytesOf}
 use Rattle.model.specs.Log.{text, logOf}
 
@@ -45,9 +45,8 @@ answers n l = answersTo batchOf (rowOf n) (map recordOf l)
 ------------------------------------------------------------------------
 -- What a list of commands leaves
 
-unfoldable pub hubAfter : Hub → List Command → Hub
-hubAfter h [] = h
-hubAfter h (c ∷ l) = hubAfter (apply batchOf h (recordOf c) .hub) l
+abbrev pub leaves : Hub → List Command → Hub
+leaves h l = hubAfter batchOf h (map recordOf l)
 
 unfoldable pub clockOf : Hub → ℕ
 clockOf (blank row) = 0
@@ -123,10 +122,35 @@ pub record Stars : Type 0 where
       ≡ Ok ∷ Ok ∷ Going ∷ At 4294967294 ∷ Ok ∷ No 15 ∷ []
   -- "Two workers announce at 5, both finish: both `at 5`, clock 6."
   pub both-at-5 : answers 1 bothOpen ≡ Ok ∷ Ok ∷ Ok ∷ Going ∷ Going ∷ At 5 ∷ At 5 ∷ []
-  pub clock-6 : clockOf (hubAfter (rowOf 1) bothOpen) ≡ 6
+  pub clock-6 : clockOf (leaves (rowOf 1) bothOpen) ≡ 6
   -- "A put published at clock 5, unstamped; clock 6; a snapshot at 5 reads: low becomes 6, the older value is shown."
   pub older-shown : answers 2 unstampedPut ≡ Ok ∷ Ok ∷ Going ∷ Ok ∷ Going ∷ At 5 ∷ Ok ∷ Going ∷ Going ∷ Value (record { count = 0 }) ∷ []
-  pub low-6 : getD (slotsOf (hubAfter (rowOf 2) unstampedPut)) 1 slot₀ .low ≡ 6
+  pub low-6 : getD (slotsOf (leaves (rowOf 2) unstampedPut)) 1 slot₀ .low ≡ 6
+
+------------------------------------------------------------------------
+-- The layout of a record, byte by byte: what nothing else here would show, since the commands above are written and read by the same offsets
+
+-- a record of operation k whose byte i is 1 and whose other bytes are 0
+abbrev pub flagged : ℕ → ℕ → List ℕ
+flagged k i = set (k ∷ replicate 15 0) i 1
+
+pub record Layout : Type 0 where
+  pub put-bytes : decode (1 ∷ 2 ∷ 3 ∷ 4 ∷ 0 ∷ 0 ∷ 0 ∷ 0 ∷ 1 ∷ 2 ∷ 3 ∷ 4 ∷ 5 ∷ 6 ∷ 7 ∷ 8 ∷ [])
+      ≡ Asks (Begin 2 (Put 1027 (record { count = 578437695752307201 })))
+  pub read-bytes : decode (3 ∷ 2 ∷ 3 ∷ 4 ∷ replicate 12 0) ≡ Asks (Begin 2 (Read 1027))
+  pub get-bytes : decode (5 ∷ 2 ∷ 3 ∷ 4 ∷ replicate 12 0) ≡ Asks (Begin 2 (Get 1027))
+  pub setup-bytes : decode (0 ∷ 1 ∷ 2 ∷ 3 ∷ 4 ∷ 5 ∷ 0 ∷ 0 ∷ 6 ∷ 7 ∷ 8 ∷ 9 ∷ 0 ∷ 0 ∷ 0 ∷ 0 ∷ [])
+      ≡ Asks (SetUp (record { P = 1; V' = 770; N = 1284; clock = 151521030 }))
+  -- the first and the last byte that an operation does not use
+  pub first-unused : map decode (flagged 0 6 ∷ flagged 1 4 ∷ flagged 2 2 ∷ flagged 3 4 ∷ flagged 4 2 ∷ flagged 5 4 ∷ flagged 6 2 ∷ flagged 7 2 ∷ [])
+      ≡ replicate 8 (Refuses 2)
+  pub last-unused : map decode (flagged 0 15 ∷ flagged 1 7 ∷ flagged 2 15 ∷ flagged 3 15 ∷ flagged 4 15 ∷ flagged 5 15 ∷ flagged 6 15 ∷ flagged 7 15 ∷ [])
+      ≡ replicate 8 (Refuses 2)
+  pub setup-unused : map decode (flagged 0 7 ∷ flagged 0 12 ∷ []) ≡ replicate 2 (Refuses 2)
+  -- 6 before 1 before 2; a seventeenth byte is not looked at
+  pub refusal-order : map decode ([] ∷ replicate 15 255 ∷ replicate 16 255 ∷ flagged 8 2 ∷ [])
+      ≡ Refuses 6 ∷ Refuses 6 ∷ Refuses 1 ∷ Refuses 1 ∷ []
+  pub longer : decode (7 ∷ 3 ∷ replicate 14 0 ++ (9 ∷ [])) ≡ Asks (Step 3)
 
 ------------------------------------------------------------------------
 -- The log example

@@ -5,8 +5,9 @@
 -- it is an order between begins and ends, that plain registers fed in that order show what every finished get and read answered,
 -- and that nothing needed is freed and nothing freed twice.
 --
--- What rests on reading by eye: the model's `decode` (which bytes are the worker, the register and the value), and `slotAt`,
--- `workerAt`, `newestOf`, which say where a store has its slots, workers and newest versions.
+-- What rests on reading by eye besides this file: the model's `decode` (which bytes are the worker, the register and the value); `apply`, from
+-- which lows, highs, announced times and the clock come; and where a store has its parts: `slotAt`, `workerAt`, `newestOf`, the head of `free`,
+-- the places of `Doing`, and `absent` for a time that is not there.
 use mathlib.Core.Path.{_≡_}
 use mathlib.Core.Bool.{Bool, true, false, cond, not, _&&_}
 use mathlib.Core.List.{List, [], _∷_, _++_, map}
@@ -16,7 +17,7 @@ use lib.Dec.{ltb, leb, eqb}
 use lib.ListN.{length, getD}
 use Rattle.model.specs.Store.{absent, Reading, Slot, Doing, Idle, PutPublish, PutStamp, PutHandIn, FlushTake, FlushRead, FlushFree, OpenAnnounce, OpenPass, ReadEnter, ReadStand, CloseWithdraw, GetShow, Store, Hub, blank, up, workerAt, slotAt, newestOf}
 use Rattle.model.specs.Answer.{Answer, Ok, Going, Freed, At, Value, Done, No}
-use Rattle.model.specs.Record.{Operation, Put, Open, Read, Close, Get, Collect, Command, SetUp, Begin, Step, Decoded, Asks, Refuses, decode}
+use Rattle.model.specs.Record.{Operation, Put, Open, Read, Close, Get, Collect, SetUp, Begin, Step, Decoded, Asks, Refuses, decode}
 use Rattle.model.specs.Apply.{apply}
 
 ------------------------------------------------------------------------
@@ -72,9 +73,10 @@ isOk (Value x) = false
 isOk Done = false
 isOk (No k) = false
 
--- The answer to a step record ends the worker's operation. A refusal below 14 is given on reading: then no step is taken.
+-- The answer to a step record ends the worker's operation: it is "neither `going` nor `freed S`". A refusal below 14 is given on reading: then no
+-- step is taken. One met at the step is 14 or above, and "a step that meets a refusal is a step taken". This is asked of step records only.
 unfoldable pub ends : Answer → Bool
-ends Ok = false
+ends Ok = true
 ends Going = false
 ends (Freed c) = false
 ends (At t) = true
@@ -116,13 +118,15 @@ observe i (Asks (Begin w o)) a l =
 observe i (Asks (Step w)) a l = cond (ends a) (map (endFor i w a) l) l
 observe i (Refuses k) a l = l
 
--- The calls of a list of exchanges, the first of which has number i, after the calls given. Numbers count from the record after the setup.
+-- The calls of a list of exchanges, the first of which has number i, after the calls given. Numbers count from the record after the setup; the
+-- log's count from the setup.
 unfoldable pub history : ℕ → List Exchange → List Call → List Call
 history i [] l = l
 history i (e ∷ es) l = history (i + 1) es (observe i (decode (e .bytes)) (e .answer) l)
 
 ------------------------------------------------------------------------
--- "Plain registers are V values, 0 at first, and for each worker one copy of them all or none, none at first."
+-- "Plain registers are V values, 0 at first, and for each worker one copy of them all or none, none at first." Here they are a function of the
+-- register's number; an operation that began names one below V.
 
 pub record Plain : Type 0 where
   pub registers : ℕ → Reading
@@ -135,8 +139,8 @@ plain₀ = record { registers = λ r. record { count = 0 }; copy = λ w. none }
 abbrev pub update {ℓ} : {A : Type ℓ} → (ℕ → A) → ℕ → A → ℕ → A
 update f i x j = cond (eqb j i) x (f j)
 
--- "A put sets its register to its value. An open makes its worker's copy anew from the registers. A close drops its worker's copy. A
--- collect changes nothing." Nor do a read and a get.
+-- "A put sets its register to its value. An open makes its worker's copy anew from the registers." "A close drops its worker's copy. A collect
+-- changes nothing." Nor do a read and a get.
 unfoldable pub feed : Plain → ℕ → Operation → Plain
 feed p w (Put r x) = record { registers = update (p .registers) r x; copy = p .copy }
 feed p w Open = record { registers = p .registers; copy = update (p .copy) w (some (p .registers)) }
@@ -160,7 +164,7 @@ shows p w (Get r) = some (p .registers r)
 shows p w Collect = none
 
 ------------------------------------------------------------------------
--- The order: a list of places in the history, by the calls' effects along the list of records. "Effect in the order: a put at the
+-- The order: a list of indices in the history, by the calls' effects along the list of records. "Effect in the order: a put at the
 -- stamping of its version, an open when the clock passes its time, a get at its step and after a put stamped in it, a read, close or
 -- collect at its end."
 
@@ -176,7 +180,7 @@ isUnfinished Unfinished = true
 isUnfinished (RefusedAt i) = false
 isUnfinished (FinishedAt i a) = false
 
--- the place of the call that worker w is performing; the history's length if there is none
+-- the index of the call that worker w is performing; the history's length if there is none
 unfoldable pub runningOf : List Call → ℕ → ℕ
 runningOf [] w = 0
 runningOf (c ∷ h) w = cond (eqb (c .worker) w && isUnfinished (c .ending)) 0 (suc (runningOf h w))
@@ -190,8 +194,8 @@ stampedOver s t c = eqb (slotAt s c .high) absent && not (eqb (slotAt t c .high)
 abbrev pub passed : Store → Store → ℕ → Bool
 passed s t a = leb (s .clock) a && ltb a (t .clock)
 
--- Of a worker's place and announced time: its put is stamped, or its open's time is passed. A put whose version is unstamped is at its
--- second step, an open whose time is not passed too.
+-- Of a worker's place and announced time: its put is stamped, or its open's time is passed. A put whose version is unstamped stands before its
+-- second step; so does an open whose time is not passed.
 unfoldable pub takesEffect : (ℕ → Bool) → (ℕ → Bool) → ℕ → Doing → Bool
 takesEffect stamped pass a Idle = false
 takesEffect stamped pass a (PutPublish r x) = false
@@ -230,7 +234,7 @@ atEnd Collect = true
 
 -- the answer finishes an operation
 unfoldable pub finishes : Answer → Bool
-finishes Ok = false
+finishes Ok = true
 finishes Going = false
 finishes (Freed c) = false
 finishes (At t) = true
@@ -275,8 +279,9 @@ abbrev pub All {ℓ} : {A : Type ℓ} → (A → Type 0) → List A → Type 0
 All P [] = Unit {0}
 All P (x ∷ l) = P x × All P l
 
--- How often a call stands in the order: once if it finished, never if it was refused, at most once if it is unfinished. "An unfinished
--- one without its effect counts as not begun."
+-- How often a call stands in the order: once if it finished, never if it was refused, at most once if it is unfinished. "An unfinished one
+-- without its effect counts as not begun": in `order` it stands just where it had its effect, so an open whose time another worker's step
+-- passed stands there before it ends.
 abbrev pub Stands : Ending → ℕ → Type 0
 Stands Unfinished n = n ≤ 1
 Stands (RefusedAt i) n = n ≡ 0
@@ -309,11 +314,11 @@ Agrees Collect e s = Unit {0}
 
 -- "They are fed the operations in the order, each with the worker, register and value of its record and with no answer": from plain
 -- registers p on, along o
-unfoldable pub Shown : List Call → Plain → List ℕ → Type 0
-Shown h p [] = Unit {0}
-Shown h p (i ∷ o) =
+unfoldable pub RegistersAgree : List Call → Plain → List ℕ → Type 0
+RegistersAgree h p [] = Unit {0}
+RegistersAgree h p (i ∷ o) =
     Agrees (callAt h i .operation) (callAt h i .ending) (shows p (callAt h i .worker) (callAt h i .operation))
-    × Shown h (feed p (callAt h i .worker) (callAt h i .operation)) o
+    × RegistersAgree h (feed p (callAt h i .worker) (callAt h i .operation)) o
 
 -- o is an order of the calls h
 pub record IsOrder (h : List Call) (o : List ℕ) : Type 0 where
@@ -324,7 +329,7 @@ pub record IsOrder (h : List Call) (o : List ℕ) : Type 0 where
   -- each between its begin and its end,
   pub ordered : Ordered h o
   -- and plain registers show what was answered.
-  pub shown : Shown h plain₀ o
+  pub registersAgree : RegistersAgree h plain₀ o
 
 ------------------------------------------------------------------------
 -- What is claimed of freeing
@@ -377,7 +382,8 @@ pub record Demand3 (es : List Event) : Type 0 where
   pub freesNothingNeeded : All (λ e. FreesNothingNeeded (e .before) (e .answer)) es
   pub freedOnce : FreedOnce es
 
--- For every lent row, every setup record that is answered `ok`, and every list of records after it.
+-- For every lent row, every setup record that is answered `ok`, and every list of records after it, at any batch size: `batchOf` of
+-- specs/Batch.antt is document 01's.
 abbrev pub Demand : (ℕ → ℕ) → Type 0
 Demand batch =
     (row : List Slot) (setup : List ℕ) → apply batch (blank row) setup .answer ≡ Ok

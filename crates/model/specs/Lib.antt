@@ -14,3 +14,4 @@ pub mod Demand
 pub mod Reached
 pub mod Refusals
 pub mod Runs
+pub mod Document

@@ -1,11 +1,11 @@
 -- The log's text (document 01, "The log").
-use mathlib.Core.Bool.{Bool, true, false, cond}
+use mathlib.Core.Bool.{cond}
 use mathlib.Core.List.{List, [], _∷_, _++_}
 use Prim.Native.Nat.{ℕ, zero, suc, _+_, _/_, _%_}
 use Prim.Native.String.{String}
 use Prim.Native.Char.{code}
 use lib.Dec.{ltb}
-use Rattle.model.specs.Store.{Reading, Slot, Hub, blank}
+use Rattle.model.specs.Store.{Slot, blank}
 use Rattle.model.specs.Answer.{Answer, Ok, Going, Freed, At, Value, Done, No}
 use Rattle.model.specs.Record.{recordsOf}
 use Rattle.model.specs.Apply.{answersTo}
@@ -20,7 +20,7 @@ unfoldable pub digits : ℕ → ℕ → List ℕ
 digits zero x = (48 + x % 10) ∷ []
 digits (suc n) x = cond (ltb x 10) ((48 + x % 10) ∷ []) (digits n (x / 10) ++ ((48 + x % 10) ∷ []))
 
--- x in decimal; every number that is shown is below 2^64 and so has at most twenty digits
+-- x in decimal, exact below 10^20; what a hub shows of real bytes, and the number of a record, are below 2^64
 unfoldable pub decimal : ℕ → List ℕ
 decimal x = digits 19 x
 

@@ -1,17 +1,17 @@
 -- What holds of every hub that records leave, besides demand 3: the bounds that memory is sized by, and refusal 14 in document 01's words.
 -- Proved in proofs/Reached.antt from the invariant of proofs/Invariant.antt.
 use mathlib.Core.Path.{_≡_}
-use mathlib.Core.Bool.{Bool, true, false, cond}
+use mathlib.Core.Bool.{cond}
 use mathlib.Core.Logic.{_↔_}
 use mathlib.Core.List.{List, [], _∷_}
 use Prim.Native.Nat.{ℕ, zero, suc, _+_, _*_, _-_, _≤_, _<_}
 use lib.Dec.{ltb}
 use lib.ListN.{length}
-use Rattle.model.specs.Store.{lastClock, Reading, Slot, Range, Doing, Idle, PutPublish, PutStamp, PutHandIn, FlushTake, FlushRead, FlushFree, OpenAnnounce, OpenPass, ReadEnter, ReadStand, CloseWithdraw, GetShow, Worker, Store, Hub, blank, up, workerAt, slotAt, newestOf}
+use Rattle.model.specs.Store.{lastClock, Reading, Slot, Doing, Idle, PutPublish, PutStamp, PutHandIn, FlushTake, FlushRead, FlushFree, OpenAnnounce, OpenPass, ReadEnter, ReadStand, CloseWithdraw, GetShow, Worker, Store, Hub, blank, up, workerAt, slotAt, newestOf}
 use Rattle.model.specs.Answer.{Ok, No}
 use Rattle.model.specs.Steps.{stepAt}
 use Rattle.model.specs.Apply.{apply}
-use Rattle.model.specs.Demand.{Event, events, occurrences, All}
+use Rattle.model.specs.Demand.{events, occurrences, All}
 
 -- the sum of f over a list
 unfoldable pub sumBy {ℓ} : {A : Type ℓ} → (A → ℕ) → List A → ℕ
@@ -38,8 +38,8 @@ inHand CloseWithdraw = 0
 inHand (GetShow r) = 0
 
 -- how many versions a worker holds
-abbrev pub heldBy : Worker → ℕ
-heldBy x = inHand (x .doing) + length (x .pool)
+abbrev pub versionsHeld : Worker → ℕ
+versionsHeld x = inHand (x .doing) + length (x .pool)
 
 -- of a store whose batch size is b
 pub record Bounds (b : ℕ) (s : Store) : Type 0 where
@@ -54,8 +54,8 @@ pub record Bounds (b : ℕ) (s : Store) : Type 0 where
   pub merged : All (λ x. inHand (x .doing) ≤ 4 * b) (s .workers)
   -- a queued pool has 1 to 2B
   pub queued : All (λ l. (1 ≤ length l) × (length l ≤ 2 * b)) (s .queue)
-  -- the versions in pools, merged lists and puts, the free slots and the newest versions are all slots
-  pub total : sumBy heldBy (s .workers) + sumBy length (s .queue) + (length (s .free) + s .V') ≡ s .N
+  -- the versions in pools, merged lists and puts, the free slots and the newest versions together are N
+  pub total : sumBy versionsHeld (s .workers) + sumBy length (s .queue) + (length (s .free) + s .V') ≡ s .N
   -- so many pools at the most
   pub pools : length (s .queue) ≤ s .N - s .V'
 

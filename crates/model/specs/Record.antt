@@ -1,5 +1,5 @@
 -- Records (document 01, "Records"): sixteen bytes, the command that they give, and the refusals 6, 1 and 2.
-use mathlib.Core.Bool.{Bool, true, false, cond, _&&_}
+use mathlib.Core.Bool.{Bool, true, cond, _&&_}
 use mathlib.Core.List.{List, [], _∷_}
 use Prim.Native.Nat.{ℕ, zero, suc, _+_, _*_}
 use lib.Dec.{ltb, eqb}
@@ -9,12 +9,12 @@ use Rattle.model.specs.Store.{Reading}
 ------------------------------------------------------------------------
 -- "numbers least byte first"
 
--- the number in the n bytes from place i on
+-- the number in the n bytes from index i on
 abbrev pub number : List ℕ → ℕ → ℕ → ℕ
 number b i zero = 0
 number b i (suc n) = getD b i 0 + 256 * number b (suc i) n
 
--- the n bytes from place i on are zero
+-- the n bytes from index i on are zero
 unfoldable pub zeros : List ℕ → ℕ → ℕ → Bool
 zeros b i zero = true
 zeros b i (suc n) = eqb (getD b i 0) 0 && zeros b (suc i) n
@@ -63,7 +63,7 @@ readingIn b = record { count = number b 8 8 }
 abbrev pub sizesIn : List ℕ → Sizes
 sizesIn b = record { P = number b 1 1; V' = number b 2 2; N = number b 4 2; clock = number b 8 4 }
 
--- the command of a record, by its byte 0; a byte 0 above 7 is refused before this is looked at
+-- "0 setup; 1 put; 2 open; 3 read; 4 close; 5 get; 6 collect; 7 step", by byte 0; one above 7 is refused before this is looked at
 unfoldable pub commandOf : List ℕ → ℕ → Command
 commandOf b zero = SetUp (sizesIn b)
 commandOf b (suc zero) = Begin (workerIn b) (Put (registerIn b) (readingIn b))
@@ -90,7 +90,8 @@ pub data Decoded : Type 0 where
   Asks : Command → Decoded
   Refuses : ℕ → Decoded
 
--- 6 fewer than 16 bytes; 1 operation above 7; 2 an unused byte is not zero. "Bytes after the sixteenth belong to the next record."
+-- 6 fewer than 16 bytes, the empty record too; 1 operation above 7; 2 an unused byte is not zero. "Bytes after the sixteenth belong to the
+-- next record": a longer list is read by its first sixteen. The bytes may be any numbers here.
 unfoldable pub decode : List ℕ → Decoded
 decode b =
     let c = commandOf b (getD b 0 0) in

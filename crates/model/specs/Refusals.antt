@@ -1,5 +1,5 @@
--- Demand 1 of the definitions: "A record of any bytes, handed to the hub in any state, ends in its answer or in one numbered refusal. A
--- refusal on reading changes nothing; one met during a step only sets that worker idle." Proved in proofs/Refusals.antt.
+-- Demand 1 of the definitions: a record of any bytes, handed to the hub in any state, ends in its answer or in one numbered refusal; a refusal on
+-- reading changes nothing, one met during a step only sets that worker idle. Proved in proofs/Refusals.antt.
 use mathlib.Core.Path.{_≡_}
 use mathlib.Core.Logic.{_≢_, _⊎_}
 use mathlib.Core.List.{List}
@@ -18,8 +18,8 @@ abbrev pub InStep : Hub → Decoded → ℕ → Hub → Type 0
 InStep h d k after =
     (14 ≤ k) × (s : Store) × (w : ℕ) × (h ≡ up s) × (d ≡ Asks (Step w)) × (after ≡ up (place s w Idle))
 
--- What a hub h, a record that reads as d, its answer and the hub after it have to do with each other. The numbers of the hub's refusals are
--- 1 to 15 without 7, which is the row writer's.
+-- What is claimed of a hub h, a record that reads as d, its answer and the hub after it. The numbers of the hub's refusals are 1 to 15 without
+-- 7, which is the row writer's.
 abbrev pub EndsWell : Hub → Decoded → Answer → Hub → Type 0
 EndsWell h d Ok after = Unit {0}
 EndsWell h d Going after = Unit {0}

@@ -1,15 +1,15 @@
--- Three runs in which the steps of two workers take turns: their logs and the orders that demand 3 promises for them. They are proved by
--- computation in proofs/Cases.antt, and show what the wrong steps of must-fail/ would answer otherwise.
+-- Runs with their logs, and for those in which two workers take turns the orders that demand 3 promises. They are proved by computation in
+-- proofs/Cases.antt; each wrong step of must-fail/ would answer one of them otherwise.
 use mathlib.Core.Path.{_≡_}
 use mathlib.Core.List.{List, [], _∷_, _++_, map}
 use Prim.Native.Nat.{ℕ}
 use lib.ListN.{replicate}
-use Rattle.model.specs.Store.{slot₀, Hub, blank}
+use Rattle.model.specs.Store.{slot₀}
 use Rattle.model.specs.Batch.{batchOf}
 use Rattle.model.specs.Record.{Open, Read, Get, Collect, Command, Begin, Step}
 use Rattle.model.specs.Apply.{apply}
 use Rattle.model.specs.Log.{text, logOf}
-use Rattle.model.specs.Demand.{Event, events, order}
+use Rattle.model.specs.Demand.{events, order}
 use Rattle.model.specs.Cases.{recordOf, setup, put, rowOf, joined}
 
 -- the log of a list of commands, over a row of n slots
@@ -66,6 +66,38 @@ stampingGet =
     ++ (Begin 1 (Read 0) ∷ steps 3 1)
     ++ steps 2 0
 
+-- A collect frees slot 0, a put of register 1 takes it, and the next put finds no slot: slot 0 was given back once.
+abbrev pub freedOnce : List Command
+freedOnce =
+    (setup 1 2 3 1 ∷ put 0 0 1 ∷ steps 7 0)
+    ++ (Begin 0 Collect ∷ steps 5 0)
+    ++ (put 0 1 2 ∷ steps 7 0)
+    ++ (put 0 1 3 ∷ steps 1 0)
+
+-- Of three versions the middle one is freed and unlinked: a read at the snapshot's time passes from the newest to the oldest.
+abbrev pub unlinked : List Command
+unlinked =
+    (setup 1 1 3 1 ∷ Begin 0 Open ∷ steps 2 0)
+    ++ (put 0 0 1 ∷ steps 7 0)
+    ++ (put 0 0 2 ∷ steps 7 0)
+    ++ (Begin 0 Collect ∷ steps 5 0)
+    ++ (Begin 0 (Read 0) ∷ steps 3 0)
+
+-- Two flushes take turns, so that pools are queued and merged in an order that shows in the slot freed last.
+abbrev pub poolOrder : List Command
+poolOrder =
+    (setup 2 2 5 1 ∷ put 1 0 1 ∷ steps 1 1)
+    ++ (put 0 0 2 ∷ steps 1 0)
+    ++ steps 1 1
+    ++ steps 2 0
+    ++ (Begin 0 Collect ∷ steps 1 1)
+    ++ steps 1 0
+    ++ (Begin 1 Collect ∷ steps 1 0)
+    ++ steps 3 1
+    ++ steps 2 0
+    ++ steps 2 1
+    ++ (Begin 1 Collect ∷ steps 5 1)
+
 pub record Runs : Type 0 where
   pub moved-log : logFor 6 (movedSetup ∷ movedRead)
       ≡ text
@@ -80,3 +112,12 @@ pub record Runs : Type 0 where
       ≡ text "0 ok\n1 ok\n2 going\n3 ok\n4 going\n5 at 5\n6 ok\n7 value 7\n8 ok\n9 going\n10 going\n11 value 0\n12 going\n13 done\n"
   -- the open, then the put that the get stamped, then the get
   pub get-order : orderFor 3 getSetup stampingGet ≡ 1 ∷ 0 ∷ 2 ∷ 3 ∷ []
+  pub freed-once : logFor 3 freedOnce
+      ≡ text
+      "0 ok\n1 ok\n2 going\n3 going\n4 going\n5 going\n6 going\n7 going\n8 done\n9 ok\n10 going\n11 going\n12 going\n13 freed 0\n14 done\n15 ok\n16 going\n17 going\n18 going\n19 going\n20 going\n21 going\n22 done\n23 ok\n24 no 14\n"
+  pub unlinked-log : logFor 3 unlinked
+      ≡ text
+      "0 ok\n1 ok\n2 going\n3 at 1\n4 ok\n5 going\n6 going\n7 going\n8 going\n9 going\n10 going\n11 done\n12 ok\n13 going\n14 going\n15 going\n16 going\n17 going\n18 going\n19 done\n20 ok\n21 going\n22 going\n23 going\n24 freed 1\n25 done\n26 ok\n27 going\n28 going\n29 value 0\n"
+  pub pool-order : logFor 5 poolOrder
+      ≡ text
+      "0 ok\n1 ok\n2 going\n3 ok\n4 going\n5 going\n6 going\n7 done\n8 ok\n9 done\n10 going\n11 ok\n12 going\n13 going\n14 going\n15 going\n16 going\n17 going\n18 going\n19 done\n20 ok\n21 going\n22 going\n23 going\n24 going\n25 freed 2\n"

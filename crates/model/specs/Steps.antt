@@ -1,6 +1,6 @@
 -- The steps (document 01, "The steps"). Each takes the store, the worker that steps and what its place holds.
 -- `batch` gives the batch size B of so many workers.
-use mathlib.Core.Bool.{Bool, true, false, cond, not}
+use mathlib.Core.Bool.{cond}
 use mathlib.Core.List.{List, [], _∷_, _++_, map}
 use Prim.Native.Nat.{ℕ, _+_}
 use lib.Dec.{ltb, leb, eqb}
@@ -14,7 +14,8 @@ use Rattle.model.specs.Ranges.{firstTwo, merge, neededOf, needlessOf, ne
 -- Put
 
 -- (1) "With no free slot: refusal 14. Else stamp the register, take a slot, link it as newest with the value and no low, remember the
--- version it covers." The last argument is the list of free slots.
+-- version it covers." "14 and 15 set the worker idle and change nothing else." The last argument is the list of free slots. That there is no
+-- free slot just where "every slot in some register's list" is `Refuses14` of specs/Reached.antt.
 unfoldable pub putPublish : Store → ℕ → ℕ → Reading → List ℕ → Stepped
 putPublish s w r x [] = record { store = place s w Idle; answer = No 14 }
 putPublish s w r x (f ∷ free′) =
@@ -64,8 +65,9 @@ flushTake s w =
 unfoldable pub readTimes : Store → ℕ → List ℕ
 readTimes s k = held s k ∷ []
 
--- (3) "Split the merged list into needless and needed by the times read", put the needed ones on the queue or into the local pool.
--- "Then queue the local pool if not empty, and empty it."
+-- (3) "Split the merged list into needless and needed by the times read." The needed ones go on the queue, or else "merge into the local pool,
+-- local first on equal highs. Then queue the local pool if not empty, and empty it." The joined pool may hold 2B = 128 ranges; it is queued in
+-- the same step and never stands in a worker's record.
 unfoldable pub flushSplit : (ℕ → ℕ) → Store → ℕ → List Range → List ℕ → Stepped
 flushSplit batch s w m ts =
     let b = batch (s .P) in
@@ -106,7 +108,8 @@ moveOff c o (GetShow r) = GetShow r
 unfoldable pub workerOff : ℕ → ℕ → Worker → Worker
 workerOff c o x = withDoing x (moveOff c o (x .doing))
 
--- (4) "One step per needless version, in merged order: unlink it and free its slot." (5) "Done."
+-- (4) "One step per needless version, in merged order: unlink it and free its slot." "Later the slot given back last is taken first."
+-- (5) "Done."
 unfoldable pub flushFree : Store → ℕ → List Range → Stepped
 flushFree s w [] = record { store = place s w Idle; answer = Done }
 flushFree s w (ρ ∷ l) =
@@ -147,24 +150,24 @@ openPass s w =
 -- Read, get, close
 
 -- what a get or a read answers that found this
-unfoldable pub shown : Reading → Answer
-shown x = Value x
+unfoldable pub answerFor : Reading → Answer
+answerFor x = Value x
 
 -- Read (1) "Stamp the register, stand on its newest version."
 unfoldable pub readEnter : Store → ℕ → ℕ → Stepped
 readEnter s w r = record { store = place (stamp s r) w (ReadStand r (newestOf s r)); answer = Going }
 
--- Read (2) "If its low is at most the worker's time, answer its value; else move to the older one."
+-- Read (2) "If its low is at most the worker's time, answer its value; else move to the older one. Repeat (2)."
 unfoldable pub readStand : Store → ℕ → ℕ → ℕ → Stepped
 readStand s w r c =
-    let found : Stepped = record { store = place s w Idle; answer = shown (slotAt s c .value) } in
+    let found : Stepped = record { store = place s w Idle; answer = answerFor (slotAt s c .value) } in
     let on : Stepped = record { store = place s w (ReadStand r (slotAt s c .older)); answer = Going } in
     cond (leb (slotAt s c .low) (workerAt s w .announced)) found on
 
 -- Get: "Stamp, answer the newest value."
 unfoldable pub getShow : Store → ℕ → ℕ → Stepped
 getShow s w r =
-    record { store = place (stamp s r) w Idle; answer = shown (slotAt s (newestOf s r) .value) }
+    record { store = place (stamp s r) w Idle; answer = answerFor (slotAt s (newestOf s r) .value) }
 
 -- Close: "Withdraw the time."
 unfoldable pub closeWithdraw : Store → ℕ → Stepped

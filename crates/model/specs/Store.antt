@@ -1,5 +1,5 @@
 -- What the hub holds (document 01, "What the hub holds"). All numbers are natural numbers.
-use mathlib.Core.List.{List, [], _∷_, map}
+use mathlib.Core.List.{List, [], _∷_}
 use Prim.Native.Nat.{ℕ, zero, suc, _+_}
 use lib.ListN.{getD, set}
 
@@ -20,7 +20,7 @@ pub record Reading : Type 0 where
 abbrev pub reading₀ : Reading
 reading₀ = record { count = 0 }
 
--- A version slot: "value, low and high time, older and newer neighbour".
+-- A version slot: "value (64-bit count of watt-hours), low and high time, older and newer neighbour".
 pub record Slot : Type 0 where
   pub value : Reading
   pub low : ℕ
@@ -60,7 +60,7 @@ pub data Doing : Type 0 where
   -- the register
   GetShow : ℕ → Doing
 
--- A worker's record: "what it is doing, its announced time or none, and its local pool".
+-- "A worker's record says what it is doing (nothing, or one operation with its place in it), its announced time or none, and its local pool."
 pub record Worker : Type 0 where
   pub doing : Doing
   pub announced : ℕ
@@ -88,7 +88,7 @@ pub data Hub : Type 0 where
   blank : List Slot → Hub
   up : Store → Hub
 
--- What stands where a list of slots has no entry. Nothing reads it of a hub that is set up.
+-- What stands where a list of slots has no entry, as at an absent neighbour. Nothing of it is ever stored.
 abbrev pub slot₀ : Slot
 slot₀ = record { value = reading₀; low = 0; high = 0; older = 0; newer = 0 }
 
@@ -110,17 +110,13 @@ slotAt s c = getD (s .slots) c slot₀
 abbrev pub newestOf : Store → ℕ → ℕ
 newestOf s r = getD (s .newest) r absent
 
--- Who holds a time: each worker, the one that it has announced. There are so many holders,
+-- Who holds a time: each worker, the one that it has announced. This is how many holders there are.
 abbrev pub holders : Store → ℕ
 holders s = s .P
 
--- the v-th holds this time, or none,
+-- The time that holder v holds, or none.
 abbrev pub held : Store → ℕ → ℕ
 held s v = workerAt s v .announced
-
--- and these are the times of all holders.
-abbrev pub heldTimes : Store → List ℕ
-heldTimes s = map (held s) (upFrom 0 (holders s))
 
 -- the range of the version in slot c
 unfoldable pub rangeOf : Store → ℕ → Range

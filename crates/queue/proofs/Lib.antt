@@ -1,2 +1,3 @@
 pub mod MemoryLaws
-pub mod PoolLaws
+pub mod StateLaws
+pub mod Rep

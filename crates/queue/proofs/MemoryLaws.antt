@@ -1,13 +1,12 @@
 -- Laws of entries that are copied to a place and of entries that are moved down.
 use mathlib.Core.Path.{_≡_, sym, ap, _∙_}
-use mathlib.Core.List.{List, [], _∷_, _++_}
-use Prim.Native.Nat.{ℕ, zero, suc, _+_, _-_, _≤_, _<_}
+use mathlib.Core.List.{List, _++_, append-assoc}
+use Prim.Native.Nat.{ℕ, suc, _+_, _-_, _≤_, _<_}
 use native.Mathlib.Numerals.{add-one}
 use native.Mathlib.Omega.{arith}
-use lib.ListN.{length, take, drop, getD, set, length-append, length-drop, List·getD-append}
-use lib.Seq.{paste, paste-zero, paste-suc, getD-append-add, getD-take, length-take-le, take-all, take-nil}
-use Rattle.lists.specs.Over.{overAt, shifted}
-use Rattle.lists.proofs.Over.{take-over}
+use lib.ListN.{length, take, drop, getD, set, length-append, length-drop}
+use lib.Seq.{paste, paste-zero, paste-suc, length-take-le, take-all, take-append-seam, drop-append-seam, drop-append-add, drop-drop, drop-at}
+use Rattle.lists.specs.Over.{over, overAt, shifted}
 
 module _ {A : Type 0} where
   -- a copy of n entries, in the library's words
@@ -22,34 +21,32 @@ module _ {A : Type 0} where
   pub overAt-push : (d : List A) (i : ℕ) (s : List A) (j : ℕ) (z : A) → i + j < length d → j < length s → set (overAt i (take j s) d) (i + j) (getD s j z) ≡ overAt i (take (j + 1) s) d
   overAt-push d i s j z hd hs = rw (overAt-paste d i s j (omega arith), add-one j, overAt-paste d i s (suc j) (omega arith)) (paste-suc d i s j z hd hs)
 
-  pub getD-overAt-before : (d : List A) (i : ℕ) (p : List A) (t : ℕ) (z : A) → i ≤ length d → t < i → getD (overAt i p d) t z ≡ getD d t z
-  unfolding overAt
-  getD-overAt-before d i p t z h l =
-      let e : length (take i d) ≡ i = length-take-le i d h in
-      let m : t < length (take i d ++ p) = rw (length-append (take i d) p) (omega arith) in
-      List·getD-append (take i d ++ p) (drop (i + length p) d) z t m ∙ List·getD-append (take i d) p z t (omega arith) ∙ getD-take i d t z l
+  -- entries copied behind those that were replaced
+  pub overAt-over : (p w d : List A) (i : ℕ) → length p ≡ i → overAt i w (over p d) ≡ over (p ++ w) d
+  unfolding over overAt
+  overAt-over p w d i e =
+      rw (
+        ← e,
+        take-append-seam p (drop (length p) d),
+        drop-append-add p (drop (length p) d) (length w),
+        drop-drop (length w) (length p) d,
+        length-append p w,
+      )
 
-  pub getD-overAt-in : (d : List A) (i : ℕ) (p : List A) (t : ℕ) (z : A) → i ≤ length d → t < length p → getD (overAt i p d) (i + t) z ≡ getD p t z
-  unfolding overAt
-  getD-overAt-in d i p t z h l =
-      let e : length (take i d) ≡ i = length-take-le i d h in
-      let m : i + t < length (take i d ++ p) = rw (length-append (take i d) p) (omega arith) in
-      List·getD-append (take i d ++ p) (drop (i + length p) d) z (i + t) m
-      ∙ ap (λ (k : ℕ). getD (take i d ++ p) (k + t) z) (sym e)
-      ∙ getD-append-add (take i d) p t z
+  -- of the replaced entries a ++ b those of b move to the front
+  pub shifted-over : (s p a b : List A) (n k : ℕ) → s ≡ over p s → p ≡ a ++ b → length a ≡ n → n + length b ≡ k → shifted s n k ≡ over b s
+  unfolding over shifted
+  shifted-over s p a b n k e f g h =
+      let x : List A = drop (length p) s in
+      let z : k - n ≡ length b = omega arith in
+      let s-is : s ≡ a ++ (b ++ x) = e ∙ ap (λ (l : List A). l ++ x) f ∙ append-assoc a b x in
+      let b-is : take (k - n) (drop n s) ≡ b = rw z (ap (λ (l : List A). take (length b) (drop n l)) s-is ∙ rw (drop-at a (b ++ x) n g) (take-append-seam b x)) in
+      ap (λ (l : List A). over l s) b-is
 
-  drop-take : (n k : ℕ) (l : List A) → drop n (take k l) ≡ take (k - n) (drop n l)
-  drop-take zero k l = let e : k - 0 ≡ k = omega arith in rw e
-  drop-take (suc n) zero l = let e : 0 - suc n ≡ 0 = omega arith in rw e
-  drop-take (suc n) (suc k) [] = sym (take-nil (suc k - suc n))
-  drop-take (suc n) (suc k) (x ∷ l) = let e : suc k - suc n ≡ k - n = omega arith in rw e (drop-take n k l)
-
-  -- the entries that were moved down
-  pub take-shifted : (s : List A) (n k : ℕ) → k ≤ length s → take (k - n) (shifted s n k) ≡ drop n (take k s)
-  unfolding shifted
-  take-shifted s n k h =
-      let e : length (take (k - n) (drop n s)) ≡ k - n = length-take-le (k - n) (drop n s) (rw (length-drop n s) (omega arith)) in
-      take-over (take (k - n) (drop n s)) s (k - n) e ∙ sym (drop-take n k s)
+  -- memory whose front was replaced has those entries there
+  pub over-again : (p d : List A) → over p (over p d) ≡ over p d
+  unfolding over
+  over-again p d = rw (drop-append-seam p (drop (length p) d))
 
   -- the part from a to the end, lent and given back
   pub part-is : (s : List A) (a : ℕ) → take (length s - a) (drop a s) ≡ drop a s

@@ -1,2 +1,2 @@
-pub mod Pools
-pub mod Moves
+pub mod State
+pub mod Rep

@@ -1,12 +1,25 @@
-// The queue of shared pools in lent memory: a pool appended at its end, up to two taken from its front and merged (document 01, flush).
+// The queue of shared pools in lent memory: a pool pushed at its end, up to two taken from its front and merged (document 01, flush).
 ghost use mathlib.Core.Path.{_≡_};
-ghost use Prim.Native.Nat.{_+_, _*_, _≤_, _<_, min};
+ghost use mathlib.Core.Bool.{true};
+ghost use mathlib.Core.List.{[]};
+ghost use Prim.Native.Nat.{_+_, _-_, _*_, _≤_, _<_, min};
 ghost use lib.ListN.{length, take, getD};
 ghost use Rattle.lists.specs.Over.{over, overAt, shifted};
-ghost use Rattle.model.specs.Ranges.{merge, firstTwo};
+ghost use Rattle.model.specs.Ranges.{merge};
 ghost use Rattle.ranges.specs.Words.{rangesAt, flat};
-ghost use Rattle.queue.specs.Pools.{sum, poolsIn};
-ghost use Rattle.queue.specs.Moves.{Appended, Taken};
+ghost use Rattle.queue.specs.State.{held, room, pushed, mayTake, Took};
+
+// How many pools are queued, and how many ranges they have together.
+pub struct Counts {
+    pub pools: usize,
+    pub queued: usize,
+}
+
+// What is left after taking, and how many ranges were taken.
+pub struct Taking {
+    pub counts: Counts,
+    pub count: usize,
+}
 
 // Moves the entries from n to k to the front.
 fn shift(s: &mut [u32], n: usize, k: usize)
@@ -29,26 +42,44 @@ fn copy(src: &[u32], n: usize, dst: &mut [u32], to: usize)
     }
 }
 
-// Appends src's first n ranges as a pool to the queue of so many pools, which have `total` ranges together.
-pub fn append_pool(
-    queue: &mut [u32],
-    lens: &mut [u32],
-    pools: usize,
-    total: usize,
+// Whether there is room for a pool of n ranges, which is not empty; what the memory holds does not matter.
+fn has_room(counts: Counts, n: usize) -> bool
+    ensures { λ r. ⌜ r ≡ room (held [] [] counts) n ⌝ }
+{
+    if 2048 < n {
+        return false;
+    }
+    (0 < n) & (counts.pools < 2048) & (counts.queued <= 2048 - n)
+}
+
+// Queues src's first n ranges as a pool; an empty pool is not queued, nor one without room.
+pub fn push(
+    queue: &mut [u32; 6144],
+    lens: &mut [u32; 2048],
+    counts: Counts,
     src: &[u32],
     n: usize,
-)
-    requires { ⌜ (pools < length (now lens)) × (3 * (total + n) ≤ length (now queue)) × (3 * n ≤ length (now src)) × (n < 4294967296) × (total ≡ sum (take pools (now lens))) ⌝ }
-    ensures { λ _. ⌜ Appended (now (queue .entry)) (now (queue .exit)) (now (lens .entry)) (now (lens .exit)) pools total (now (src .entry)) n ⌝ }
+) -> Counts
+    requires { ⌜ 3 * n ≤ length (now src) ⌝ }
+    ensures { λ r. ⌜ held (now (queue .exit)) (now (lens .exit)) r ≡ pushed (held (now (queue .entry)) (now (lens .entry)) counts) (now (src .entry)) n ⌝ }
 {
-    copy(src, 3 * n, queue, 3 * total);
-    lens[pools] = n as u32;
+    if has_room(counts, n) {
+        let pools = counts.pools;
+        let queued = counts.queued;
+        copy(src, 3 * n, queue, 3 * queued);
+        lens[pools] = n as u32;
+        return Counts {
+            pools: pools + 1,
+            queued: queued + n,
+        };
+    }
+    counts
 }
 
 // The length of the queue's pool i; a pool that is not there has none.
 fn length_at(lens: &[u32], pools: usize, i: usize) -> usize
     requires { ⌜ pools ≤ length (now lens) ⌝ }
-    ensures { λ r. ⌜ r ≡ getD (take pools (now (lens .entry))) i 0 ⌝ }
+    ensures { λ r. ⌜ (r ≡ getD (take pools (now (lens .entry))) i 0) × (r < 4294967296) ⌝ }
 {
     if i < pools { lens[i] as usize } else { 0 }
 }
@@ -68,24 +99,66 @@ fn merge_two(queue: &[u32], la: usize, lb: usize, merged: &mut [u32])
     ranges::merge(queue, la, &queue[a..], lb, merged);
 }
 
-// Takes up to two pools from the front of the queue, merged into `merged`; the rest of the queue moves down. Answers how many ranges it
-// took. A pool that is not there is an empty one, so that one merge serves no, one and two pools.
-pub fn take_pools(
-    queue: &mut [u32],
-    lens: &mut [u32],
-    pools: usize,
-    total: usize,
-    merged: &mut [u32],
-) -> usize
-    requires { ⌜ (pools ≤ length (now lens)) × (3 * total ≤ length (now queue)) × (3 * length (firstTwo (poolsIn (now lens) pools (now queue))) ≤ length (now merged)) × (total ≡ sum (take pools (now lens))) ⌝ }
-    ensures { λ r. ⌜ Taken (now (queue .entry)) (now (queue .exit)) (now (lens .entry)) (now (lens .exit)) (now (merged .entry)) (now (merged .exit)) pools total r ⌝ }
+// Whether the counts and the first two lengths are those of a queue whose first two pools have at most 256 ranges.
+fn may_take(lens: &[u32; 2048], counts: Counts) -> bool
+    ensures { λ r. ⌜ r ≡ mayTake (held [] (now (lens .entry)) counts) ⌝ }
 {
+    let pools = counts.pools;
+    let queued = counts.queued;
+    if 2048 < pools {
+        return false;
+    }
+    let r = length_at(lens, pools, 0) + length_at(lens, pools, 1);
+    (queued <= 2048) & (r <= queued) & (r <= 256)
+}
+
+fn less_two(pools: usize) -> usize
+    ensures { λ r. ⌜ r ≡ pools - 2 ⌝ }
+{
+    if pools < 2 { 0 } else { pools - 2 }
+}
+
+// Takes up to two pools from the front of the queue, merged into `merged`; the rest of the queue moves down. A pool that is not there is
+// an empty one, so that one merge serves no, one and two pools.
+fn take_pools(
+    queue: &mut [u32; 6144],
+    lens: &mut [u32; 2048],
+    counts: Counts,
+    merged: &mut [u32],
+) -> Taking
+    requires { ⌜ (mayTake (held (now queue) (now lens) counts) ≡ true) × (768 ≤ length (now merged)) ⌝ }
+    ensures { λ r. ⌜ Took (held (now (queue .entry)) (now (lens .entry)) counts) (held (now (queue .exit)) (now (lens .exit)) (r .counts)) (now (merged .entry)) (now (merged .exit)) (r .count) ⌝ }
+{
+    let pools = counts.pools;
+    let queued = counts.queued;
     let la = length_at(lens, pools, 0);
     let lb = length_at(lens, pools, 1);
     let r = la + lb;
     merge_two(queue, la, lb, merged);
-    shift(queue, 3 * r, 3 * total);
+    shift(queue, 3 * r, 3 * queued);
     let k = at_most_two(pools);
     shift(lens, k, pools);
-    r
+    Taking {
+        counts: Counts {
+            pools: less_two(pools),
+            queued: queued - r,
+        },
+        count: r,
+    }
+}
+
+// Takes up to two pools from the front of the queue, merged into `merged`; nothing where the counts and lengths are not a queue's.
+pub fn take(
+    queue: &mut [u32; 6144],
+    lens: &mut [u32; 2048],
+    counts: Counts,
+    merged: &mut [u32],
+) -> Taking
+    requires { ⌜ 768 ≤ length (now merged) ⌝ }
+    ensures { λ r. ⌜ Took (held (now (queue .entry)) (now (lens .entry)) counts) (held (now (queue .exit)) (now (lens .exit)) (r .counts)) (now (merged .entry)) (now (merged .exit)) (r .count) ⌝ }
+{
+    if may_take(lens, counts) {
+        return take_pools(queue, lens, counts, merged);
+    }
+    Taking { counts, count: 0 }
 }
