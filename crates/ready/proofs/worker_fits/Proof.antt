@@ -1,0 +1,22 @@
+-- `worker_fits` meets its contract: it is the conjunction of what its three callees ensure.
+use borrow.Author.Needs.{needs}
+use Rattle.ready.specs.Ready.{workerFits}
+use Rattle.ready.proofs.worker_fits.Statement.{statement}
+use Rattle.ready.proofs.worker_fits.Tie as tie
+
+place-fits-requires : tie.Need-place-fits-requires
+place-fits-requires c κs = search needs
+
+pool-fits-requires : tie.Need-pool-fits-requires
+pool-fits-requires c κs = search needs
+
+hand-fits-requires : tie.Need-hand-fits-requires
+hand-fits-requires c κs = search needs
+
+returns : tie.Need-returns
+unfolding workerFits
+returns c = rw (c .before .before .place-fits .ensures, c .before .pool-fits .ensures, c .hand-fits .ensures)
+
+pub worker-fits-spec : {M : Type 1} → statement M
+worker-fits-spec =
+    tie.close (tie.spec place-fits-requires pool-fits-requires hand-fits-requires returns)

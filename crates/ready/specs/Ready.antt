@@ -1,0 +1,100 @@
+-- Whether lent memory counts as set up: "a row too short, or a slot, register, place in an operation or count in it outside its range,
+-- counts as not set up".
+use mathlib.Core.Bool.{Bool, true, false, cond, _&&_}
+use mathlib.Core.List.{List}
+use Prim.Native.Nat.{ℕ, zero, suc, _+_, _*_}
+use lib.Dec.{ltb, leb, eqb}
+use lib.ListN.{getD}
+use Rattle.worker.specs.declared.Doing.{Doing}
+use Rattle.worker.specs.declared.Doing.the-variants.{Idle, PutPublish, PutStamp, PutHandIn, FlushTake, FlushRead, FlushFree, OpenAnnounce, OpenPass, ReadEnter, ReadStand, CloseWithdraw, GetShow}
+use Rattle.worker.specs.declared.Pool.{Pool}
+use Rattle.worker.specs.declared.Worker.{Worker}
+use Rattle.state.specs.declared.Hub.{Hub}
+use Rattle.state.specs.State.{workerIn}
+
+-- the first k numbers are below n
+unfoldable pub belowTo : List ℕ → ℕ → ℕ → Bool
+belowTo l n zero = true
+belowTo l n (suc k) = belowTo l n k && ltb (getD l k 0) n
+
+-- the slots of the k ranges from place i on are below n
+unfoldable pub slotsBelow : List ℕ → ℕ → ℕ → ℕ → Bool
+slotsBelow words i n zero = true
+slotsBelow words i n (suc k) = slotsBelow words i n k && ltb (getD words (3 * (i + k)) 0) n
+
+-- a local pool has at most 64 ranges, and their slots are below n
+unfoldable pub poolFits : Pool → ℕ → Bool
+poolFits q n = cond (ltb 64 (q .len)) false (belowTo (q .slots) n (q .len))
+
+-- the merged list of worker w, of m ranges: at most 256, in its part of the memory, and their slots are below n
+abbrev pub listFits : ℕ → ℕ → List ℕ → ℕ → Bool
+listFits m w merged n = cond (ltb 256 m) false (slotsBelow merged (256 * w) n m)
+
+abbrev pub handIn : Doing → ℕ → List ℕ → ℕ → Bool
+handIn Idle w merged n = true
+handIn (PutPublish r x) w merged n = true
+handIn (PutStamp r c) w merged n = true
+handIn (PutHandIn r c) w merged n = true
+handIn FlushTake w merged n = true
+handIn (FlushRead m k) w merged n = listFits m w merged n
+handIn (FlushFree m) w merged n = listFits m w merged n
+handIn OpenAnnounce w merged n = true
+handIn OpenPass w merged n = true
+handIn (ReadEnter r) w merged n = true
+handIn (ReadStand r c) w merged n = true
+handIn CloseWithdraw w merged n = true
+handIn (GetShow r) w merged n = true
+
+unfoldable pub handFits : Doing → ℕ → List ℕ → ℕ → Bool
+handFits d w merged n = cond (leb 16 w) false (handIn d w merged n)
+
+-- registers below V, slots below N, and no more times read than there are workers
+unfoldable pub placeFits : Doing → ℕ → ℕ → ℕ → Bool
+placeFits Idle p v n = true
+placeFits (PutPublish r x) p v n = ltb r v
+placeFits (PutStamp r c) p v n = ltb r v && ltb c n
+placeFits (PutHandIn r c) p v n = ltb r v && ltb c n
+placeFits FlushTake p v n = true
+placeFits (FlushRead m k) p v n = leb k p
+placeFits (FlushFree m) p v n = true
+placeFits OpenAnnounce p v n = true
+placeFits OpenPass p v n = true
+placeFits (ReadEnter r) p v n = ltb r v
+placeFits (ReadStand r c) p v n = ltb r v && ltb c n
+placeFits CloseWithdraw p v n = true
+placeFits (GetShow r) p v n = ltb r v
+
+unfoldable pub workerFits : Worker → ℕ → List ℕ → ℕ → ℕ → ℕ → Bool
+workerFits x w merged p v n = placeFits (x .doing) p v n && poolFits (x .pool) n && handFits (x .doing) w merged n
+
+-- the first k workers
+unfoldable pub workersFit : Hub → List ℕ → ℕ → Bool
+workersFit h merged zero = true
+workersFit h merged (suc k) = workersFit h merged k && workerFits (workerIn h k) k merged (h .p) (h .v) (h .n)
+
+-- each of the first k pools has 1 to 128 ranges, twice the largest batch size
+unfoldable pub lensFit : List ℕ → ℕ → Bool
+lensFit lens zero = true
+lensFit lens (suc k) = lensFit lens k && (leb 1 (getD lens k 0) && leb (getD lens k 0) 128)
+
+-- how many ranges they have together
+unfoldable pub lensSum : List ℕ → ℕ → ℕ
+lensSum lens zero = 0
+lensSum lens (suc k) = lensSum lens k + getD lens k 0
+
+-- the sizes and counts, with a row of so many slots
+unfoldable pub sizesFit : Hub → ℕ → Bool
+sizesFit h long =
+    (leb 1 (h .p) && leb (h .p) 16 && (leb 1 (h .v) && leb (h .v) 256))
+    && (leb (h .v) (h .n) && leb (h .n) 2048 && leb (h .n) long)
+    && (leb (h .free) 2048 && leb (h .pools) 2048 && leb (h .queued) 2048)
+
+-- Lent memory counts as set up: the hub, newest, free, queue, lens, merged; `linked` says that every neighbour in the row of slots is in range.
+unfoldable pub readyOf : Hub → List ℕ → List ℕ → List ℕ → List ℕ → List ℕ → Bool → ℕ → Bool
+readyOf h newest free queue lens merged linked long =
+    cond (sizesFit h long)
+    (belowTo newest (h .n) (h .v) && belowTo free (h .n) (h .free)
+    && (slotsBelow queue 0 (h .n) (h .queued) && lensFit lens (h .pools))
+    && (eqb (lensSum lens (h .pools)) (h .queued) && workersFit h merged (h .p))
+    && linked)
+    false

@@ -1,0 +1,11 @@
+pub mod Again
+pub mod ByValue
+pub mod Calls
+pub mod Flow
+pub mod Growth
+pub mod Loads
+pub mod Row
+pub mod Scans
+pub mod SetsUp
+pub mod Shared
+pub mod Stores

@@ -1,0 +1,13 @@
+-- `made` meets its contract: each arm builds the slot of its own arm of `madeSlot`, by the test of i against v.
+use borrow.Author.Tests.{lt-ltb, le-ltb}
+use Rattle.slots.proofs.made.Statement.{statement}
+use Rattle.slots.proofs.made.Tie as tie
+
+returns : tie.Need-returns
+returns c = rw (lt-ltb _ _ (c .if1 .taken))
+
+returns-2 : tie.Need-returns-2
+returns-2 c = rw (le-ltb _ _ (c .before .if1 .left))
+
+pub made-spec : {M : Type 1} → statement M
+made-spec = tie.close (tie.spec returns returns-2)

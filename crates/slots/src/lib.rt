@@ -1,0 +1,102 @@
+// The version slots: one lent row of structs, reached through the functions of this crate, each of which loads or stores one slot or
+// goes over the row slot by slot.
+ghost use mathlib.Core.Path.{_≡_};
+ghost use lib.ListN.{set, getD};
+ghost use Rattle.slots.specs.Slots.{vacantSlot, linkedAnd, linkedTo, madeSlot, madeTo};
+use values::Reading;
+
+// "value, low and high time, older and newer neighbour". An unset low, an open high and an absent neighbour are 4294967296.
+pub struct Slot {
+    pub value: Reading,
+    pub low: u64,
+    pub high: u64,
+    pub older: usize,
+    pub newer: usize,
+}
+
+// What is loaded past the end of the row.
+pub fn vacant() -> Slot
+    ensures { λ r. ⌜ r ≡ vacantSlot ⌝ }
+{
+    Slot {
+        value: Reading { count: 0 },
+        low: 0,
+        high: 0,
+        older: 0,
+        newer: 0,
+    }
+}
+
+// The slot at an index; a vacant one past the end.
+pub fn load(slots: &[Slot], i: usize) -> Slot
+    ensures { λ r. ⌜ r ≡ getD (now (slots .entry)) i vacantSlot ⌝ }
+{
+    if i < slots.len() {
+        return slots[i];
+    }
+    vacant()
+}
+
+// The slot at an index is replaced; past the end nothing is.
+pub fn store(slots: &mut [Slot], i: usize, s: Slot)
+    ensures { λ _. ⌜ now (slots .exit) ≡ set (now (slots .entry)) i s ⌝ }
+{
+    if slots.len() <= i {
+        return;
+    }
+    slots[i] = s;
+}
+
+// Whether the neighbours of a slot are slots below n or absent, where those of all slots before it were.
+fn linked_and(ok: bool, s: Slot, n: usize) -> bool
+    ensures { λ r. ⌜ r ≡ linkedAnd ok s n ⌝ }
+{
+    ok & ((s.older < n) | (s.older == 4294967296)) & ((s.newer < n) | (s.newer == 4294967296))
+}
+
+// Whether the neighbours of the first n slots are slots below n or absent.
+pub fn all_linked(slots: &[Slot], n: usize) -> bool
+    ensures { λ r. ⌜ r ≡ linkedTo (now (slots .entry)) n n ⌝ }
+{
+    let mut ok = true;
+    let mut i = 0;
+    while i < n {
+        let s = load(slots, i);
+        ok = linked_and(ok, s, n);
+        i = i + 1;
+    }
+    ok
+}
+
+// The slot that a setup of v registers makes of slot i.
+fn made(i: usize, v: usize, s: Slot) -> Slot
+    ensures { λ r. ⌜ r ≡ madeSlot i v s ⌝ }
+{
+    if i < v {
+        return Slot {
+            value: Reading { count: 0 },
+            low: 0,
+            high: 4294967296,
+            older: 4294967296,
+            newer: 4294967296,
+        };
+    }
+    Slot {
+        older: 4294967296,
+        newer: 4294967296,
+        ..s
+    }
+}
+
+// The first n slots as a setup of v registers leaves them.
+pub fn set_up(slots: &mut [Slot], v: usize, n: usize)
+    ensures { λ _. ⌜ now (slots .exit) ≡ madeTo (now (slots .entry)) v n ⌝ }
+{
+    let mut i = 0;
+    while i < n {
+        let s = load(slots, i);
+        let t = made(i, v, s);
+        store(slots, i, t);
+        i = i + 1;
+    }
+}
