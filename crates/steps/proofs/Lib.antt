@@ -1,0 +1,10 @@
+pub mod Cases
+pub mod Mapped
+pub mod Filled
+pub mod PoolLaws
+pub mod PartLaws
+pub mod TakeLaws
+pub mod RequeueLaws
+pub mod SplitLaws
+pub mod GoLaws
+pub mod ActLaws

@@ -1,0 +1,129 @@
+//! `hublog` and the second program print the same, byte for byte, and `hublog`'s own logs keep demand 3.
+
+use hublog_tests::{agree, printed};
+use reference::coverage::Coverage;
+use reference::generate::{script, Kind, Random};
+use reference::text;
+use std::thread;
+
+fn records(script: &str) -> Vec<u8> {
+    text::pack(script.as_bytes()).expect("a well-formed script")
+}
+
+/// Holds both to a script, and its log to these words.
+fn holds(script: &str, words: &[&str]) {
+    let file = records(script);
+    agree(script, &file);
+    let expected: String =
+        words.iter().enumerate().map(|(i, word)| format!("{i} {word}\n")).collect();
+    assert_eq!(String::from_utf8(printed(&file, &[])).unwrap(), expected, "{script}");
+}
+
+#[test]
+fn the_log_example() {
+    holds(
+        "setup 1 1 2 1\n put 0 0 7\n step 0 x7\n put 0 0 9\n step 0\n collect 0\n step 0 x5",
+        &[
+            "ok", "ok", "going", "going", "going", "going", "going", "going", "done", "ok",
+            "no 14", "ok", "going", "going", "going", "freed 0", "done",
+        ],
+    );
+}
+
+#[test]
+fn setups() {
+    holds(
+        "setup 17 1 1 1\n step 0\n setup 16 1 1 1\n setup 16 1 1 1",
+        &["no 5", "no 8", "ok", "no 9"],
+    );
+    holds("setup 1 2 1 1\n setup 1 257 257 1\n setup 1 1 2049 1\n setup 1 1 1 0", &["no 5"; 4]);
+    holds(
+        "setup 16 256 2048 4294967295\n open 15\n step 15\n step 15",
+        &["ok", "ok", "no 15", "no 11"],
+    );
+}
+
+#[test]
+fn the_clock_at_its_end() {
+    holds(
+        "setup 2 1 1 4294967294\n open 0\n step 0 x2\n open 1\n step 1",
+        &["ok", "ok", "going", "at 4294967294", "ok", "no 15"],
+    );
+}
+
+#[test]
+fn two_announce_one_time() {
+    holds(
+        "setup 2 1 1 5\n open 0\n open 1\n step 0\n step 1\n step 0\n step 1\n open 0\n close 0\n step 0\n open 0\n step 0 x2",
+        &["ok", "ok", "ok", "going", "going", "at 5", "at 5", "no 12", "ok", "done", "ok", "going", "at 6"],
+    );
+}
+
+#[test]
+fn an_unstamped_put_is_not_in_an_older_snapshot() {
+    holds(
+        "setup 2 1 2 5\n put 0 0 7\n step 0\n open 1\n step 1 x2\n read 1 0\n step 1 x3",
+        &["ok", "ok", "going", "ok", "going", "at 5", "ok", "going", "going", "value 0"],
+    );
+}
+
+#[test]
+fn ends_of_files() {
+    assert_eq!(printed(b"", &[]), b"");
+    for length in 1..16 {
+        agree("a rest", &vec![7; length]);
+        assert_eq!(printed(&vec![7; length], &[]), b"0 no 6\n");
+        let mut file = records("setup 1 1 1 1\n get 0 0\n step 0");
+        file.extend(vec![0; length]);
+        assert_eq!(printed(&file, &[]), b"0 ok\n1 ok\n2 value 0\n3 no 6\n");
+    }
+}
+
+/// Every seeded script, on both processors; what they reached together.
+fn together(scripts: Vec<(Kind, &'static str, u64, usize)>) -> Coverage {
+    let mut total = Coverage::default();
+    let half = scripts.len() / 2;
+    let run = |part: &[(Kind, &str, u64, usize)]| {
+        let mut reached = Coverage::default();
+        for &(kind, name, seed, length) in part {
+            reached.add(&agree(&format!("{name} {seed}"), &script(kind, seed, length)));
+        }
+        reached
+    };
+    thread::scope(|scope| {
+        let first = scope.spawn(|| run(&scripts[..half]));
+        total.add(&run(&scripts[half..]));
+        total.add(&first.join().expect("no difference"));
+    });
+    total
+}
+
+#[test]
+fn random_scripts_of_all_kinds() {
+    let mut scripts = Vec::new();
+    for seed in 0..160 {
+        for (kind, name) in Kind::ALL {
+            scripts.push((kind, name, seed, 1000));
+        }
+    }
+    assert!(scripts.len() >= 2000);
+    let total = together(scripts);
+    println!("{total}");
+    assert_eq!(total.missing(), Vec::<String>::new());
+}
+
+#[test]
+fn long_scripts_of_the_largest_hub() {
+    together((1000..1012).map(|seed| (Kind::Large, "large", seed, 40_000)).collect());
+}
+
+#[test]
+fn uniformly_random_bytes() {
+    let mut random = Random::new(1);
+    let file: Vec<u8> = (0..1_600_007).map(|_| random.bits() as u8).collect();
+    agree("uniform bytes", &file);
+    // The same after a setup, so that operations are reached.
+    let mut set_up = records("setup 16 256 2048 1");
+    set_up.extend(&file);
+    agree("uniform bytes after a setup", &set_up);
+}
