@@ -1,7 +1,7 @@
 -- The values that the walks hold, as machine values: how each is spelled, that it is of its type, and that fields which are numbers fit a
 -- machine word.
 use mathlib.Core.Path.{_≡_, sym, _∙_}
-use Prim.Native.Nat.{ℕ, _<_, _^_}
+use Prim.Native.Nat.{_<_, _^_}
 use mathlib.Core.List.{List}
 use lib.ListN.{length, length-map}
 use lib.Dec.{T as Holds}

@@ -1,7 +1,5 @@
 -- `carry_out` meets its contract: it hands on what `act` ensures, with the places of the slots.
-use mathlib.Core.Path.{ap}
 use borrow.Author.Needs.{needs}
-use Rattle.steps.specs.Steps.{Outcome}
 use Rattle.hub.specs.Back.{steppedBy}
 use Rattle.hub.proofs.carry_out.Statement.{statement}
 use Rattle.hub.proofs.carry_out.Tie as tie
@@ -12,7 +10,7 @@ act-requires c κs = search needs
 returns : tie.Need-returns
 returns c =
     let given = c .before .before .before .before .before .before .before .before .before .before .before .before .before .args in
-    ap (λ (o : Outcome). steppedBy (given .plan) (given .s) o) (c .before .before .before .before .act .ensures)
+    λ i. steppedBy (given .plan) (given .s) (c .before .before .before .before .act .ensures i)
 
 pub carry-out-spec : {M : Type 1} → statement M
 carry-out-spec = tie.close (tie.spec act-requires returns)

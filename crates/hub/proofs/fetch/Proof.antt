@@ -1,5 +1,5 @@
 -- `fetch` meets its contract: a walk of its MIR, by hand, with no branch: three loads, and the third's place between them.
-use mathlib.Core.Path.{_≡_, refl}
+use mathlib.Core.Path.{refl}
 use Prim.Native.Nat.{ℕ, _<_, _^_}
 use mathlib.Core.List.{List, [], _∷_}
 use lib.ListN.{length, getD}
