@@ -1,5 +1,4 @@
 -- `put_line` meets its contract: a line ends inside the text.
-use mathlib.Core.Path.{subst, sym}
 use Rattle.hublog.proofs.Inside.{line-inside}
 use borrow.Author.Needs.{needs}
 use Rattle.hublog.proofs.put_line.Statement.{statement}
