@@ -2,9 +2,11 @@
 //! and the tools that check them.
 //!
 //! Each module has one topic. `hub` answers records over the `store`; `steps` and `flush` are what
-//! its workers do. `order` is the checker of demand 3 and shares no code with them.
+//! its workers do. `order` is the checker of demand 3 and shares no code with them; `listing` and
+//! `timeline` show the order that it finds.
 
 pub mod answer;
+pub mod census;
 pub mod coverage;
 pub mod explore;
 pub mod fault;
@@ -12,14 +14,20 @@ mod flush;
 pub mod generate;
 pub mod hub;
 pub mod invariant;
+pub mod listing;
 pub mod log;
 pub mod order;
+pub mod plot;
 pub mod pool;
 pub mod record;
 pub mod row;
+pub mod space;
 mod steps;
 pub mod store;
+pub mod table;
 pub mod text;
+pub mod timeline;
+pub mod workload;
 
 pub use answer::{Answer, Refusal};
 pub use hub::Hub;

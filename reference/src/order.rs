@@ -74,6 +74,34 @@ impl Operation {
             Outcome::Unfinished => None,
         }
     }
+
+    /// The answer that ended it.
+    pub fn answer(&self) -> Option<Answer> {
+        match self.outcome {
+            Outcome::Finished { answer, .. } => Some(answer),
+            Outcome::Refused { refusal, .. } => Some(Answer::No(refusal)),
+            Outcome::Unfinished => None,
+        }
+    }
+
+    /// Is it a get or a read, for which plain registers show something?
+    pub fn shows(&self) -> bool {
+        matches!(self.action, Action::Get { .. } | Action::Read { .. })
+    }
+
+    /// What they show, in words.
+    pub fn shown_words(&self) -> String {
+        self.shown.map_or("nothing".to_string(), |shown| shown.to_string())
+    }
+}
+
+/// A step that an operation took.
+#[derive(Clone, Copy, Debug, PartialEq, Eq)]
+pub struct Step {
+    pub record: usize,
+    /// An index into the order's `operations`.
+    pub operation: usize,
+    pub answer: Answer,
 }
 
 /// A list of records and answers with the order that demand 3 asks for.
@@ -88,24 +116,29 @@ pub struct Order {
     pub operations: Vec<Operation>,
     /// Indices into `operations`: one after another.
     pub sequence: Vec<usize>,
+    /// The steps taken, in the order of the records.
+    pub steps: Vec<Step>,
     /// Answers `freed S`.
     pub freed: usize,
 }
 
 impl fmt::Display for Order {
     fn fmt(&self, f: &mut fmt::Formatter) -> fmt::Result {
+        let counted = |count: usize, noun: &str| match count {
+            1 => format!("1 {noun}"),
+            _ => format!("{count} {noun}s"),
+        };
         let count = |is: fn(&Operation) -> bool| self.operations.iter().filter(|o| is(o)).count();
         write!(
             f,
-            "{} records, {} operations: {} finished, {} refused, {} unfinished; \
-             {} in the order, {} slots freed",
-            self.records,
-            self.operations.len(),
+            "{}, {}: {} finished, {} refused, {} unfinished; {} in the order, {} freed",
+            counted(self.records, "record"),
+            counted(self.operations.len(), "operation"),
             count(|o| matches!(o.outcome, Outcome::Finished { .. })),
             count(|o| matches!(o.outcome, Outcome::Refused { .. })),
             count(|o| o.outcome == Outcome::Unfinished),
             self.sequence.len(),
-            self.freed
+            counted(self.freed, "slot"),
         )
     }
 }
@@ -146,19 +179,21 @@ impl std::error::Error for Violation {}
 /// Checks demand 3 for a file of records and the answers to them. The violation given is the one
 /// with the lowest record number.
 pub fn check(file: &[u8], answers: &[Answer]) -> Result<Order, Violation> {
+    match examine(file, answers) {
+        (_, Some(violation)) => Err(violation),
+        (order, None) => Ok(order),
+    }
+}
+
+/// The order as far as the records can be followed, and what `check` finds wrong with it.
+pub fn examine(file: &[u8], answers: &[Answer]) -> (Order, Option<Violation>) {
     let mut follower = Follower::default();
     let followed = follower.follow(file, answers);
     let mut order = follower.order;
-    let found = [
-        followed.err(),
-        check_once(&order).err(),
-        check_between(&order).err(),
-        replay(&mut order).err(),
-    ];
-    match found.into_iter().flatten().min_by_key(|violation| violation.record) {
-        Some(violation) => Err(violation),
-        None => Ok(order),
-    }
+    replay(&mut order);
+    let found = [followed, check_once(&order), check_between(&order), check_values(&order)];
+    let violation = found.into_iter().filter_map(Result::err).min_by_key(|found| found.record);
+    (order, violation)
 }
 
 /// What setup or a put's first step wrote into a slot.
@@ -352,6 +387,7 @@ impl Follower {
                 ));
             }
         }
+        self.order.steps.push(Step { record: self.record, operation, answer });
         self.end(w, operation, answer);
         Ok(())
     }
@@ -537,8 +573,8 @@ fn check_between(order: &Order) -> Result<(), Violation> {
     Ok(())
 }
 
-/// Feeds the plain registers in the order and compares what they show with the answers.
-fn replay(order: &mut Order) -> Result<(), Violation> {
+/// Feeds the plain registers in the order and keeps what they show.
+fn replay(order: &mut Order) {
     let mut registers = vec![0; usize::from(order.registers)];
     let mut copies: Vec<Option<Vec<u64>>> = vec![None; usize::from(order.workers)];
     for &index in &order.sequence {
@@ -557,11 +593,18 @@ fn replay(order: &mut Order) -> Result<(), Violation> {
                 operation.shown = copy.as_ref().map(|copy| copy[usize::from(register)]);
             }
         }
-        let shows = matches!(operation.action, Action::Get { .. } | Action::Read { .. });
-        if let (true, Outcome::Finished { record, answer }) = (shows, operation.outcome) {
+    }
+}
+
+/// Every finished get and read answers what is shown.
+fn check_values(order: &Order) -> Result<(), Violation> {
+    for &index in &order.sequence {
+        let operation = &order.operations[index];
+        if let (true, Outcome::Finished { record, answer }) = (operation.shows(), operation.outcome)
+        {
             let right = operation.shown.is_some_and(|shown| answer == Answer::Value(shown));
             if !right {
-                let shown = operation.shown.map_or("nothing".to_string(), |x| x.to_string());
+                let shown = operation.shown_words();
                 let sentence = format!("{operation} answers `{answer}` where {shown} is shown");
                 return Err(Violation { record, claim: Claim::Value, sentence });
             }

@@ -14,11 +14,12 @@
 //! bytes HEX...
 //! ```
 //!
-//! `bytes` gives a record by its bytes, fewer than sixteen only as the last command.
+//! `bytes` gives a record by its bytes, fewer than sixteen only as the last command. Unpacking writes
+//! it for a record that is refused whatever the hub's state, with the reason as a comment.
 
+use crate::answer::Refusal;
 use crate::record::{Record, LENGTH};
 use std::fmt::{self, Write};
-use std::str::FromStr;
 
 /// Most repetitions that one line may ask for.
 pub const MAX_REPEAT: usize = 1_000_000;
@@ -110,17 +111,24 @@ fn append_command(file: &mut Vec<u8>, words: &[&str]) -> Result<(), String> {
 }
 
 /// A field that does not fit its bytes cannot be written.
-fn number<T: FromStr>(word: &str, what: &str) -> Result<T, String> {
+fn number<T: TryFrom<u64>>(word: &str, what: &str) -> Result<T, String> {
+    let number = decimal(word).and_then(|number| T::try_from(number).ok());
+    number.ok_or_else(|| {
+        let greatest = u64::MAX >> (64 - 8 * size_of::<T>());
+        format!("{what} {word:?} is not a number from 0 to {greatest}")
+    })
+}
+
+/// A number in digits, without a sign.
+fn decimal(word: &str) -> Option<u64> {
     let digits = word.bytes().all(|byte| byte.is_ascii_digit());
-    digits
-        .then(|| word.parse().ok())
-        .flatten()
-        .ok_or_else(|| format!("{what} {word:?} is no number that fits its bytes"))
+    digits.then(|| word.parse().ok()).flatten()
 }
 
 fn repetition(word: &str) -> Result<usize, String> {
-    let count = word.strip_prefix('x').and_then(|digits| number(digits, "").ok());
+    let count = word.strip_prefix('x').and_then(decimal);
     count
+        .and_then(|count| usize::try_from(count).ok())
         .filter(|count| (1..=MAX_REPEAT).contains(count))
         .ok_or_else(|| format!("repetition {word:?} is not x1 to x{MAX_REPEAT}"))
 }
@@ -155,7 +163,12 @@ fn usage(name: &str) -> String {
         "get" => "get WORKER REGISTER",
         "collect" => "collect WORKER",
         "step" => "step WORKER [xCOUNT]",
-        _ => return format!("unknown command {name:?}"),
+        _ => {
+            return format!(
+                "unknown command {name:?}, not one of setup, put, open, read, close, get, \
+                collect, step, bytes"
+            )
+        }
     };
     format!("not of the form: {form}")
 }
@@ -177,7 +190,7 @@ pub fn unpack(file: &[u8]) -> String {
                 }
             }
             Ok(record) => write_command(&mut text, record),
-            Err(_) => write_bytes(&mut text, bytes),
+            Err(refusal) => write_bytes(&mut text, bytes, refusal),
         }
         .expect("writing to a string");
     }
@@ -201,8 +214,13 @@ fn write_command(text: &mut String, record: Record) -> fmt::Result {
     }
 }
 
-fn write_bytes(text: &mut String, bytes: &[u8]) -> fmt::Result {
+fn write_bytes(text: &mut String, bytes: &[u8], refusal: Refusal) -> fmt::Result {
     write!(text, "bytes")?;
     bytes.iter().try_for_each(|byte| write!(text, " {byte:02x}"))?;
-    writeln!(text)
+    let reason = match refusal {
+        Refusal::Length => "fewer than 16 bytes",
+        Refusal::Operation => "operation above 7",
+        _ => "an unused byte is not zero",
+    };
+    writeln!(text, "  # refused with {}: {reason}", refusal.number())
 }

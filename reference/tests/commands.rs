@@ -2,7 +2,7 @@
 
 mod common;
 
-use common::records;
+use common::{records, sample};
 use std::fs;
 use std::io::{Read, Write};
 use std::path::PathBuf;
@@ -12,6 +12,7 @@ const HUBLOG: &str = env!("CARGO_BIN_EXE_reference-hublog");
 const RECORDS: &str = env!("CARGO_BIN_EXE_records");
 const GENERATE: &str = env!("CARGO_BIN_EXE_generate");
 const CHECK_ORDER: &str = env!("CARGO_BIN_EXE_check-order");
+const ORDER: &str = env!("CARGO_BIN_EXE_order");
 
 /// Runs a program with some input.
 fn run(program: &str, arguments: &[&str], input: &[u8]) -> Output {
@@ -92,21 +93,45 @@ fn records_packs_and_unpacks() {
     let packed = run(RECORDS, &["pack"], script.as_bytes());
     assert!(packed.status.success());
     assert_eq!(packed.stdout, records(script));
+    let commented = script.replace("01\n", "01  # refused with 6: fewer than 16 bytes\n");
     let unpacked = run(RECORDS, &["unpack"], &packed.stdout);
-    assert_eq!(text(&unpacked.stdout), script);
+    assert_eq!(text(&unpacked.stdout), commented);
     let path = file("packed", &packed.stdout);
     let unpacked = run(RECORDS, &["unpack", path.to_str().unwrap()], &[]);
-    assert_eq!(text(&unpacked.stdout), script);
+    assert_eq!(text(&unpacked.stdout), commented);
 }
 
 #[test]
-fn records_says_line_and_reason() {
-    let output = run(RECORDS, &["pack"], b"open 0\nopen\n");
-    assert_eq!(output.status.code(), Some(1));
-    assert_eq!(output.stdout, b"");
-    assert_eq!(text(&output.stderr), "records: line 2: not of the form: open WORKER\n");
-    assert_eq!(run(RECORDS, &["press"], &[]).status.code(), Some(1));
-    assert_eq!(run(RECORDS, &["pack", "no/such/file"], &[]).status.code(), Some(1));
+fn the_first_sample_has_its_log() {
+    let packed = run(RECORDS, &["pack"], sample("first.txt").as_bytes());
+    assert!(packed.status.success(), "{}", text(&packed.stderr));
+    assert_eq!(text(&run(HUBLOG, &[], &packed.stdout).stdout), sample("first.log"));
+}
+
+#[test]
+fn records_names_file_line_and_reason() {
+    let script = b"open 0\nopen\n";
+    let path = file("unfit-script", script);
+    let path = path.to_str().unwrap();
+    for (arguments, input, name) in
+        [(&["pack"][..], &script[..], "standard input"), (&["pack", path], &[], path)]
+    {
+        let output = run(RECORDS, arguments, input);
+        assert_eq!(output.status.code(), Some(1));
+        assert_eq!(output.stdout, b"");
+        let error = format!("records: {name}: line 2: not of the form: open WORKER\n");
+        assert_eq!(text(&output.stderr), error);
+    }
+    for command in ["pack", "unpack"] {
+        let output = run(RECORDS, &[command, "no/such/file"], &[]);
+        assert_eq!(output.status.code(), Some(1));
+        assert!(text(&output.stderr).starts_with("records: no/such/file: "));
+    }
+    for arguments in [&[][..], &["press"], &["pack", path, path]] {
+        let output = run(RECORDS, arguments, &[]);
+        assert_eq!(output.status.code(), Some(1));
+        assert_eq!(text(&output.stderr), "records: usage: records pack|unpack [FILE]\n");
+    }
 }
 
 #[test]
@@ -137,4 +162,72 @@ fn check_order_accepts_a_right_log_and_refuses_a_wrong_one() {
     assert_eq!(output.status.code(), Some(1));
     assert!(text(&output.stderr).contains(" answers `value 1"), "{}", text(&output.stderr));
     assert_eq!(run(CHECK_ORDER, &paths[..1], &[]).status.code(), Some(1));
+}
+
+#[test]
+fn order_prints_the_sample_as_text_and_as_svg() {
+    let script = records(&sample("order.txt"));
+    let log = run(HUBLOG, &[], &script).stdout;
+    let (script_file, log_file) = (file("sample-records", &script), file("sample-log", &log));
+    let [script, log] = [&script_file, &log_file].map(|path| path.to_str().unwrap());
+    for (arguments, expected) in
+        [(&[script, log][..], "order.listing"), (&["--svg", script, log], "order.svg")]
+    {
+        let output = run(ORDER, arguments, &[]);
+        assert!(output.status.success(), "{}", text(&output.stderr));
+        assert_eq!(text(&output.stdout), sample(expected));
+        assert_eq!(text(&output.stderr), "");
+    }
+}
+
+#[test]
+fn order_says_what_breaks_it() {
+    let script = file("broken-records", &records("setup 1 1 1 1\n get 0 0\n step 0"));
+    let log = file("broken-log", b"0 ok\n1 ok\n2 value 5\n");
+    let [script, log] = [&script, &log].map(|path| path.to_str().unwrap());
+    let sentence = "record 2: worker 0's get of register 0, begun by record 1, \
+        answers `value 5` where 0 is shown";
+    for (arguments, shown) in
+        [(&[script, log][..], "value 5  0"), (&["--svg", script, log], "5 ≠ 0")]
+    {
+        let output = run(ORDER, arguments, &[]);
+        assert_eq!(output.status.code(), Some(1));
+        assert_eq!(text(&output.stderr), format!("order: not accepted: {sentence}\n"));
+        assert!(text(&output.stdout).contains(sentence), "{}", text(&output.stdout));
+        assert!(text(&output.stdout).contains(shown), "{}", text(&output.stdout));
+    }
+}
+
+#[test]
+fn order_names_file_line_and_reason() {
+    let script = file("unfit-records", &records("setup 1 1 1 1\n get 0 0\n step 0"));
+    let script = script.to_str().unwrap();
+    let cases = [
+        ("0 ok\n1 ok\n2 done\n", "log line 2 does not fit", "cannot answer `done` at its step 1"),
+        ("0 ok\n1 ok\n", "log line 2 does not fit", "2 answers for 3 records"),
+        ("0 ok\n1 fine\n2 value 0\n", "log line 1 has no answer of a log", "\"1 fine\""),
+        ("0 ok\n2 ok\n", "log line 1 does not begin with its number", "\"2 ok\""),
+    ];
+    for (log, line, reason) in cases {
+        let log = file("unfit-log", log.as_bytes());
+        let log = log.to_str().unwrap();
+        for arguments in [&[script, log][..], &["--svg", script, log]] {
+            let output = run(ORDER, arguments, &[]);
+            assert_eq!(output.status.code(), Some(1));
+            assert_eq!(text(&output.stdout), "");
+            let error = text(&output.stderr);
+            assert!(error.starts_with(&format!("order: {log}: {line}")), "{error}");
+            assert!(error.contains(reason), "{error}");
+        }
+    }
+    let output = run(ORDER, &[script, "no/such/log"], &[]);
+    assert_eq!(output.status.code(), Some(1));
+    assert!(text(&output.stderr).starts_with("order: no/such/log: "));
+    let output = run(ORDER, &["no/such/records", script], &[]);
+    assert!(text(&output.stderr).starts_with("order: no/such/records: "));
+    for arguments in [&[][..], &[script], &["--png", script, script], &["--svg", script]] {
+        let output = run(ORDER, arguments, &[]);
+        assert_eq!(output.status.code(), Some(1));
+        assert!(text(&output.stderr).contains("order"), "{}", text(&output.stderr));
+    }
 }

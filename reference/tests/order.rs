@@ -2,9 +2,9 @@
 
 mod common;
 
-use common::records;
+use common::{examined, records};
 use reference::generate::{script, Kind};
-use reference::log::{self, parse_answer};
+use reference::log;
 use reference::order::{self, Action, Claim, Outcome, Violation};
 use reference::{Answer, Hub};
 
@@ -17,12 +17,7 @@ fn check(script: &str) -> order::Order {
 
 /// Checks a script with some of the hub's answers replaced.
 fn check_with(script: &str, replaced: &[(usize, &str)]) -> Violation {
-    let file = records(script);
-    let mut answers = log::answers(&mut Hub::new(), &file);
-    for &(record, words) in replaced {
-        answers[record] = parse_answer(words).expect("an answer");
-    }
-    order::check(&file, &answers).expect_err("a violation")
+    examined(script, replaced).1.expect("a violation")
 }
 
 #[test]
@@ -140,6 +135,24 @@ fn wrong_values_are_found() {
     assert_eq!((violation.record, violation.claim), (17, Claim::Value));
     // The lower record number comes first.
     assert_eq!(check_with(READ, &[(15, "value 0"), (17, "value 0")]).record, 15);
+}
+
+#[test]
+fn a_broken_order_is_given_whole() {
+    let (order, violation) = examined(READ, &[(15, "value 8")]);
+    assert_eq!(violation.unwrap().claim, Claim::Value);
+    let shown: Vec<_> = order.operations.iter().filter_map(|operation| operation.shown).collect();
+    assert_eq!(shown, [7, 8]);
+    assert_eq!(order.records, 18);
+}
+
+#[test]
+fn steps_belong_to_their_operations() {
+    let order = check("setup 2 1 4 1\n put 0 0 7\n step 0\n get 1 0\n step 1\n step 0\n step 1");
+    let steps: Vec<_> = order.steps.iter().map(|step| (step.record, step.operation)).collect();
+    // The last step is refused: it was not taken.
+    assert_eq!(steps, [(2, 0), (4, 1), (5, 0)]);
+    assert_eq!(order.steps[1].answer, Answer::Value(7));
 }
 
 /// One worker, B 1: the second put's flush frees slot 0 at record 12.

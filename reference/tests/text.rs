@@ -6,7 +6,7 @@ use common::records;
 use reference::generate::{script, Kind, Random};
 use reference::record::LENGTH;
 use reference::text::{pack, unpack, MAX_REPEAT};
-use reference::Record;
+use reference::{Record, Refusal};
 
 fn round_trip(file: &[u8]) {
     let text = unpack(file);
@@ -45,10 +45,33 @@ get 0 0
 collect 15
 step 1
 step 2 x3
-bytes 08 00 00 00 00 00 00 00 00 00 00 00 00 00 00 01
-bytes ff
+bytes 08 00 00 00 00 00 00 00 00 00 00 00 00 00 00 01  # refused with 1: operation above 7
+bytes 02 00 00 00 00 00 00 00 00 00 00 00 00 00 00 01  # refused with 2: an unused byte is not zero
+bytes ff  # refused with 6: fewer than 16 bytes
 ";
     assert_eq!(unpack(&pack(text.as_bytes()).unwrap()), text);
+}
+
+#[test]
+fn unpacking_says_why_a_record_is_refused() {
+    let mut random = Random::new(11);
+    for length in 1..=LENGTH {
+        for _ in 0..200 {
+            let bytes: Vec<u8> = (0..length).map(|_| random.below(10) as u8).collect();
+            let text = unpack(&bytes);
+            let comment = text.trim_end().split_once("  # ").map(|(_, comment)| comment);
+            let expected = match Record::decode(&bytes) {
+                Ok(_) => None,
+                Err(Refusal::Length) => Some("refused with 6: fewer than 16 bytes"),
+                Err(Refusal::Operation) => Some("refused with 1: operation above 7"),
+                Err(refusal) => {
+                    assert_eq!(refusal, Refusal::UnusedByte);
+                    Some("refused with 2: an unused byte is not zero")
+                }
+            };
+            assert_eq!(comment, expected, "{text}");
+        }
+    }
 }
 
 #[test]
@@ -112,19 +135,28 @@ fn errors_say_line_and_reason() {
     let cases = [
         ("open", 1, "not of the form: open WORKER"),
         ("\nput 1 2", 2, "not of the form: put WORKER REGISTER VALUE"),
-        ("open 1\nfly 3", 2, "unknown command \"fly\""),
-        ("open 256", 1, "worker \"256\" is no number that fits its bytes"),
-        ("open -1", 1, "worker \"-1\" is no number that fits its bytes"),
-        ("open +1", 1, "worker \"+1\" is no number that fits its bytes"),
-        ("read 0 65536", 1, "register \"65536\" is no number that fits its bytes"),
+        ("# a put\n\nput 0 0 7 8 # one too many", 3, "not of the form: put WORKER REGISTER VALUE"),
+        (
+            "open 1\nfly 3",
+            2,
+            "unknown command \"fly\", not one of setup, put, open, read, close, get, collect, \
+            step, bytes",
+        ),
+        ("open 256", 1, "worker \"256\" is not a number from 0 to 255"),
+        ("open -1", 1, "worker \"-1\" is not a number from 0 to 255"),
+        ("open +1", 1, "worker \"+1\" is not a number from 0 to 255"),
+        ("get one 0", 1, "worker \"one\" is not a number from 0 to 255"),
+        ("read 0 65536", 1, "register \"65536\" is not a number from 0 to 65535"),
         (
             "put 0 0 18446744073709551616",
             1,
-            "value \"18446744073709551616\" is no number that fits its bytes",
+            "value \"18446744073709551616\" is not a number from 0 to 18446744073709551615",
         ),
-        ("setup 1 1 1 4294967296", 1, "clock \"4294967296\" is no number that fits its bytes"),
+        ("setup 1 1 1 4294967296", 1, "clock \"4294967296\" is not a number from 0 to 4294967295"),
         ("step 0 3", 1, "repetition \"3\" is not x1 to x1000000"),
+        ("step 0 x", 1, "repetition \"x\" is not x1 to x1000000"),
         ("step 0 x0", 1, "repetition \"x0\" is not x1 to x1000000"),
+        ("step 0 x1000001", 1, "repetition \"x1000001\" is not x1 to x1000000"),
         ("step 0 x1 x1", 1, "not of the form: step WORKER [xCOUNT]"),
         ("bytes", 1, "0 bytes where a record has 1 to 16"),
         ("bytes 0", 1, "\"0\" is not pairs of hexadecimal digits"),

@@ -8,9 +8,9 @@ use std::process::Stdio;
 
 #[test]
 fn pieces_of_any_size() {
-    let file = script(Kind::Tails, 5, 3000);
+    let file = script(Kind::Tails, 5, 12_000);
     let expected = log::log_text(&log::answers(&mut Hub::new(), &file));
-    for pieces in [&[1][..], &[7], &[16], &[15, 2, 31], &[4095], &[16_383, 1, 16_385], &[16_384]] {
+    for pieces in [&[1][..], &[7], &[16], &[15, 2, 31], &[4095], &[65_535, 1, 65_537], &[65_536]] {
         assert!(printed(&file, pieces) == expected, "{pieces:?}");
     }
 }
@@ -27,7 +27,8 @@ fn closed_output_ends_it() {
     let mut output = child.stdout.take().expect("piped");
     let mut input = child.stdin.take().expect("piped");
     let mut first = [0; 4];
-    let block = vec![7; 16 * 1024];
+    // It answers a whole block of 4096 records at once.
+    let block = vec![7; 64 * 1024];
     input.write_all(&block).expect("read");
     output.read_exact(&mut first).expect("a line");
     drop(output);
@@ -42,4 +43,24 @@ fn closed_output_ends_it() {
 fn closed_input_ends_it() {
     let output = hublog().stdin(Stdio::null()).output().expect("it ends");
     assert!(output.status.success() && output.stdout.is_empty());
+}
+
+/// What it says on standard error where a read or a write fails; what was read before is logged.
+#[test]
+fn failures_are_said() {
+    let directory = std::fs::File::open("/").expect("a directory");
+    let output = hublog().stdin(directory).output().expect("it ends");
+    assert_eq!(output.stderr, b"hublog: cannot read standard input\n");
+    assert!(output.stdout.is_empty());
+
+    let full = std::fs::File::options().write(true).open("/dev/full").expect("a full device");
+    let mut child = hublog()
+        .stdin(Stdio::piped())
+        .stdout(full)
+        .stderr(Stdio::piped())
+        .spawn()
+        .expect("it starts");
+    child.stdin.take().expect("piped").write_all(&[7; 16]).expect("read");
+    let output = child.wait_with_output().expect("it ends");
+    assert_eq!(output.stderr, b"hublog: cannot write standard output\n");
 }

@@ -1,94 +1,59 @@
-// Reads records from standard input and writes a line for each (document 01, "The log"). This crate owns the memory that the hub is lent.
-ghost use mathlib.Core.Path.{_≡_};
-ghost use Prim.Native.Nat.{_+_, _*_, _/_, _≤_};
-ghost use lib.ListN.{length, take, drop};
-use slots::Slot;
+// Reads records from standard input and writes a line for each (document 01, "The log"). This crate owns the memory of the hub.
+ghost use Prim.Native.Nat.{_≤_};
+ghost use lib.ListN.{length};
 use state::Hub;
-use values::Answer;
 
-// What a block of records leaves: the slots, the hub, and how many bytes the text of its lines has.
-struct Logged {
-    slots: [Slot; 2048],
-    hub: Hub,
-    used: usize,
+// What was read: how many bytes, and whether a read failed.
+struct Input {
+    n: usize,
+    failed: bool,
 }
 
-fn pack(slots: [Slot; 2048], hub: Hub, used: usize) -> Logged
-    ensures { λ r. ⌜ r .used ≡ used ⌝ }
+// Reads from standard input until buf is full, the input ends or a read fails. Pieces of any size are put together, so that records are
+// cut at the same places whatever the reads bring.
+fn fill(buf: &mut [u8]) -> Input
+    ensures { λ r. ⌜ r .n ≤ length (now (buf .exit)) ⌝ }
 {
-    Logged { slots, hub, used }
+    let mut n: usize = 0;
+    while n < buf.len() {
+        let part = &mut buf[n..];
+        let got = libc::read(libc::STDIN_FILENO, part);
+        if got < 0 {
+            return Input { n, failed: true };
+        }
+        let more = io::count(got, part);
+        if more == 0 {
+            return Input { n, failed: false };
+        }
+        n += more;
+    }
+    Input { n, failed: false }
 }
 
-// Record k of the bytes: sixteen from byte 16 k on, or as many as are left there.
-fn record_at(bytes: &[u8], k: usize) -> &[u8]
-    ensures { λ r. ⌜ now r ≡ take 16 (drop (16 * k) (now (bytes .entry))) ⌝ }
-{
-    let most = bytes.len();
-    if most / 16 < k {
-        return &bytes[most..most];
-    }
-    let from = 16 * k;
-    if most - from < 16 {
-        return &bytes[from..most];
-    }
-    let end = from + 16;
-    &bytes[from..end]
-}
-
-// How many records n bytes are. A rest of fewer than sixteen is one more.
-fn count_records(n: usize) -> usize
-    ensures { λ r. ⌜ r ≡ (n + 15) / 16 ⌝ }
-{
-    if n % 16 == 0 {
-        return n / 16;
-    }
-    n / 16 + 1
-}
-
-// Writes the line of record first + k at index `at` of out; answers the index after it.
-fn put_line(out: &mut [u8], at: usize, first: u64, k: usize, answer: Answer) -> usize
-    requires { ⌜ at ≤ length (now out) ⌝ }
+// Writes the lines of a block from the start of out; answers how many bytes they have.
+fn write_block(out: &mut [u8], first: u64, kinds: &[u8], numbers: &[u64], count: usize) -> usize
     ensures { λ r. ⌜ r ≤ length (now (out .entry)) ⌝ }
 {
-    let number = std::num::wrapping_add_u64(first, k as u64);
-    lines::write_line(out, at, number, answer)
+    lines::write_lines(out, first, kinds, numbers, count)
 }
 
-// Applies the first `count` records of the bytes, one after the other, and writes their lines from the start of out. The slots are
-// taken by value and lent to each record: whoever calls this function needs no walk by hand.
-fn log_records(
-    mut slots: [Slot; 2048],
-    mut hub: Hub,
-    bytes: &[u8],
-    count: usize,
-    first: u64,
-    out: &mut [u8],
-    newest: &mut [u16; 256],
-    free: &mut [u16; 2048],
-    queue: &mut [u32; 6144],
-    lens: &mut [u32; 2048],
-    merged: &mut [u32; 12288],
-) -> Logged
-    ensures { λ r. ⌜ r .used ≤ length (now (out .entry)) ⌝ }
-{
-    let mut used = 0;
-    let mut k = 0;
-    while k < count {
-        let rec = record_at(bytes, k);
-        let a = hub::apply(&mut slots, hub, rec, newest, free, queue, lens, merged);
-        used = put_line(out, used, first, k, a.answer);
-        hub = a.hub;
-        k = k + 1;
+// Says on standard error what went wrong. Where that cannot be written either, nothing is left to do.
+fn say(text: &[u8]) {
+    if io::write_all(libc::STDERR_FILENO, text) {
+        return;
     }
-    pack(slots, hub, used)
 }
 
 fn main() {
-    let mut input_space = [0u8; 16384];
+    // A block is 4096 records, and the longest line has 48 bytes.
+    let mut input_space = [0u8; 65536];
     let input: &mut [u8] = &mut input_space;
-    // The longest line has 48 bytes, and a block 1024 records.
-    let mut text_space = [0u8; 49152];
+    let mut text_space = [0u8; 196608];
     let text: &mut [u8] = &mut text_space;
+    let mut kind_space = [0u8; 4096];
+    let kinds: &mut [u8] = &mut kind_space;
+    let mut number_space = [0u64; 4096];
+    let numbers: &mut [u64] = &mut number_space;
     let mut newest = [0u16; 256];
     let mut free = [0u16; 2048];
     let mut queue = [0u32; 6144];
@@ -103,14 +68,14 @@ fn main() {
     let mut turns = u64::MAX;
     while turns > 0 {
         turns -= 1;
-        let n = io::read_full(libc::STDIN_FILENO, input);
-        let done = log_records(
+        let got = fill(input);
+        let n = got.n;
+        let done = buffer::apply_all(
             slots,
             hub,
             &input[0..n],
-            count_records(n),
-            first,
-            text,
+            kinds,
+            numbers,
             &mut newest,
             &mut free,
             &mut queue,
@@ -119,15 +84,20 @@ fn main() {
         );
         let s = done.slots;
         let h = done.hub;
-        let used = done.used;
         slots = s;
         hub = h;
+        let used = write_block(text, first, kinds, numbers, done.count);
         if !io::write_all(libc::STDOUT_FILENO, &text[0..used]) {
+            say(b"hublog: cannot write standard output\n");
             return;
         }
-        if n < 16384 {
+        if got.failed {
+            say(b"hublog: cannot read standard input\n");
             return;
         }
-        first = std::num::wrapping_add_u64(first, 1024);
+        if n < 65536 {
+            return;
+        }
+        first = std::num::wrapping_add_u64(first, 4096);
     }
 }

@@ -1,7 +1,10 @@
 pub mod Appending
 pub mod Text
 pub mod Decimal
-pub mod Counting
-pub mod Writing
+pub mod Spelling
+pub mod Raising
 pub mod Longest
 pub mod Room
+pub mod Filling
+pub mod Inside
+pub mod Whole

@@ -2,9 +2,9 @@
 use Prim.Native.Nat.{ℕ, _+_, _≤_}
 use mathlib.Core.List.{List}
 use native.Mathlib.Omega.{arith}
-use lib.ListN.{length, length-append}
+use lib.ListN.{length, drop, length-append, length-drop}
 use Rattle.model.specs.Answer.{Answer, Ok, Going, Freed, At, Value, Done, No}
-use Rattle.model.specs.Log.{text, decimal, words, line}
+use Rattle.model.specs.Log.{text, words, line}
 use Rattle.lines.specs.Written.{Appended, longest}
 use Rattle.lines.proofs.Decimal.{length-decimal}
 
@@ -22,8 +22,8 @@ pub line-length : (n : ℕ) (a : Answer) → length (line n a) ≤ longest
 unfolding line text
 line-length n a = simp length-append (omega (arith, length-decimal n, words-length a))
 
-pub after-decimal : (x : ℕ) {i j : ℕ} {d e : List ℕ} → Appended (decimal x) i d e j → j ≤ i + 20
-after-decimal x w = omega (arith, w .next, length-decimal x)
+pub after-rest : (l : List ℕ) (k : ℕ) {i j : ℕ} {d e : List ℕ} → Appended (drop k l) i d e j → j ≤ i + length l
+after-rest l k w = omega (arith, w .next, length-drop k l)
 
 pub after-words : (a : Answer) {i j : ℕ} {d e : List ℕ} → Appended (words a) i d e j → j ≤ i + 26
 after-words a w = omega (arith, w .next, words-length a)

@@ -1,28 +1,13 @@
-// The log line of a record (document 01, "The log").
+// The log's lines (document 01, "The log").
 ghost use mathlib.Core.Path.{_≡_};
 ghost use mathlib.Core.List.{_++_};
-ghost use Prim.Native.Nat.{_+_, _≤_};
-ghost use lib.ListN.{length};
+ghost use Prim.Native.Nat.{ℕ, _+_, _≤_, min};
+ghost use lib.ListN.{length, drop, replicate};
 ghost use Rattle.model.specs.Log.{decimal, words};
 ghost use Rattle.values.specs.Meaning.{answerOf};
-ghost use Rattle.lines.specs.Written.{Appended, writtenLine, afterLine};
+ghost use Rattle.lines.specs.Digits.{Spelled};
+ghost use Rattle.lines.specs.Written.{Appended, LineAppended, counted, writtenLines};
 use values::Answer;
-
-// How many digits x has, twenty at most.
-fn places(x: u64) -> usize
-    ensures { λ r. ⌜ r ≡ length (decimal x) ⌝ }
-{
-    let mut n = 1;
-    let mut rest = x;
-    while n < 20 {
-        if rest < 10 {
-            return n;
-        }
-        rest /= 10;
-        n += 1;
-    }
-    n
-}
 
 // Writes a text at index `at` of out; answers the index after it.
 fn put_text(out: &mut [u8], at: usize, t: &[u8]) -> usize
@@ -37,20 +22,62 @@ fn put_text(out: &mut [u8], at: usize, t: &[u8]) -> usize
     at + i
 }
 
-// Writes a number in decimal at index `at` of out, from its last digit on; answers the index after it.
+// Writes x into places that hold zeros, from its last digit on; answers the place of its first.
+fn spell(places: &mut [u8; 20], x: u64) -> usize
+    requires { ⌜ now places ≡ replicate 20 48 ⌝ }
+    ensures { λ r. ⌜ Spelled x (now (places .exit)) r ⌝ }
+{
+    let mut i = 20;
+    let mut rest = x;
+    while i > 0 {
+        i -= 1;
+        places[i] = 48 + (rest % 10) as u8;
+        if rest < 10 {
+            return i;
+        }
+        rest /= 10;
+    }
+    i
+}
+
+// Adds one to the number in the places, whose first digit is at place `start`; answers the place of its first digit then.
+// From the last digit on, a 9 becomes a 0, and the first other digit goes up by one.
+fn count_up(places: &mut [u8; 20], start: usize) -> usize
+    ensures { λ r. ⌜ ((x : ℕ) → Spelled x (now (places .entry)) start → Spelled (x + 1) (now (places .exit)) r) ⌝ }
+{
+    let mut i = 20;
+    while i > 0 {
+        i -= 1;
+        if places[i] < 57 {
+            places[i] += 1;
+            if i < start {
+                return i;
+            }
+            return start;
+        }
+        places[i] = 48;
+    }
+    i
+}
+
+// Writes the digits from place `start` on at index `at` of out; answers the index after them.
+fn put_digits(out: &mut [u8], at: usize, places: &[u8; 20], start: usize) -> usize
+    requires { ⌜ (start ≤ 20) × (at + 20 ≤ length (now out)) ⌝ }
+    ensures { λ r. ⌜ Appended (drop start (now (places .entry))) at (now (out .entry)) (now (out .exit)) r ⌝ }
+    ensures { λ r. ⌜ r ≤ at + 20 ⌝ }
+{
+    let all = &places[..];
+    put_text(out, at, &all[start..])
+}
+
+// Writes a number in decimal at index `at` of out; answers the index after it.
 fn put_decimal(out: &mut [u8], at: usize, x: u64) -> usize
     requires { ⌜ at + 20 ≤ length (now out) ⌝ }
     ensures { λ r. ⌜ Appended (decimal x) at (now (out .entry)) (now (out .exit)) r ⌝ }
 {
-    let n = places(x);
-    let mut i = n;
-    let mut rest = x;
-    while i > 0 {
-        i -= 1;
-        out[at + i] = 48 + (rest % 10) as u8;
-        rest /= 10;
-    }
-    at + n
+    let mut places = [48u8; 20];
+    let start = spell(&mut places, x);
+    put_digits(out, at, &places, start)
 }
 
 // Writes a text, then a number, at index `at` of out; answers the index after them.
@@ -78,11 +105,11 @@ fn put_words(out: &mut [u8], at: usize, answer: Answer) -> usize
     }
 }
 
-// Writes the line of record `number` with its answer at index `at` of out; answers the index after it. Where fewer than 48 bytes,
-// the longest line, are left from `at` on, writes nothing and answers `at`.
-pub fn write_line(out: &mut [u8], at: usize, number: u64, answer: Answer) -> usize
-    ensures { λ r. ⌜ r ≡ afterLine (now (out .entry)) at number answer ⌝ }
-    ensures { λ _. ⌜ now (out .exit) ≡ writtenLine (now (out .entry)) at number answer ⌝ }
+// Writes the line of the record whose number the places spell, with its answer, at index `at` of out; answers the index after it.
+// Where fewer than 48 bytes, the longest line, are left from `at` on, writes nothing and answers `at`.
+fn write_line(out: &mut [u8], at: usize, places: &[u8; 20], start: usize, answer: Answer) -> usize
+    requires { ⌜ start ≤ 20 ⌝ }
+    ensures { λ r. ⌜ ((n : ℕ) → Spelled n (now (places .entry)) start → LineAppended n answer at (now (out .entry)) (now (out .exit)) r) ⌝ }
 {
     if out.len() < at {
         return at;
@@ -90,8 +117,37 @@ pub fn write_line(out: &mut [u8], at: usize, number: u64, answer: Answer) -> usi
     if out.len() - at < 48 {
         return at;
     }
-    let space = put_decimal(out, at, number);
+    let space = put_digits(out, at, places, start);
     let word = put_text(out, space, b" ");
     let end = put_words(out, word, answer);
     put_text(out, end, b"\n")
+}
+
+fn least(a: usize, b: usize) -> usize
+    ensures { λ r. ⌜ r ≡ min a b ⌝ }
+{
+    if a < b {
+        return a;
+    }
+    b
+}
+
+// Writes the lines of the first `count` answers of a buffer, or of all where it has fewer, from the start of out, the first with the
+// number `first`; answers how many bytes they have. The number is kept as its digits, so that each line only adds one.
+pub fn write_lines(out: &mut [u8], first: u64, kinds: &[u8], numbers: &[u64], count: usize) -> usize
+    ensures { λ r. ⌜ r ≡ writtenLines (now (out .entry)) first (now (kinds .entry)) (now (numbers .entry)) (counted count (now (kinds .entry)) (now (numbers .entry))) .used ⌝ }
+    ensures { λ _. ⌜ now (out .exit) ≡ writtenLines (now (out .entry)) first (now (kinds .entry)) (now (numbers .entry)) (counted count (now (kinds .entry)) (now (numbers .entry))) .memory ⌝ }
+{
+    let most = least(count, least(kinds.len(), numbers.len()));
+    let mut places = [48u8; 20];
+    let mut start = spell(&mut places, first);
+    let mut at = 0;
+    let mut k = 0;
+    while k < most {
+        let answer = answers::answer(kinds[k], numbers[k]);
+        at = write_line(out, at, &places, start, answer);
+        start = count_up(&mut places, start);
+        k += 1;
+    }
+    at
 }

@@ -191,7 +191,15 @@ fn sizes_ok(p: u8, v: u16, n: u16, clock: u32, long: usize) -> bool
 
 // What is to be done with a record that was read as r, where `up` says that the memory counts as set up, of a worker at the place d with
 // the announced time t.
-fn gate_for(r: Decoded, up: bool, p: usize, v: usize, long: usize, d: Doing, t: Announced) -> Gate
+pub fn gate_for(
+    r: Decoded,
+    up: bool,
+    p: usize,
+    v: usize,
+    long: usize,
+    d: Doing,
+    t: Announced,
+) -> Gate
     ensures { λ g. ⌜ g ≡ gateOf r up p v long d t ⌝ }
 {
     match r {
@@ -238,7 +246,7 @@ fn gate_for(r: Decoded, up: bool, p: usize, v: usize, long: usize, d: Doing, t: 
 }
 
 // The worker that a record names, 0 where it names none.
-fn who(r: Decoded) -> usize
+pub fn who(r: Decoded) -> usize
     ensures { λ w. ⌜ (w ≡ whoOf r) × (w ≤ 255) ⌝ }
 {
     match r {
@@ -291,7 +299,7 @@ fn slot_at(merged: &[u32; 12288], i: usize) -> usize
 }
 
 // The first slot that a step of worker w at the place d looks at; 4294967296 where it looks at none.
-fn spot<'a>(d: Doing, w: usize, newest: &'a [u16; 256], merged: &'a [u32; 12288]) -> usize
+pub fn spot<'a>(d: Doing, w: usize, newest: &'a [u16; 256], merged: &'a [u32; 12288]) -> usize
     requires { ⌜ w ≤ 255 ⌝ }
     ensures { λ r. ⌜ r ≡ spotOf d w (now (newest .entry)) (now (merged .entry)) ⌝ }
 {
@@ -351,7 +359,7 @@ fn spot<'a>(d: Doing, w: usize, newest: &'a [u16; 256], merged: &'a [u32; 12288]
 }
 
 // The third slot, where it is not the first one's newer neighbour: the version that a put covers, or the free slot that it takes.
-fn extra(d: Doing, free: &[u16; 2048], k: usize) -> usize
+pub fn extra(d: Doing, free: &[u16; 2048], k: usize) -> usize
     ensures { λ r. ⌜ r ≡ extraOf d (now (free .entry)) k ⌝ }
 {
     if let Doing::PutStamp {
@@ -374,7 +382,7 @@ fn extra(d: Doing, free: &[u16; 2048], k: usize) -> usize
     4294967296
 }
 
-fn follows(d: Doing) -> bool
+pub fn follows(d: Doing) -> bool
     ensures { λ r. ⌜ r ≡ followOf d ⌝ }
 {
     if let Doing::FlushFree { left: _ } = d {

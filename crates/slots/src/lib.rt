@@ -48,7 +48,7 @@ pub fn store(slots: &mut [Slot], i: usize, s: Slot)
 }
 
 // Whether the neighbours of a slot are slots below n or absent, where those of all slots before it were.
-fn linked_and(ok: bool, s: Slot, n: usize) -> bool
+pub fn linked_and(ok: bool, s: Slot, n: usize) -> bool
     ensures { λ r. ⌜ r ≡ linkedAnd ok s n ⌝ }
 {
     ok & ((s.older < n) | (s.older == 4294967296)) & ((s.newer < n) | (s.newer == 4294967296))
@@ -69,7 +69,7 @@ pub fn all_linked(slots: &[Slot], n: usize) -> bool
 }
 
 // The slot that a setup of v registers makes of slot i.
-fn made(i: usize, v: usize, s: Slot) -> Slot
+pub fn made(i: usize, v: usize, s: Slot) -> Slot
     ensures { λ r. ⌜ r ≡ madeSlot i v s ⌝ }
 {
     if i < v {

@@ -20,7 +20,7 @@ ranges-more q i (suc n) =
     let s : i + suc n ≡ suc i + n = omega arith in
     rw (suc-add n 1, s, ranges-more q (suc i) n)
 
-length-ranges : (q : Pool) (i n : ℕ) → length (rangesFrom q i n) ≡ n
+pub length-ranges : (q : Pool) (i n : ℕ) → length (rangesFrom q i n) ≡ n
 unfolding rangesFrom
 length-ranges q i zero = refl
 length-ranges q i (suc n) = ap suc (length-ranges q (suc i) n)

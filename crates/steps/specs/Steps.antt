@@ -250,6 +250,11 @@ requeued q pool words stay size =
     (over (flat (merge (rangesAt (poolWords pool) 0 (pool .len)) (rangesAt words 0 stay))) (replicate 960 0))
     (pool .len + stay)))
 
+-- what is left in the memory d for the merged list: unchanged where the needed ranges are a pool of their own
+abbrev pub joinedAfter : Pool → List ℕ → ℕ → ℕ → List ℕ → List ℕ
+joinedAfter pool words stay size d =
+    cond (ltb size stay) d (over (flat (merge (rangesIn pool) (rangesAt words 0 stay))) d)
+
 -- the times read, the ranges, and the two lists that they are split into
 abbrev pub timesIn : Hub → ℕ → List ℕ
 timesIn h w = take (h .p) (workerIn h w .times)

@@ -8,7 +8,7 @@ ghost use Rattle.model.specs.Ranges.{neededOf, needlessOf};
 ghost use Rattle.ranges.specs.Words.{rangesAt, flat};
 ghost use Rattle.queue.specs.State.{held, taken, rest};
 ghost use Rattle.worker.specs.Pool.{rangesIn};
-ghost use Rattle.steps.specs.Steps.{Lent, Outcome, actedWith, turned, putActed, newestAfter, offWorker, withWorkersIn, freeActed, freeAfter, handedIn, queueOf, partOf, withPart, takeActed, takeWords, takeLens, takeMerged, readHub, requeued, splitActed, splitWords, splitLens, splitMerged, maySplitOf, goOf, fillTo, makeActed, actOf};
+ghost use Rattle.steps.specs.Steps.{Lent, Outcome, actedWith, turned, putActed, newestAfter, offWorker, withWorkersIn, freeActed, freeAfter, handedIn, queueOf, partOf, withPart, takeActed, takeWords, takeLens, takeMerged, readHub, requeued, joinedAfter, splitActed, splitWords, splitLens, splitMerged, maySplitOf, goOf, fillTo, makeActed, actOf};
 ghost use Rattle.state.specs.State.{workerIn};
 ghost use Rattle.turn.specs.Turn.{short};
 use plan::Gate;
@@ -82,13 +82,13 @@ fn set_short(l: &mut [u16], i: usize, x: usize)
     }
 }
 
-fn set_newest(newest: &mut [u16; 256], i: usize, x: usize)
+pub fn set_newest(newest: &mut [u16; 256], i: usize, x: usize)
     ensures { λ _. ⌜ now (newest .exit) ≡ set (now (newest .entry)) i (short x) ⌝ }
 {
     set_short(newest, i, x);
 }
 
-fn set_free(free: &mut [u16; 2048], i: usize, x: usize)
+pub fn set_free(free: &mut [u16; 2048], i: usize, x: usize)
     ensures { λ _. ⌜ now (free .exit) ≡ set (now (free .entry)) i (short x) ⌝ }
 {
     set_short(free, i, x);
@@ -216,7 +216,7 @@ fn hand_in(hub: Hub, w: usize, covered: u16, a: Slot, b: Slot, c: Slot) -> Acted
 // ---- flush (1) to (3)
 
 // Up to two pools of the queue, merged into worker w's part of the merged lists.
-fn take_part(
+pub fn take_part(
     queue: &mut [u32; 6144],
     lens: &mut [u32; 2048],
     counts: Counts,
@@ -322,7 +322,8 @@ fn pool_words(q: Pool, out: &mut [u32])
 }
 
 // Flush (3), the pools that are queued: of the first `stay` ranges of needed, and the local pool. `size` is the batch size.
-fn requeue(
+// What `local` and `joined` hold at entry does not matter: the local pool's words are written to the one, the merged list to the other.
+pub fn requeue(
     queue: &mut [u32; 6144],
     lens: &mut [u32; 2048],
     counts: Counts,
@@ -330,35 +331,37 @@ fn requeue(
     needed: &[u32; 768],
     stay: usize,
     size: usize,
+    local: &mut [u32; 192],
+    joined: &mut [u32; 960],
 ) -> Counts
     requires { ⌜ (q .len ≤ 64) × (stay ≤ 256) × (size < 4294967296) ⌝ }
     ensures { λ r. ⌜
         record { queue = now (queue .exit); lens = now (lens .exit); pools = r .pools; queued = r .queued }
         ≡ requeued (record { queue = now (queue .entry); lens = now (lens .entry); pools = counts .pools; queued = counts .queued }) q (now (needed .entry)) stay size
         ⌝ }
+    ensures { λ _. ⌜ now (local .exit) ≡ over (flat (rangesIn q)) (now (local .entry)) ⌝ }
+    ensures { λ _. ⌜ now (joined .exit) ≡ joinedAfter q (now (needed .entry)) stay size (now (joined .entry)) ⌝ }
 {
     let n = q.len;
-    let mut local = [0u32; 192];
-    pool_words(q, &mut local);
+    pool_words(q, local);
     if 2 * size < stay {
         let h = (stay + 1) / 2;
         let at = 3 * h;
         let all = &needed[..];
         let first = queue::push(queue, lens, counts, all, h);
         let second = queue::push(queue, lens, first, &all[at..], stay - h);
-        return queue::push(queue, lens, second, &local, n);
+        return queue::push(queue, lens, second, local, n);
     }
     if size < stay {
         let first = queue::push(queue, lens, counts, needed, stay);
-        return queue::push(queue, lens, first, &local, n);
+        return queue::push(queue, lens, first, local, n);
     }
-    let mut joined = [0u32; 960];
-    ranges::merge(&local, n, needed, stay, &mut joined);
-    queue::push(queue, lens, counts, &joined, n + stay)
+    ranges::merge(local, n, needed, stay, joined);
+    queue::push(queue, lens, counts, joined, n + stay)
 }
 
 // The first n ranges of worker w's part of the merged lists, split by the first p times.
-fn split_part(
+pub fn split_part(
     merged: &mut [u32],
     w: usize,
     n: usize,
@@ -407,7 +410,19 @@ fn split_step(
         pools: hub.pools,
         queued: hub.queued,
     };
-    let after = requeue(queue, lens, counts, q, &needed, n - k, size as usize);
+    let mut local = [0u32; 192];
+    let mut joined = [0u32; 960];
+    let after = requeue(
+        queue,
+        lens,
+        counts,
+        q,
+        &needed,
+        n - k,
+        size as usize,
+        &mut local,
+        &mut joined,
+    );
     let y = Worker {
         doing: Doing::FlushFree {
             left: (k % 65536) as u16,
@@ -423,7 +438,7 @@ fn split_step(
 }
 
 // Whether the counts allow a split.
-fn may_split(w: usize, m: usize, p: usize, len: usize) -> bool
+pub fn may_split(w: usize, m: usize, p: usize, len: usize) -> bool
     ensures { λ r. ⌜ r ≡ maySplitOf w m p len ⌝ }
 {
     ((w < 16) & (m <= 256)) & ((p <= 16) & (len <= 64))
@@ -432,7 +447,7 @@ fn may_split(w: usize, m: usize, p: usize, len: usize) -> bool
 // ---- setup
 
 // The first v registers' newest versions, each in the slot of its number.
-fn fill_newest(newest: &mut [u16; 256], v: usize)
+pub fn fill_newest(newest: &mut [u16; 256], v: usize)
     ensures { λ _. ⌜ now (newest .exit) ≡ fillTo (now (newest .entry)) short v ⌝ }
 {
     for i in 0..v {
@@ -441,7 +456,7 @@ fn fill_newest(newest: &mut [u16; 256], v: usize)
 }
 
 // The k free slots from n - k on, the first of them last.
-fn fill_free(free: &mut [u16; 2048], n: usize, k: usize)
+pub fn fill_free(free: &mut [u16; 2048], n: usize, k: usize)
     requires { ⌜ k ≤ n ⌝ }
     ensures { λ _. ⌜ now (free .exit) ≡ fillTo (now (free .entry)) (λ j. short (n - 1 - j)) k ⌝ }
 {

@@ -22,23 +22,25 @@ fn run() -> Result<(), Box<dyn Error>> {
         [command, file] => (command.as_str(), Some(file.as_str())),
         _ => ("", None),
     };
+    let name = file.unwrap_or("standard input");
+    let input = || input(file).map_err(|error| format!("{name}: {error}"));
     let output = match command {
-        "pack" => text::pack(&input(file)?)?,
-        "unpack" => text::unpack(&input(file)?).into_bytes(),
+        "pack" => text::pack(&input()?).map_err(|error| format!("{name}: {error}"))?,
+        "unpack" => text::unpack(&input()?).into_bytes(),
         _ => return Err("usage: records pack|unpack [FILE]".into()),
     };
     let mut out = io::stdout().lock();
     match out.write_all(&output).and_then(|()| out.flush()) {
         Err(error) if error.kind() == ErrorKind::BrokenPipe => Ok(()),
-        result => Ok(result?),
+        result => Ok(result.map_err(|error| format!("standard output: {error}"))?),
     }
 }
 
 /// The whole file, or standard input.
-fn input(file: Option<&str>) -> Result<Vec<u8>, Box<dyn Error>> {
+fn input(file: Option<&str>) -> io::Result<Vec<u8>> {
     let mut bytes = Vec::new();
     match file {
-        Some(name) => bytes = std::fs::read(name).map_err(|error| format!("{name}: {error}"))?,
+        Some(name) => bytes = std::fs::read(name)?,
         None => drop(io::stdin().lock().read_to_end(&mut bytes)?),
     }
     Ok(bytes)

@@ -3,6 +3,7 @@
 
 use reference::coverage::Coverage;
 use reference::fault::Right;
+use reference::order::{self, Order, Violation};
 use reference::store::{Store, MAX_SLOTS};
 use reference::{log, text, Answer, Hub, Refusal};
 
@@ -59,4 +60,20 @@ pub fn covered(file: &[u8]) -> (Vec<Answer>, Coverage) {
     let answers = log::answers(&mut hub, file);
     answers.iter().for_each(|&answer| hub.observer.answered(answer));
     (answers, hub.observer)
+}
+
+/// The order of a readable text, with some of the hub's answers replaced, and its violation.
+pub fn examined(script: &str, replaced: &[(usize, &str)]) -> (Order, Option<Violation>) {
+    let file = records(script);
+    let mut answers = log::answers(&mut Hub::new(), &file);
+    for &(record, words) in replaced {
+        answers[record] = log::parse_answer(words).expect("an answer");
+    }
+    order::examine(&file, &answers)
+}
+
+/// A file of the samples.
+pub fn sample(name: &str) -> String {
+    let path = format!("{}/../samples/{name}", env!("CARGO_MANIFEST_DIR"));
+    std::fs::read_to_string(&path).unwrap_or_else(|error| panic!("{path}: {error}"))
 }

@@ -6,10 +6,10 @@ use Rattle.lines.proofs.put_numbered.Statement.{statement}
 use Rattle.lines.proofs.put_numbered.Tie as tie
 
 put-text-requires : tie.Need-put-text-requires
-put-text-requires c κs = search needs
+put-text-requires c κs = omega arith
 
 put-decimal-requires : tie.Need-put-decimal-requires
-put-decimal-requires c κs = search needs
+put-decimal-requires c κs = omega arith
 
 same-length : tie.Need-same-length
 same-length c = search needs

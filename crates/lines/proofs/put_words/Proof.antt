@@ -1,4 +1,5 @@
 -- `put_words` meets its contract: in each arm the case of the answer is known, and what was appended are that case's words.
+use native.Mathlib.Omega.{arith}
 use Rattle.model.specs.Log.{text, words}
 use Rattle.lines.proofs.Appending.{append-words}
 use borrow.Author.Needs.{needs}
@@ -12,7 +13,7 @@ slice-aggregate-put-text : tie.Need-slice-aggregate-put-text
 slice-aggregate-put-text c = search needs
 
 put-text-requires : tie.Need-put-text-requires
-put-text-requires c κs = search needs
+put-text-requires c κs = omega arith
 
 enum-told-2 : tie.Need-enum-told-2
 enum-told-2 c = search needs
@@ -21,7 +22,7 @@ slice-aggregate-put-text-2 : tie.Need-slice-aggregate-put-text-2
 slice-aggregate-put-text-2 c = search needs
 
 put-text-requires-2 : tie.Need-put-text-requires-2
-put-text-requires-2 c κs = search needs
+put-text-requires-2 c κs = omega arith
 
 enum-known-answer : tie.Need-enum-known-answer
 enum-known-answer c = search needs
@@ -33,7 +34,7 @@ cast-put-numbered : tie.Need-cast-put-numbered
 cast-put-numbered c = search needs
 
 put-numbered-requires : tie.Need-put-numbered-requires
-put-numbered-requires c κs = search needs
+put-numbered-requires c κs = omega arith
 
 enum-known-answer-2 : tie.Need-enum-known-answer-2
 enum-known-answer-2 c = search needs
@@ -45,7 +46,7 @@ cast-put-numbered-2 : tie.Need-cast-put-numbered-2
 cast-put-numbered-2 c = search needs
 
 put-numbered-requires-2 : tie.Need-put-numbered-requires-2
-put-numbered-requires-2 c κs = search needs
+put-numbered-requires-2 c κs = omega arith
 
 enum-known-answer-3 : tie.Need-enum-known-answer-3
 enum-known-answer-3 c = search needs
@@ -54,7 +55,7 @@ slice-aggregate-put-numbered-3 : tie.Need-slice-aggregate-put-numbered-3
 slice-aggregate-put-numbered-3 c = search needs
 
 put-numbered-requires-3 : tie.Need-put-numbered-requires-3
-put-numbered-requires-3 c κs = search needs
+put-numbered-requires-3 c κs = omega arith
 
 enum-told-3 : tie.Need-enum-told-3
 enum-told-3 c = search needs
@@ -63,7 +64,7 @@ slice-aggregate-put-text-3 : tie.Need-slice-aggregate-put-text-3
 slice-aggregate-put-text-3 c = search needs
 
 put-text-requires-3 : tie.Need-put-text-requires-3
-put-text-requires-3 c κs = search needs
+put-text-requires-3 c κs = omega arith
 
 enum-known-answer-4 : tie.Need-enum-known-answer-4
 enum-known-answer-4 c = search needs
@@ -75,7 +76,7 @@ cast-put-numbered-3 : tie.Need-cast-put-numbered-3
 cast-put-numbered-3 c = search needs
 
 put-numbered-requires-4 : tie.Need-put-numbered-requires-4
-put-numbered-requires-4 c κs = search needs
+put-numbered-requires-4 c κs = omega arith
 
 same-length : tie.Need-same-length
 same-length c = search needs

@@ -5,9 +5,6 @@ use Rattle.steps.proofs.RequeueLaws.{two-pools, one-pool, one-merged}
 use Rattle.steps.proofs.requeue.Statement.{statement}
 use Rattle.steps.proofs.requeue.Tie as tie
 
-slice-aggregate-pool-words : tie.Need-slice-aggregate-pool-words
-slice-aggregate-pool-words c = search needs
-
 pool-words-requires : tie.Need-pool-words-requires
 pool-words-requires c κs = search needs
 
@@ -41,22 +38,16 @@ sub-push-2 c = search needs
 push-requires-2 : tie.Need-push-requires-2
 push-requires-2 c κs = search needs
 
-slice-aggregate-push : tie.Need-slice-aggregate-push
-slice-aggregate-push c = search needs
-
 push-requires-3 : tie.Need-push-requires-3
 push-requires-3 c κs = search needs
 
 returns : tie.Need-returns
 returns c =
     let a = c .before .before .before .before .before .before .before .before .before .before .before .before .before .before .before .before .args in
-    two-pools _ (a .q) (a .needed .now) _ (a .stay) (a .size) (c .before .before .before .before .before .before .before .before .before .before .before .before .before .before .pool-words .ensures) _ _ _ _ (search needs) (c .before .before .before .before .before .before .before .before .before .before .before .before .if1 .taken) (c .before .before .before .before .before .before .before .before .push .ensures) (c .before .before .before .before .push2 .ensures) (c .push3 .ensures)
+    two-pools _ (a .q) (a .needed .now) _ (a .local .now) (a .joined .now) (a .stay) (a .size) (c .before .before .before .before .before .before .before .before .before .before .before .before .before .before .pool-words .ensures) _ _ _ _ (search needs) (c .before .before .before .before .before .before .before .before .before .before .before .before .before .if1 .taken) (c .before .before .before .before .before .before .before .before .before .push .ensures) (c .before .before .before .before .before .push2 .ensures) (c .push3 .ensures)
 
 push-requires-4 : tie.Need-push-requires-4
 push-requires-4 c κs = search needs
-
-slice-aggregate-push-2 : tie.Need-slice-aggregate-push-2
-slice-aggregate-push-2 c = search needs
 
 push-requires-5 : tie.Need-push-requires-5
 push-requires-5 c κs = search needs
@@ -64,19 +55,10 @@ push-requires-5 c κs = search needs
 returns-2 : tie.Need-returns-2
 returns-2 c =
     let a = c .before .before .before .before .before .before .before .before .before .before .before .before .before .args in
-    one-pool _ (a .q) (a .needed .now) _ (a .stay) (a .size) (c .before .before .before .before .before .before .before .before .before .before .before .pool-words .ensures) _ _ (c .before .before .before .before .before .before .before .before .before .if1 .left) (c .before .before .before .before .before .before .before .before .if2 .taken) (c .before .before .before .before .push4 .ensures) (c .push5 .ensures)
-
-slice-aggregate-merge : tie.Need-slice-aggregate-merge
-slice-aggregate-merge c = search needs
-
-slice-aggregate-merge-2 : tie.Need-slice-aggregate-merge-2
-slice-aggregate-merge-2 c = search needs
+    one-pool _ (a .q) (a .needed .now) _ (a .local .now) (a .joined .now) (a .stay) (a .size) (c .before .before .before .before .before .before .before .before .before .before .before .pool-words .ensures) _ _ (c .before .before .before .before .before .before .before .before .before .before .if1 .left) (c .before .before .before .before .before .before .before .before .before .if2 .taken) (c .before .before .before .before .before .push4 .ensures) (c .push5 .ensures)
 
 merge-requires : tie.Need-merge-requires
 merge-requires c κs = search needs
-
-slice-aggregate-push-3 : tie.Need-slice-aggregate-push-3
-slice-aggregate-push-3 c = search needs
 
 add-push : tie.Need-add-push
 add-push c = search needs
@@ -87,13 +69,12 @@ push-requires-6 c κs = search needs
 returns-3 : tie.Need-returns-3
 returns-3 c =
     let a = c .before .before .before .before .before .before .before .before .before .before .before .before .before .before .args in
-    one-merged _ (a .q) (a .needed .now) _ (a .stay) (a .size) (c .before .before .before .before .before .before .before .before .before .before .before .before .pool-words .ensures) _ _ (c .before .before .before .before .before .before .before .before .before .before .if1 .left) (c .before .before .before .before .before .before .before .before .before .if2 .left) (c .before .before .before .before .before .merge .ensures) (c .push6 .ensures)
+    one-merged _ (a .q) (a .needed .now) _ (a .local .now) (a .joined .now) (a .stay) (a .size) (c .before .before .before .before .before .before .before .before .before .before .before .before .pool-words .ensures) _ _ (c .before .before .before .before .before .before .before .before .before .before .before .if1 .left) (c .before .before .before .before .before .before .before .before .before .before .if2 .left) (c .before .before .before .before .before .merge .ensures) (c .push6 .ensures)
 
 pub requeue-spec : {M : Type 1} → statement M
 requeue-spec =
     tie.close
     (tie.spec
-    slice-aggregate-pool-words
     pool-words-requires
     mul-if1
     add-h
@@ -105,17 +86,12 @@ requeue-spec =
     part-push-end
     sub-push-2
     push-requires-2
-    slice-aggregate-push
     push-requires-3
     returns
     push-requires-4
-    slice-aggregate-push-2
     push-requires-5
     returns-2
-    slice-aggregate-merge
-    slice-aggregate-merge-2
     merge-requires
-    slice-aggregate-push-3
     add-push
     push-requires-6
     returns-3)

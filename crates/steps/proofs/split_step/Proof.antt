@@ -58,11 +58,11 @@ cast-requeue c = search needs
 
 requeue-requires : tie.Need-requeue-requires
 requeue-requires c κs =
-    let h = allowed (c .before .before .before .before .before .before .before .before .before .before) in
-    omega (arith, c .before .before .before .batch .ok)
+    let h = allowed (c .before .before .before .before .before .before .before .before .before .before .before .before) in
+    omega (arith, c .before .before .before .before .before .batch .ok)
 
-cast-t34 : tie.Need-cast-t34
-cast-t34 c = search needs
+cast-t38 : tie.Need-cast-t38
+cast-t38 c = search needs
 
 with-worker-requires : tie.Need-with-worker-requires
 with-worker-requires c κs = search needs
@@ -72,11 +72,11 @@ answered-requires-2 c κs = search needs
 
 returns-2 : tie.Need-returns-2
 returns-2 c =
-    let d = c .before .before .before .before .before .before .before .before in
-    let e = c .before .before .before .before .before .before .before .before .before .before .before .before .before in
-    let x = c .before .before .before .before .before .before .before .before .before .before .before .before .before .before .before .before .worker in
-    let a = c .before .before .before .before .before .before .before .before .before .before .before .before .before .before .before .before .before .args in
-    split-some (a .hub) (a .w) (a .m) (a .a) (a .b) (a .c) (a .queue .now) (a .lens .now) (a .merged .now) (x .result) (x .ensures) (d .split-part .result) (c .before .before .before .before .before .before .batch .result) (c .before .before .requeue .result) _ _ _ (d .split-part .last .1 .1 .1 .1 .1 .0) (c .before .with-worker .result) _ (told e) (d .split-part .ensures .0) (d .split-part .ensures .1 .0) (d .split-part .ensures .1 .1) (c .before .before .before .before .before .before .batch .ensures) (c .before .before .requeue .ensures) (c .before .with-worker .ensures) (c .answered2 .ensures)
+    let d = c .before .before .before .before .before .before .before .before .before .before in
+    let e = c .before .before .before .before .before .before .before .before .before .before .before .before .before .before .before in
+    let x = c .before .before .before .before .before .before .before .before .before .before .before .before .before .before .before .before .before .before .worker in
+    let a = c .before .before .before .before .before .before .before .before .before .before .before .before .before .before .before .before .before .before .before .args in
+    split-some (a .hub) (a .w) (a .m) (a .a) (a .b) (a .c) (a .queue .now) (a .lens .now) (a .merged .now) (x .result) (x .ensures) (d .split-part .result) (c .before .before .before .before .before .before .before .before .batch .result) (c .before .before .requeue .result) _ _ _ (d .split-part .last .1 .1 .1 .1 .1 .0) (c .before .with-worker .result) _ (told e) (d .split-part .ensures .0) (d .split-part .ensures .1 .0) (d .split-part .ensures .1 .1) (c .before .before .before .before .before .before .before .before .batch .ensures) (c .before .before .requeue .ensures .0) (c .before .with-worker .ensures) (c .answered2 .ensures)
 
 pub split-step-spec : {M : Type 1} → statement M
 split-step-spec =
@@ -92,7 +92,7 @@ split-step-spec =
     sub-requeue
     cast-requeue
     requeue-requires
-    cast-t34
+    cast-t38
     with-worker-requires
     answered-requires-2
     returns-2)

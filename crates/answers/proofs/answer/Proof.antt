@@ -1,0 +1,51 @@
+-- `answer` meets its contract: each arm rewrites with its kind, and in the last the kind is none of the six before.
+use Prim.Native.Nat.{zero-le}
+use Rattle.answers.proofs.Refusals.{past-three, refusal-past}
+use borrow.Author.Needs.{needs}
+use Rattle.answers.proofs.answer.Statement.{statement}
+use Rattle.answers.proofs.answer.Tie as tie
+
+cast-t5 : tie.Need-cast-t5
+cast-t5 c = search needs
+
+cast-t7 : tie.Need-cast-t7
+cast-t7 c = search needs
+
+cast-t10 : tie.Need-cast-t10
+cast-t10 c = search needs
+
+returns : tie.Need-returns
+returns c = search needs
+
+returns-2 : tie.Need-returns-2
+returns-2 c = search needs
+
+returns-3 : tie.Need-returns-3
+returns-3 c = rw (c .match .keys3)
+
+returns-4 : tie.Need-returns-4
+returns-4 c = rw (c .match .keys4)
+
+returns-5 : tie.Need-returns-5
+returns-5 c = rw (c .match .keys5)
+
+returns-6 : tie.Need-returns-6
+returns-6 c = search needs
+
+returns-7 : tie.Need-returns-7
+returns-7 c = let r = c .match .rest in refusal-past _ _ (past-three 3 (past-three 0 zero-le (r .0 .0 .0 .0 .0 .1) (r .0 .0 .0 .0 .1) (r .0 .0 .0 .1)) (r .0 .0 .1) (r .0 .1) (r .1))
+
+pub answer-spec : {M : Type 1} → statement M
+answer-spec =
+    tie.close
+    (tie.spec
+    cast-t5
+    cast-t7
+    cast-t10
+    returns
+    returns-2
+    returns-3
+    returns-4
+    returns-5
+    returns-6
+    returns-7)

@@ -1,0 +1,13 @@
+pub mod Named
+pub mod Sizes
+pub mod Rows
+pub mod Arms
+pub mod Turns
+pub mod Rests
+pub mod Pools
+pub mod Loop
+pub mod Moving
+pub mod Tested
+pub mod Others
+pub mod Cutting
+pub mod OneByOne

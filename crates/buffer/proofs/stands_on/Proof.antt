@@ -1,0 +1,19 @@
+use mathlib.Core.Path.{sym}
+use Rattle.buffer.proofs.Others.{other-stands}
+use borrow.Author.Needs.{needs}
+use Rattle.buffer.proofs.stands_on.Statement.{statement}
+use Rattle.buffer.proofs.stands_on.Tie as tie
+use Rattle.buffer.proofs.stands_on.Reads as reads
+use Rattle.buffer.proofs.stands_on.Lts as lts
+
+enum-known-d : tie.Need-enum-known-d
+enum-known-d c = search needs
+
+returns : tie.Need-returns
+returns c = rw (c .before .d .given .1)
+
+returns-2 : tie.Need-returns-2
+returns-2 c = sym (other-stands (c .before .args .d) _ (c .match .keys2))
+
+pub stands-on-spec : {M : Type 1} → statement M
+stands-on-spec = tie.close (tie.spec enum-known-d returns returns-2)

@@ -1,0 +1,277 @@
+//! Record files for measuring: as long as wanted, seeded, of one shape throughout. The hub runs
+//! alongside, so that every record is accepted but those of `Workload::Uniform`.
+
+use crate::generate::Random;
+use crate::hub::Hub;
+use crate::record::{Record, LENGTH};
+use crate::store::{Doing, Store, MAX_REGISTERS, MAX_SLOTS, MAX_WORKERS};
+use std::io::{self, Write};
+
+/// What a record file measures. Shares are of the answers, in percent.
+#[derive(Clone, Copy, Debug, PartialEq, Eq)]
+pub enum Workload {
+    /// A bit of everything on a small hub: P 2, V 4, N 16. `going` 54, `ok` 19, `done` 10,
+    /// `value` 9, `freed` 8.
+    Small,
+    /// The same on the largest hub: P 16, V 256, N 2048. `going` 44, `ok` 23, `done` 12,
+    /// `freed` 11, `value` 10.
+    Large,
+    /// Nearly only puts, in small batches: with P 2 every second put of a worker flushes.
+    /// `going` 59, `ok` 14, `freed` 13, `done` 13.
+    Puts,
+    /// Four workers read two registers under old snapshots while twelve put: a read walks over two
+    /// hundred versions. `going` 85, most of them such moves.
+    Reads,
+    /// Two workers collect all the time, the others hold snapshots for long or put now and then. So
+    /// the queue stays full: nine pools wait where a flush takes two, and it merges and splits 160
+    /// ranges, nearly all needed. `going` 88, `ok` 6, `done` 5.
+    Collects,
+    /// Uniformly random bytes after the setup of the largest hub. Practically every record has an
+    /// operation above 7 or an unused byte that is not zero: `no` 100.
+    Uniform,
+    /// The script of `Small` with another N in its setup. The slot given back last is taken first,
+    /// so the same slots are in use and the log is the same for every N.
+    Growth { slots: u16 },
+}
+
+impl Workload {
+    pub const ALL: [Workload; 11] = [
+        Workload::Small,
+        Workload::Large,
+        Workload::Puts,
+        Workload::Reads,
+        Workload::Collects,
+        Workload::Uniform,
+        Workload::Growth { slots: 16 },
+        Workload::Growth { slots: 64 },
+        Workload::Growth { slots: 256 },
+        Workload::Growth { slots: 1024 },
+        Workload::Growth { slots: MAX_SLOTS },
+    ];
+
+    pub fn name(self) -> String {
+        match self {
+            Workload::Small => "small".into(),
+            Workload::Large => "large".into(),
+            Workload::Puts => "puts".into(),
+            Workload::Reads => "reads".into(),
+            Workload::Collects => "collects".into(),
+            Workload::Uniform => "uniform".into(),
+            Workload::Growth { slots } => format!("growth-{slots}"),
+        }
+    }
+
+    /// The workload with this name.
+    pub fn named(name: &str) -> Option<Workload> {
+        Workload::ALL.into_iter().find(|workload| workload.name() == name)
+    }
+
+    /// The shape of the hub and of its workers' habits.
+    pub fn shape(self) -> Shape {
+        match self {
+            Workload::Small | Workload::Growth { .. } => {
+                Shape { registers: 4, slots: 16, roles: vec![Role::alike(2, MIXED)] }
+            }
+            Workload::Large | Workload::Uniform => {
+                let workers = MAX_WORKERS as u8;
+                let roles = vec![Role::alike(workers, MIXED)];
+                Shape { registers: MAX_REGISTERS, slots: MAX_SLOTS, roles }
+            }
+            Workload::Puts => {
+                let weights = Weights { put: 94, open: 2, read: 2, close: 1, get: 2, collect: 0 };
+                Shape { registers: 16, slots: 256, roles: vec![Role::alike(2, weights)] }
+            }
+            Workload::Reads => {
+                let read = Weights { open: 1, read: 200, close: 1, ..Weights::NONE };
+                let put = Weights { put: 1, ..Weights::NONE };
+                let roles = vec![
+                    Role { workers: 4, turns: 9, weights: read },
+                    Role { workers: 12, turns: 1, weights: put },
+                ];
+                Shape { registers: 2, slots: MAX_SLOTS, roles }
+            }
+            Workload::Collects => {
+                let collect = Weights { collect: 1, ..Weights::NONE };
+                let hold = Weights { open: 1, read: 100, close: 1, ..Weights::NONE };
+                let put = Weights { put: 1, ..Weights::NONE };
+                let roles = vec![
+                    Role { workers: 2, turns: 300, weights: collect },
+                    Role { workers: 8, turns: 1, weights: hold },
+                    Role { workers: 6, turns: 3, weights: put },
+                ];
+                Shape { registers: MAX_REGISTERS, slots: MAX_SLOTS, roles }
+            }
+        }
+    }
+
+    /// The records of this workload, without end.
+    pub fn records(self, seed: u64) -> Records {
+        let shape = self.shape();
+        let mut records = Records::new(&shape, seed);
+        match self {
+            Workload::Uniform => records.uniform = true,
+            Workload::Growth { slots } => {
+                records.setup = Some(Shape { slots, ..shape }.setup());
+            }
+            _ => {}
+        }
+        records
+    }
+
+    /// Writes so many records.
+    pub fn write(self, seed: u64, count: usize, output: &mut impl Write) -> io::Result<()> {
+        self.records(seed).take(count).try_for_each(|bytes| output.write_all(&bytes))?;
+        output.flush()
+    }
+}
+
+/// How often an idle worker begins each operation. Those that its state does not allow are left out.
+#[derive(Clone, Copy, Debug)]
+pub struct Weights {
+    pub put: u64,
+    pub open: u64,
+    pub read: u64,
+    pub close: u64,
+    pub get: u64,
+    pub collect: u64,
+}
+
+impl Weights {
+    pub const NONE: Weights = Weights { put: 0, open: 0, read: 0, close: 0, get: 0, collect: 0 };
+}
+
+const MIXED: Weights = Weights { put: 40, open: 10, read: 30, close: 3, get: 15, collect: 2 };
+
+/// Workers with the same habits.
+#[derive(Clone, Copy, Debug)]
+pub struct Role {
+    pub workers: u8,
+    /// Each one's share of the turns.
+    pub turns: usize,
+    pub weights: Weights,
+}
+
+impl Role {
+    /// So many workers with one share each.
+    pub fn alike(workers: u8, weights: Weights) -> Role {
+        Role { workers, turns: 1, weights }
+    }
+}
+
+/// A hub's sizes and its workers' roles, from worker 0 on.
+#[derive(Clone, Debug)]
+pub struct Shape {
+    pub registers: u16,
+    pub slots: u16,
+    pub roles: Vec<Role>,
+}
+
+impl Shape {
+    pub fn workers(&self) -> u8 {
+        self.roles.iter().map(|role| role.workers).sum()
+    }
+
+    /// The setup, with clock 1.
+    pub fn setup(&self) -> Record {
+        let &Shape { registers, slots, .. } = self;
+        Record::Setup { workers: self.workers(), registers, slots, clock: 1 }
+    }
+}
+
+/// Records of one shape, without end: the setup, then each time a random worker begins an operation
+/// or takes a step.
+#[derive(Clone, Debug)]
+pub struct Records {
+    random: Random,
+    /// The hub that the records so far leave.
+    hub: Hub,
+    /// Written first.
+    setup: Option<Record>,
+    /// Only random bytes after the setup.
+    uniform: bool,
+    /// Each worker as often as its share of the turns.
+    turns: Vec<u8>,
+    /// By worker.
+    weights: Vec<Weights>,
+}
+
+impl Records {
+    pub fn new(shape: &Shape, seed: u64) -> Records {
+        let mut hub = Hub::new();
+        hub.take_record(shape.setup());
+        let mut turns = Vec::new();
+        let mut weights = Vec::new();
+        for role in &shape.roles {
+            for _ in 0..role.workers {
+                turns.extend(std::iter::repeat_n(weights.len() as u8, role.turns));
+                weights.push(role.weights);
+            }
+        }
+        let (random, setup) = (Random::new(seed), Some(shape.setup()));
+        Records { random, hub, setup, uniform: false, turns, weights }
+    }
+
+    pub fn store(&self) -> &Store {
+        self.hub.store().expect("set up")
+    }
+
+    /// The next record, which the hub has taken.
+    pub fn next_record(&mut self) -> Record {
+        if let Some(setup) = self.setup.take() {
+            return setup;
+        }
+        let worker = self.random.pick(&self.turns);
+        let record = if self.store().workers[usize::from(worker)].doing == Doing::Idle {
+            self.begin(worker)
+        } else {
+            Record::Step { worker }
+        };
+        self.hub.take_record(record);
+        record
+    }
+
+    /// Puts a record of the caller's own between the others.
+    pub fn insert(&mut self, record: Record) {
+        self.hub.take_record(record);
+    }
+
+    /// The begin of an operation that the worker's state allows; a collect in place of a put that
+    /// would find no free slot.
+    fn begin(&mut self, worker: u8) -> Record {
+        let Weights { put, open, read, close, get, collect } = self.weights[usize::from(worker)];
+        let (open, read, close) = match self.store().workers[usize::from(worker)].announced {
+            Some(_) => (0, read, close),
+            None => (open, 0, 0),
+        };
+        let register = self.random.below(self.store().newest.len() as u64) as u16;
+        match self.random.weighted(&[put, open, read, close, get, collect]) {
+            0 if self.slot_left() => {
+                Record::Put { worker, register, value: self.random.between(1, 999_999) }
+            }
+            1 => Record::Open { worker },
+            2 => Record::Read { worker, register },
+            3 => Record::Close { worker },
+            4 => Record::Get { worker, register },
+            _ => Record::Collect { worker },
+        }
+    }
+
+    /// Is there a slot beyond those that the puts begun will take?
+    fn slot_left(&self) -> bool {
+        let store = self.store();
+        let begun = |doing| matches!(doing, Doing::PutPublish { .. });
+        store.workers.iter().filter(|worker| begun(worker.doing)).count() < store.free.len()
+    }
+}
+
+impl Iterator for Records {
+    type Item = [u8; LENGTH];
+
+    fn next(&mut self) -> Option<[u8; LENGTH]> {
+        if self.uniform && self.setup.is_none() {
+            let bits = (self.random.bits(), self.random.bits());
+            return Some((u128::from(bits.0) << 64 | u128::from(bits.1)).to_le_bytes());
+        }
+        Some(self.next_record().encode())
+    }
+}

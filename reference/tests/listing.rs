@@ -1,0 +1,99 @@
+//! The order as text.
+
+mod common;
+
+use common::{examined, sample};
+use reference::listing::Listing;
+
+/// The text for a script, with some of the hub's answers replaced.
+fn listing(script: &str, replaced: &[(usize, &str)]) -> String {
+    let (order, violation) = examined(script, replaced);
+    Listing::new(&order, violation.as_ref()).to_string()
+}
+
+/// The lines under the heads that begin so, up to a blank one, with one space between words.
+fn rows(listing: &str, heads: &str) -> Vec<String> {
+    let one_space = |line: &str| line.split_whitespace().collect::<Vec<_>>().join(" ");
+    let lines = listing.lines().map(one_space).skip_while(|line| !line.starts_with(heads));
+    lines.skip(1).take_while(|line| !line.is_empty()).collect()
+}
+
+#[test]
+fn the_sample_is_what_the_tool_makes() {
+    assert_eq!(listing(&sample("order.txt"), &[]), sample("order.listing"));
+}
+
+#[test]
+fn one_row_for_each_operation_in_the_order() {
+    let listing = listing("setup 2 1 3 5\n put 0 0 7\n step 0\n get 1 0\n step 1\n open 0", &[]);
+    let expected = [
+        // Stamped by the get's step, and unfinished.
+        "1 put of 7 to register 0 0 1 4 - -",
+        "2 get of register 0 1 3 4 4 value 7 7",
+    ];
+    assert_eq!(rows(&listing, "place operation"), expected, "{listing}");
+    assert!(listing.ends_with(
+        "an open snapshot needs, and none twice without its slot being taken in between.\n"
+    ));
+}
+
+#[test]
+fn refused_and_unfinished_operations_are_listed() {
+    let script =
+        "setup 2 1 1 4294967295\n put 0 0 7\n step 0\n open 0\n step 0\n collect 1\n step 1";
+    let listing = listing(script, &[]);
+    assert!(rows(&listing, "place operation").is_empty(), "{listing}");
+    let expected = [
+        "put of 7 to register 0 0 1 2 refused with 14: every slot is in some register's list",
+        "open 0 3 4 refused with 15: the clock is at its last value",
+        "collect 1 5 - unfinished and without effect: counts as not begun",
+    ];
+    assert_eq!(rows(&listing, "operation worker"), expected, "{listing}");
+}
+
+#[test]
+fn columns_line_up() {
+    let values = [0, 9, 10, u64::MAX];
+    let puts: String = values.iter().map(|x| format!("put 0 0 {x}\n step 0 x9\n")).collect();
+    let listing = listing(&format!("setup 1 1 9 1\n {puts}"), &[]);
+    let lines: Vec<&str> = listing
+        .lines()
+        .skip_while(|line| !line.starts_with("  place  operation"))
+        .take(5)
+        .collect();
+    // The end of a column aligned to the right, the start of one aligned to the left.
+    let end = lines[0].find("worker").unwrap() + "worker".len();
+    let start = lines[0].find("answer").unwrap();
+    for line in &lines[1..] {
+        assert_eq!(&line[end - 3..end + 2], "  0  ", "{listing}");
+        assert_eq!(&line[start - 2..], "  done", "{listing}");
+    }
+}
+
+#[test]
+fn a_broken_order_says_where() {
+    let script = "setup 1 1 2 1\n get 0 0\n step 0\n get 0 0\n step 0";
+    let broken = listing(script, &[(2, "value 3")]);
+    let expected =
+        ["1 get of register 0 0 1 2 2 value 3 0", "2 get of register 0 0 3 4 4 value 0 0"];
+    assert_eq!(rows(&broken, "place operation"), expected, "{broken}");
+    let verdict = "Not accepted: record 2: worker 0's get of register 0, begun by record 1, \
+        answers `value 3` where 0 is shown\n";
+    assert!(broken.ends_with(verdict), "{broken}");
+    // A read that was accepted without a snapshot.
+    let script = "setup 1 1 2 1\n read 0 0\n step 0 x2";
+    let replaced = [(1, "ok"), (2, "going"), (3, "value 0")];
+    assert!(listing(script, &replaced).contains("value 0  nothing\n"));
+}
+
+#[test]
+fn a_slot_freed_twice_ends_the_order() {
+    let script = "setup 1 1 3 1\n put 0 0 7\n step 0 x7\n collect 0\n step 0 x6";
+    let (order, _) = examined(script, &[]);
+    assert_eq!(order.freed, 1);
+    let freed = order.steps.iter().position(|step| step.answer.to_string() == "freed 0").unwrap();
+    let record = order.steps[freed].record;
+    let listing = listing(script, &[(record + 1, "freed 0")]);
+    let verdict = format!("\nNot accepted, and followed no further: record {}: slot 0", record + 1);
+    assert!(listing.contains(&verdict), "{listing}");
+}

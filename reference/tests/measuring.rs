@@ -1,0 +1,69 @@
+//! The programs that measure, as one runs them. What they print is looked at, no time is.
+
+use std::fs;
+use std::path::PathBuf;
+use std::process::{Command, Output};
+
+const HUBLOG: &str = env!("CARGO_BIN_EXE_reference-hublog");
+const WORKLOAD: &str = env!("CARGO_BIN_EXE_workload");
+const BENCH: &str = env!("CARGO_BIN_EXE_bench");
+const SPACE: &str = env!("CARGO_BIN_EXE_space");
+
+fn run(program: &str, arguments: &[&str]) -> Output {
+    Command::new(program).args(arguments).output().unwrap()
+}
+
+fn text(bytes: &[u8]) -> &str {
+    std::str::from_utf8(bytes).unwrap()
+}
+
+fn directory(name: &str) -> PathBuf {
+    PathBuf::from(env!("CARGO_TARGET_TMPDIR")).join(name)
+}
+
+#[test]
+fn workload_writes_so_many_records() {
+    let first = run(WORKLOAD, &["puts", "5", "300"]);
+    assert!(first.status.success());
+    assert_eq!(first.stdout.len(), 16 * 300);
+    assert_eq!(first.stdout, run(WORKLOAD, &["puts", "5", "300"]).stdout);
+    let none = run(WORKLOAD, &["none", "5", "300"]);
+    assert_eq!(none.status.code(), Some(1));
+    assert!(text(&none.stderr).contains("growth-2048"), "{}", text(&none.stderr));
+}
+
+#[test]
+fn bench_prints_its_tables() {
+    let files = directory("bench");
+    let options = ["--records", "5000", "--rounds", "2"];
+    let output = run(BENCH, &[&[HUBLOG, HUBLOG, files.to_str().unwrap()], &options[..]].concat());
+    assert!(output.status.success(), "{}", text(&output.stderr));
+    let printed = text(&output.stdout);
+    for line in
+        ["small (P 2, V 4, N 16)", "uniform (P 16, V 256, N 2048)", "growth-2048", "collects"]
+    {
+        assert!(printed.contains(&format!("\n| {line} ")), "no {line} in\n{printed}");
+    }
+    assert!(printed.contains("5000 records a file, seed 1, 2 rounds."), "{printed}");
+    assert_eq!(fs::metadata(files.join("reads")).unwrap().len(), 16 * 5000);
+}
+
+#[test]
+fn bench_fails_where_the_logs_differ() {
+    let files = directory("bench-differs");
+    // Writes back the records.
+    let output = run(BENCH, &[HUBLOG, "cat", files.to_str().unwrap(), "--records", "5000"]);
+    assert_eq!(output.status.code(), Some(1));
+    assert!(text(&output.stderr).contains("the logs differ near record 0"));
+    assert_eq!(output.stdout, b"");
+    assert_eq!(run(BENCH, &[HUBLOG, HUBLOG]).status.code(), Some(1));
+    assert_eq!(run(BENCH, &[HUBLOG, HUBLOG, "x", "--rounds", "0"]).status.code(), Some(1));
+}
+
+#[test]
+fn space_prints_the_plot() {
+    let plot = run(SPACE, &["--svg"]);
+    assert!(plot.status.success());
+    assert!(text(&plot.stdout).starts_with("<svg ") && plot.stdout.ends_with(b"</svg>\n"));
+    assert_eq!(run(SPACE, &["--png"]).status.code(), Some(1));
+}

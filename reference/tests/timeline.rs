@@ -1,0 +1,197 @@
+//! The order as an SVG timeline.
+
+mod common;
+
+use common::{examined, sample};
+use reference::generate::{script, Kind};
+use reference::order::{self, Claim, Violation};
+use reference::timeline::Timeline;
+use reference::{log, Answer, Hub};
+
+/// The timeline of a script, with some of the hub's answers replaced.
+fn timeline(script: &str, replaced: &[(usize, &str)]) -> String {
+    let (order, violation) = examined(script, replaced);
+    Timeline::new(&order, violation.as_ref()).to_string()
+}
+
+/// How many elements have these classes, or more after them.
+fn count(svg: &str, classes: &str) -> usize {
+    let elements = svg.split("class=\"").skip(1);
+    let ends = |rest: &str| rest.starts_with(['"', ' ']);
+    elements.filter(|rest| rest.strip_prefix(classes).is_some_and(ends)).count()
+}
+
+/// Are all tags closed in turn, all quotes paired, and all signs of markup in text escaped?
+fn well_formed(svg: &str) -> bool {
+    let mut open = Vec::new();
+    for part in svg.trim_start_matches('<').split('<') {
+        let Some((tag, text)) = part.split_once('>') else { return false };
+        let entity = |rest: &str| ["amp;", "lt;", "gt;"].iter().any(|e| rest.starts_with(e));
+        let escaped = !text.contains('>') && text.split('&').skip(1).all(entity);
+        let paired = tag.matches('"').count() % 2 == 0;
+        let name = tag.trim_start_matches('/').split([' ', '/']).next();
+        let in_turn = match (tag.starts_with('/'), tag.ends_with('/')) {
+            (true, _) => open.pop() == Some(name),
+            (_, true) => true,
+            _ => {
+                open.push(name);
+                true
+            }
+        };
+        if !(escaped && paired && in_turn) {
+            return false;
+        }
+    }
+    open.is_empty()
+}
+
+#[test]
+fn broken_markup_is_found() {
+    assert!(well_formed("<a x=\"1\"><b/>c &amp; d</a>\n"));
+    for broken in ["<a>", "<a><b></a></b>", "</a>", "<a>&</a>", "<a>></a>", "<a x=\"></a>", "<a/"] {
+        assert!(!well_formed(broken), "{broken}");
+    }
+}
+
+#[test]
+fn the_sample_is_what_the_tool_makes() {
+    assert_eq!(timeline(&sample("order.txt"), &[]), sample("order.svg"));
+}
+
+#[test]
+fn a_lane_for_each_worker() {
+    for workers in [1, 3, 16] {
+        let svg = timeline(&format!("setup {workers} 1 1 1\n get 0 0\n step 0"), &[]);
+        assert_eq!(count(&svg, "lane"), workers);
+        assert!(svg.contains(&format!(">worker {}</text>", workers - 1)));
+    }
+    assert_eq!(count(&timeline("get 0 0", &[]), "lane"), 0);
+}
+
+#[test]
+fn everything_is_drawn_once() {
+    // The legend alone.
+    let legend = timeline("", &[]);
+    for (kind, name) in Kind::ALL {
+        for seed in 0..10 {
+            let file = script(kind, seed, 400);
+            let order = order::check(&file, &log::answers(&mut Hub::new(), &file)).unwrap();
+            let svg = Timeline::new(&order, None).to_string();
+            assert!(well_formed(&svg), "{name} {seed}");
+            let drawn = |class| count(&svg, class) - count(&legend, class);
+            let refused =
+                order.operations.iter().filter(|o| matches!(o.answer(), Some(Answer::No(_))));
+            let unfinished = order.operations.iter().filter(|o| o.end().is_none());
+            let expected = [
+                ("lane", usize::from(order.workers)),
+                ("bar", order.operations.len()),
+                ("bar refused", refused.count()),
+                ("label", order.operations.len()),
+                ("place", order.sequence.len()),
+                ("freed", order.freed),
+                ("tick", order.steps.len() - order.freed),
+            ];
+            for (class, number) in expected {
+                assert_eq!(drawn(class), number, "{class} of {name} {seed}");
+            }
+            assert_eq!(svg.matches(" unfinished\"").count() - 1, unfinished.count());
+        }
+    }
+}
+
+#[test]
+fn bars_and_places_stand_at_their_records() {
+    // Four columns of 44 pixels from 78 on: the get begins at record 1 and ends at record 2.
+    let svg = timeline("setup 2 1 1 1\n get 1 0\n step 1\n collect 0", &[]);
+    let (lane, bar) = (58 + 68, 58 + 68 + 24);
+    assert!(svg.contains(&format!(r#"<rect class="lane" x="78" y="{lane}""#)), "{svg}");
+    assert!(
+        svg.contains(&format!(r#"<rect class="bar get" x="122" y="{bar}" width="84""#)),
+        "{svg}"
+    );
+    let middle = 78 + 2 * 44 + 20;
+    assert!(
+        svg.contains(&format!(r#"<text class="place" x="{middle}" y="164">1</text>"#)),
+        "{svg}"
+    );
+    // The collect goes on at the end.
+    assert!(
+        svg.contains(r#"<path class="bar collect unfinished" d="M262 82H210V102H262"/>"#),
+        "{svg}"
+    );
+}
+
+#[test]
+fn links_and_snapshots() {
+    let opens = "setup 3 1 1 5\n open 0\n step 0\n open 2\n step 2 x2";
+    let legend = timeline("", &[]);
+    let drawn = |script: &str, class| count(&timeline(script, &[]), class) - count(&legend, class);
+    // Worker 2's step passes the clock for worker 0 too; worker 1 is idle.
+    assert_eq!((drawn(opens, "link"), drawn(opens, "snapshot")), (1, 2));
+    let closed = format!("{opens}\n close 2\n step 2");
+    assert_eq!((drawn(&closed, "link"), drawn(&closed, "snapshot")), (1, 2));
+    assert_eq!(drawn("setup 1 1 1 5\n open 0", "snapshot"), 0);
+}
+
+#[test]
+fn the_width_grows_with_the_records() {
+    let width = |records| {
+        let svg = timeline(&format!("setup 1 1 1 1\n step 0 x{}", records - 1), &[]);
+        let width = svg.split("width=\"").nth(1).and_then(|rest| rest.split('"').next());
+        width.and_then(|width| width.parse::<usize>().ok()).expect("a width")
+    };
+    assert_eq!(width(10), 900);
+    assert_eq!(width(100), 78 + 100 * 22 + 16);
+    assert_eq!(width(1000), 78 + 1000 * 22 + 16);
+}
+
+#[test]
+fn labels_that_do_not_fit_are_shortened() {
+    let largest = u64::MAX;
+    let last = timeline(&format!("setup 1 1 9 1\n put 0 0 {largest}"), &[]);
+    assert!(last.contains(&format!(">put r0 = {largest}</text>")), "{last}");
+    // A get that is followed at once has room for nine digits.
+    let svg =
+        timeline("setup 1 1 9 1\n get 0 0\n step 0\n get 0 0\n", &[(2, "value 12345678901234567")]);
+    assert!(
+        svg.contains(r#"<text class="answer wrong" x="122" y="118">123456789…</text>"#),
+        "{svg}"
+    );
+}
+
+#[test]
+fn a_broken_order_is_marked() {
+    let script = "setup 1 1 2 1\n get 0 0\n step 0";
+    assert_eq!(count(&timeline(script, &[]), "violation"), 0);
+    let svg = timeline(script, &[(2, "value 3")]);
+    assert!(well_formed(&svg));
+    assert_eq!(count(&svg, "violation"), 1);
+    assert!(svg.contains(">The order of demand 3: not accepted</text>"), "{svg}");
+    assert!(svg.contains(">record 2: worker 0's get of register 0, "), "{svg}");
+    assert!(svg.contains(">3 ≠ 0</text>"), "{svg}");
+}
+
+#[test]
+fn any_answers_can_be_drawn() {
+    for seed in 0..200 {
+        let file = script(Kind::Mixed, seed, 200);
+        let mut answers = log::answers(&mut Hub::new(), &file);
+        // Answers of other records, mostly unfit.
+        let others = answers.clone();
+        for (place, answer) in answers.iter_mut().enumerate().skip(100).step_by(31) {
+            *answer = others[(place + 7 * seed as usize) % others.len()];
+        }
+        let (order, violation) = order::examine(&file, &answers);
+        assert!(well_formed(&Timeline::new(&order, violation.as_ref()).to_string()), "{seed}");
+    }
+}
+
+#[test]
+fn text_is_escaped() {
+    let (order, _) = examined("setup 1 1 1 1", &[]);
+    let sentence = "a < b & b > c".to_string();
+    let violation = Violation { record: 0, claim: Claim::Once, sentence };
+    let svg = Timeline::new(&order, Some(&violation)).to_string();
+    assert!(svg.contains("a &lt; b &amp; b &gt; c"), "{svg}");
+    assert!(well_formed(&svg));
+}

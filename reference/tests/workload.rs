@@ -1,0 +1,166 @@
+//! The record files for measuring are the same for the same seed and have what they are meant to have.
+
+mod common;
+
+use reference::coverage::{Branch, Coverage};
+use reference::fault::Right;
+use reference::record::{Record, LENGTH};
+use reference::store::{Doing, MAX_SLOTS};
+use reference::workload::Workload;
+use reference::{log, Hub};
+
+/// Long enough for the shape to settle.
+const COUNT: usize = 1_000_000;
+
+fn file(workload: Workload, seed: u64, count: usize) -> Vec<u8> {
+    let mut file = Vec::new();
+    workload.write(seed, count, &mut file).unwrap();
+    file
+}
+
+/// What a run over a workload's records met.
+struct Met {
+    coverage: Coverage,
+    /// By operation number.
+    begun: [u64; 8],
+    /// On average where a flush takes its pools.
+    pools_queued: f64,
+    ranges_taken: f64,
+}
+
+impl Met {
+    fn of(workload: Workload) -> Met {
+        let mut hub = Hub::<Right, Coverage>::with_row(usize::from(MAX_SLOTS));
+        let mut begun = [0; 8];
+        let (mut takes, mut pools, mut ranges) = (0, 0, 0);
+        for bytes in workload.records(1).take(COUNT) {
+            begun[usize::from(bytes[0])] += 1;
+            if let (Some(store), Ok(Record::Step { worker })) =
+                (hub.store(), Record::decode(&bytes))
+            {
+                if store.workers[usize::from(worker)].doing == Doing::FlushTake {
+                    takes += 1;
+                    pools += store.queue.len();
+                    ranges += store.queue.pools().take(2).map(<[_]>::len).sum::<usize>();
+                }
+            }
+            let answer = hub.take(&bytes);
+            hub.observer.answered(answer);
+        }
+        assert_eq!(hub.observer.refusals, [0; 16], "{workload:?} has no refused record");
+        let mean = |sum| sum as f64 / takes as f64;
+        Met { coverage: hub.observer, begun, pools_queued: mean(pools), ranges_taken: mean(ranges) }
+    }
+
+    fn branch(&self, branch: Branch) -> f64 {
+        self.coverage.branches[branch as usize] as f64
+    }
+
+    /// The share of an operation among those begun.
+    fn share(&self, operation: usize) -> f64 {
+        self.begun[operation] as f64 / self.begun[1..7].iter().sum::<u64>() as f64
+    }
+
+    /// The share of an answer: ok, going, freed, at, value, done.
+    fn answer(&self, kind: usize) -> f64 {
+        self.coverage.answers[kind] as f64 / COUNT as f64
+    }
+}
+
+const PUT: usize = 1;
+const COLLECT: usize = 6;
+
+#[test]
+fn the_same_seed_gives_the_same_records() {
+    for workload in Workload::ALL {
+        let short = file(workload, 7, 2_000);
+        assert_eq!(short.len(), 2_000 * LENGTH);
+        assert_eq!(short, file(workload, 7, 4_000)[..short.len()], "{workload:?}");
+        assert_ne!(short, file(workload, 8, 2_000), "{workload:?}");
+    }
+}
+
+#[test]
+fn names_are_read_back() {
+    for workload in Workload::ALL {
+        assert_eq!(Workload::named(&workload.name()), Some(workload));
+    }
+    assert_eq!(Workload::named("growth-17"), None);
+}
+
+#[test]
+fn each_begins_with_its_setup() {
+    let sizes = [
+        (2, 4, 16),
+        (16, 256, 2048),
+        (2, 16, 256),
+        (16, 2, 2048),
+        (16, 256, 2048),
+        (16, 256, 2048),
+    ];
+    for (workload, (workers, registers, slots)) in Workload::ALL.into_iter().zip(sizes) {
+        let setup = Record::Setup { workers, registers, slots, clock: 1 };
+        assert_eq!(file(workload, 1, 1), setup.encode(), "{workload:?}");
+    }
+}
+
+#[test]
+fn small_and_large_have_a_bit_of_everything() {
+    for workload in [Workload::Small, Workload::Large] {
+        let met = Met::of(workload);
+        let least = [0.1, 0.4, 0.05, 0.004, 0.05, 0.05];
+        for (kind, least) in least.into_iter().enumerate() {
+            assert!(met.answer(kind) > least, "{workload:?}: {:?}", met.coverage.answers);
+        }
+        assert!(met.begun[1..7].iter().all(|&begun| begun > 500), "{workload:?}: {:?}", met.begun);
+    }
+}
+
+#[test]
+fn puts_are_puts_in_small_batches() {
+    let met = Met::of(Workload::Puts);
+    assert!(met.share(PUT) > 0.9, "{:?}", met.begun);
+    let puts = met.branch(Branch::PutDone) + met.branch(Branch::PutFlushes);
+    let flushing = met.branch(Branch::PutFlushes) / puts;
+    assert!((0.45..0.55).contains(&flushing), "{flushing}");
+}
+
+#[test]
+fn reads_walk_far() {
+    let met = Met::of(Workload::Reads);
+    let moves = met.branch(Branch::ReadMoves);
+    let found = met.branch(Branch::ReadFound) + met.branch(Branch::ReadFoundAtOnce);
+    assert!(moves / found > 150.0, "{}", moves / found);
+    assert!(moves / COUNT as f64 > 0.7, "{moves}");
+}
+
+#[test]
+fn collects_meet_a_full_queue() {
+    let met = Met::of(Workload::Collects);
+    assert!(met.share(COLLECT) > 0.8, "{:?}", met.begun);
+    assert!(met.pools_queued > 8.0, "{}", met.pools_queued);
+    assert!(met.ranges_taken > 150.0, "{}", met.ranges_taken);
+    // They find next to nothing to free.
+    assert!(met.answer(2) < 0.01, "{:?}", met.coverage.answers);
+}
+
+#[test]
+fn uniform_bytes_are_refused() {
+    let (_, coverage) = common::covered(&file(Workload::Uniform, 1, COUNT));
+    assert_eq!(coverage.answers.iter().sum::<u64>(), 1);
+    assert!(coverage.refusals[1] > COUNT as u64 * 95 / 100);
+    assert_eq!(coverage.refusals[1] + coverage.refusals[2], COUNT as u64 - 1);
+}
+
+#[test]
+fn growth_differs_only_in_the_setup() {
+    let small = file(Workload::Small, 1, 50_000);
+    let answers = log::answers(&mut Hub::new(), &small);
+    for slots in [16, 64, 256, 1024, 2048] {
+        let growth = file(Workload::Growth { slots }, 1, 50_000);
+        let setup = Record::Setup { workers: 2, registers: 4, slots, clock: 1 };
+        assert_eq!(growth[..LENGTH], setup.encode());
+        assert!(growth[LENGTH..] == small[LENGTH..]);
+        assert!(log::answers(&mut Hub::new(), &growth) == answers);
+    }
+}
