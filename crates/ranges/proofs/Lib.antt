@@ -4,3 +4,4 @@ pub mod Merging
 pub mod SplitLaws
 pub mod Splitting
 pub mod Reversing
+pub mod Distance
