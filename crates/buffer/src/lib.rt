@@ -394,6 +394,7 @@ pub fn apply_all(
     while k < count {
         let rec = record_at(bytes, k);
         let r = record::decode(rec);
+        // The record that is looked at is the worker's own where there are more than w workers; elsewhere it does not matter.
         let w = plan::who(r) % 16;
         let x = hub.workers[w];
         let d = x.doing;
@@ -419,6 +420,7 @@ pub fn apply_all(
                 k += 1;
             }
             Gate::Go { worker: _ } => {
+                // A step of worker w.
                 let s = shape_of(d, hub.p);
                 match s {
                     Shape::Still => {
@@ -440,6 +442,8 @@ pub fn apply_all(
                         put_answer(kinds, numbers, k, answer);
                         k += 1;
                     }
+                    // Up to three slots: the first, its older neighbour, and the third. They are stored the third first: a put's second
+                    // step may find it in the second's place, and only the second is changed then.
                     Shape::Turn => {
                         let i = plan::spot(d, w, newest, merged);
                         let f = plan::extra(d, free, hub.free);
@@ -477,6 +481,7 @@ pub fn apply_all(
                         hub.clock = u.clock;
                         set_published(newest, d, has, f);
                         give_back(free, d, hub.free, i);
+                        // "A read standing on it moves to its older neighbour."
                         let most = moves(d, hub.free);
                         hub.free = count_after(d, has, hub.free);
                         let from = (i % 65536) as u16;
@@ -497,6 +502,7 @@ pub fn apply_all(
                         put_answer(kinds, numbers, k, answer);
                         k += 1;
                     }
+                    // Put (3).
                     Shape::HandIn { covered } => {
                         let i = covered as usize;
                         let ai = place(i);
@@ -513,6 +519,7 @@ pub fn apply_all(
                         put_answer(kinds, numbers, k, next_answer(full));
                         k += 1;
                     }
+                    // Flush (1).
                     Shape::Take => {
                         let counts = Counts {
                             pools: hub.pools,
@@ -533,6 +540,7 @@ pub fn apply_all(
                         put_answer(kinds, numbers, k, Answer::Going);
                         k += 1;
                     }
+                    // Flush (2).
                     Shape::Time { merged: m, read } => {
                         let i = (read as usize) % 16;
                         let z = hub.workers[i];
@@ -550,6 +558,7 @@ pub fn apply_all(
                         put_answer(kinds, numbers, k, Answer::Going);
                         k += 1;
                     }
+                    // Flush (3).
                     Shape::Split { merged: m } => {
                         let q = x.pool;
                         let n = m as usize;
