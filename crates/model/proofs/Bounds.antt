@@ -125,17 +125,17 @@ pub record Within (b : ℕ) (s : Store) : Type 0 where
   pub workers : All (FitW b) (s .workers)
   pub pools : All (Sized (2 * b)) (s .queue)
 
-All-set {ℓ} : {A : Type ℓ} (Q : A → Type 0) (l : List A) (i : ℕ) (y : A) → Q y → All Q l → All Q (set l i y)
+pub All-set {ℓ} : {A : Type ℓ} (Q : A → Type 0) (l : List A) (i : ℕ) (y : A) → Q y → All Q l → All Q (set l i y)
 All-set Q [] i y a t = tt
 All-set Q (x ∷ l) zero y a t = (a, t .1)
 All-set Q (x ∷ l) (suc i) y a t = (t .0, All-set Q l i y a (t .1))
 
-All-nth {ℓ} : {A : Type ℓ} (Q : A → Type 0) (l : List A) (i : ℕ) (d : A) → Q d → All Q l → Q (getD l i d)
+pub All-nth {ℓ} : {A : Type ℓ} (Q : A → Type 0) (l : List A) (i : ℕ) (d : A) → Q d → All Q l → Q (getD l i d)
 All-nth Q [] i d a t = a
 All-nth Q (x ∷ l) zero d a t = t .0
 All-nth Q (x ∷ l) (suc i) d a t = All-nth Q l i d a (t .1)
 
-All-through {ℓ} : {A : Type ℓ} (Q : A → Type 0) (f : A → A) → ((x : A) → Q x → Q (f x)) → (l : List A) → All Q l → All Q (map f l)
+pub All-through {ℓ} : {A : Type ℓ} (Q : A → Type 0) (f : A → A) → ((x : A) → Q x → Q (f x)) → (l : List A) → All Q l → All Q (map f l)
 All-through Q f g [] t = tt
 All-through Q f g (x ∷ l) t = (g x (t .0), All-through Q f g l (t .1))
 

@@ -12,7 +12,7 @@ use Rattle.model.specs.Document.{Document}
 use Rattle.model.proofs.Basic.{eq-cases, and-both}
 use Rattle.model.proofs.Main.{demand}
 use Rattle.model.proofs.Refusals.{demand-1}
-use Rattle.model.proofs.Reached.{sound}
+use Rattle.model.proofs.Reached.{sound, as-published}
 
 -- the batch sizes of the numbers from 1 to n are from 1 to 64
 test : ℕ → Bool
@@ -39,4 +39,4 @@ pub batch-sizes : BatchSizes batchOf
 batch-sizes p a b = each 16 p tested a b
 
 pub document : Document
-document = record { demand-1 = demand-1 batchOf; demand-3 = demand batchOf; batches = batch-sizes; sound = sound batchOf }
+document = record { demand-1 = demand-1 batchOf; demand-3 = demand batchOf; batches = batch-sizes; sound = sound batchOf; as-published = as-published batchOf }

@@ -23,6 +23,8 @@ pub mod Main
 pub mod Bounds
 pub mod Total
 pub mod Full
+pub mod Figure
+pub mod ByHigh
 pub mod Reached
 pub mod Refusals
 pub mod Document

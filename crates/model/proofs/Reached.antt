@@ -1,11 +1,12 @@
--- Every hub that records leave after an accepted setup satisfies the invariant and the bounds, by induction over the records; and what
--- specs/Reached.antt claims of such a hub follows.
+-- Every hub that records leave after an accepted setup satisfies the invariant and the bounds, and its pools are sorted by high, by induction over
+-- the records; and what specs/Reached.antt and specs/Figure.antt claim of such a hub follows.
 use mathlib.Core.Path.{_≡_, refl, sym, _∙_, subst}
 use mathlib.Core.List.{List, [], _∷_, _++_}
 use Prim.Native.Nat.{ℕ, zero, suc, _+_, _*_, _≤_, _<_}
 use native.Mathlib.Omega.{arith}
 use lib.Dec.{ltb, leb, eqb}
 use lib.ListN.{length, replicate}
+use borrow.Author.Tests as Tests
 use Rattle.model.specs.Store.{absent, lastClock, Reading, Slot, Range, Doing, Idle, PutPublish, PutStamp, PutHandIn, FlushTake, FlushRead, FlushFree, OpenAnnounce, OpenPass, ReadEnter, ReadStand, CloseWithdraw, GetShow, startWorker, Store, Hub, blank, up, workerAt, slotAt, place}
 use Rattle.model.specs.Answer.{Ok, Stepped, Applied}
 use Rattle.model.specs.Versions.{stamp}
@@ -14,13 +15,16 @@ use Rattle.model.specs.Record.{SetUp, Begin, Step, Decoded, Asks, Refuse
 use Rattle.model.specs.Apply.{refuse, fresh, setUp, registerBelow, isIdle, mayOpen, mayUseTime, firstPlace, begin, step, obey, applyDecoded, apply}
 use Rattle.model.specs.Demand.{Call, Plain, plain₀, Event, events, observe, effects, All}
 use Rattle.model.specs.Reached.{sumBy, inHand, Bounds, SoundHub, BatchSizes, Sound}
+use Rattle.model.specs.Figure.{HandByHigh, WorkerByHigh, StoreByHigh, FigureHub, AsPublished}
 use Rattle.model.proofs.Basic.{cond-both, All-map}
 use Rattle.model.proofs.Invariant.{Inv}
 use Rattle.model.proofs.Record.{Holds, apply-holds, idle-is}
 use Rattle.model.proofs.Setup.{Accepted, accepts, accepted-inv}
-use Rattle.model.proofs.Bounds.{Sized, Within, Fit, FitW, step-within, begin-within}
+use Rattle.model.proofs.Bounds.{Sized, Within, Fit, FitW, All-nth, step-within, begin-within}
 use Rattle.model.proofs.Total.{total}
 use Rattle.model.proofs.Full.{refuses-14}
+use Rattle.model.proofs.ByHigh.{step-byHigh, begin-byHigh, start-byHigh}
+use Rattle.model.proofs.Figure.{split-is-figure}
 
 ------------------------------------------------------------------------
 -- P, V and N never change
@@ -60,14 +64,14 @@ step-sizes batch s w CloseWithdraw = (refl, refl, refl)
 step-sizes batch s w (GetShow r) = (refl, refl, refl)
 
 ------------------------------------------------------------------------
--- One record keeps the bounds
+-- One record keeps the bounds, and the pools sorted
 
-module _ (batch : ℕ → ℕ) (s : Store) (pos : 0 < batch (s .P)) (W : Within (batch (s .P)) s) where
+module _ (batch : ℕ → ℕ) (now : ℕ) (s : Store) (olds : List (List ℕ)) (h : List Call) (o : List ℕ) (p : Plain) (I : Inv now s olds h o p) (pos : 0 < batch (s .P)) (W : Within (batch (s .P)) s) (S : StoreByHigh s) where
   abbrev Bounded : Applied → Type 0
-  Bounded a = (t : Store) × (a .hub ≡ up t) × SameSizes s t × Within (batch (s .P)) t
+  Bounded a = (t : Store) × (a .hub ≡ up t) × SameSizes s t × Within (batch (s .P)) t × StoreByHigh t
 
   unchanged : (k : ℕ) → Bounded (refuse (up s) k)
-  unchanged k = (s, refl, (refl, refl, refl), W)
+  unchanged k = (s, refl, (refl, refl, refl), W, S)
 
   decoded-bounded : (d : Decoded) → Bounded (applyDecoded batch (up s) d)
   unfolding applyDecoded obey setUp begin step
@@ -78,7 +82,13 @@ module _ (batch : ℕ → ℕ) (s : Store) (pos : 0 < batch (s .P)) (W : Within 
       (λ e₂. cond-both Bounded (isIdle (workerAt s w .doing)) _ _
       (λ e₃. cond-both Bounded (mayOpen c (ltb (workerAt s w .announced) absent)) _ _
       (λ e₄. cond-both Bounded (mayUseTime c (ltb (workerAt s w .announced) absent)) _ _
-      (λ e₅. (place s w (firstPlace c), refl, (refl, refl, refl), begin-within batch s pos W w c (idle-is (workerAt s w .doing) e₃)))
+      (λ e₅. (
+        place s w (firstPlace c),
+        refl,
+        (refl, refl, refl),
+        begin-within batch s pos W w c (idle-is (workerAt s w .doing) e₃),
+        begin-byHigh now s olds h o p I S w (Tests.ltb-true w (s .P) e₁) c,
+      ))
       (λ e₅. unchanged 13))
       (λ e₄. unchanged 12))
       (λ e₃. unchanged 10))
@@ -91,6 +101,7 @@ module _ (batch : ℕ → ℕ) (s : Store) (pos : 0 < batch (s .P)) (W : Within 
         refl,
         step-sizes batch s w (workerAt s w .doing),
         step-within batch s pos W w (workerAt s w .doing) refl,
+        step-byHigh now s olds h o p I S w (Tests.ltb-true w (s .P) e) batch (workerAt s w .doing) refl,
       ))
       (λ e. unchanged 3)
   decoded-bounded (Refuses k) = unchanged k
@@ -98,7 +109,7 @@ module _ (batch : ℕ → ℕ) (s : Store) (pos : 0 < batch (s .P)) (W : Within 
 ------------------------------------------------------------------------
 -- All records
 
--- a store that records left: it has the invariant with some history, order and plain registers, and the bounds
+-- a store that records left: it has the invariant with some history, order and plain registers, the bounds, and sorted pools
 pub record Reached (batch : ℕ → ℕ) (s : Store) : Type 0 where
   pub now : ℕ
   pub olds : List (List ℕ)
@@ -107,6 +118,7 @@ pub record Reached (batch : ℕ → ℕ) (s : Store) : Type 0 where
   pub plain : Plain
   pub inv : Inv now s olds calls order plain
   pub within : Within (batch (s .P)) s
+  pub byHigh : StoreByHigh s
   pub one≤P : 1 ≤ s .P
   pub P≤16 : s .P ≤ 16
   pub one≤V : 1 ≤ s .V'
@@ -136,6 +148,7 @@ module _ (batch : ℕ → ℕ) (sizes : BatchSizes batch) where
       plain = A .kept .p;
       inv = subst (λ (q : Store). Inv (R .now + 1) q (A .kept .olds) calls order (A .kept .p)) (up-inj (A .store) (F .0) (sym (A .is) ∙ F .1)) (A .kept .inv);
       within = subst (λ (q : ℕ). Within (batch q) (F .0)) (sym (F .2 .0)) (F .3);
+      byHigh = F .4;
       one≤P = omega (arith, R .one≤P, F .2 .0);
       P≤16 = omega (arith, R .P≤16, F .2 .0);
       one≤V = omega (arith, R .one≤V, F .2 .1);
@@ -154,8 +167,8 @@ module _ (batch : ℕ → ℕ) (sizes : BatchSizes batch) where
       order : List ℕ
       order = R .order ++ effects (R .calls) (decode b) (up s) (apply batch (up s) b .answer) (up (A .store))
 
-      F : (t : Store) × (applyDecoded batch (up s) (decode b) .hub ≡ up t) × SameSizes s t × Within (batch (s .P)) t
-      F = decoded-bounded batch s (sizes (s .P) (R .one≤P) (R .P≤16) .0) (R .within) (decode b)
+      F : (t : Store) × (applyDecoded batch (up s) (decode b) .hub ≡ up t) × SameSizes s t × Within (batch (s .P)) t × StoreByHigh t
+      F = decoded-bounded batch (R .now) s (R .olds) (R .calls) (R .order) (R .plain) (R .inv) (sizes (s .P) (R .one≤P) (R .P≤16) .0) (R .within) (R .byHigh) (decode b)
 
   reached-all : (bs : List (List ℕ)) (s : Store) → Reached batch s → All (λ (e : Event). ReachedHub batch (e .before) × ReachedHub batch (e .after)) (events batch (up s) bs)
   unfolding events
@@ -182,6 +195,7 @@ module _ (batch : ℕ → ℕ) (sizes : BatchSizes batch) where
         plain = plain₀;
         inv = accepted-inv A;
         within = record { workers = all-start (batch (A .sizes .P)) (A .sizes .P) (sizes (A .sizes .P) (A .fits .one≤P) (A .fits .P≤16) .0); pools = tt };
+        byHigh = record { queued = tt; workers = start-byHigh _ (A .sizes .P) };
         one≤P = A .fits .one≤P;
         P≤16 = A .fits .P≤16;
         one≤V = A .fits .one≤V;
@@ -243,3 +257,20 @@ sound batch sizes row b e bs =
     hub : (h : Hub) → ReachedHub batch h → SoundHub batch h
     hub (blank row) a = a
     hub (up s) a = record { bounds = bounds batch s a; refuses14 = refuses-14 (a .inv) batch }
+
+------------------------------------------------------------------------
+-- What specs/Figure.antt claims
+
+pub as-published : (batch : ℕ → ℕ) → AsPublished batch
+as-published batch sizes row b e bs =
+    All-map (λ z a. (hub (z .before) (a .0), hub (z .after) (a .1))) (events batch (apply batch (blank row) b .hub) bs) (reached batch sizes row b e bs)
+  where
+    hub : (h : Hub) → ReachedHub batch h → FigureHub batch h
+    hub (blank row) a = a
+    hub (up s) a =
+        record {
+          byHigh = a .byHigh;
+          split = λ w m ts i us.
+              split-is-figure batch s w m us
+              (subst (HandByHigh (s .slots) (workerAt s w .pool)) i (All-nth (WorkerByHigh (s .slots)) (s .workers) w startWorker (record { local = tt; hand = tt }) (a .byHigh .workers) .hand));
+        }

@@ -3,6 +3,7 @@ use Rattle.model.specs.Batch.{batchOf}
 use Rattle.model.specs.Demand.{Demand}
 use Rattle.model.specs.Refusals.{Demand1}
 use Rattle.model.specs.Reached.{BatchSizes, Sound}
+use Rattle.model.specs.Figure.{AsPublished}
 
 pub record Document : Type 0 where
   -- every record ends in its answer or in one numbered refusal
@@ -13,3 +14,5 @@ pub record Document : Type 0 where
   pub batches : BatchSizes batchOf
   -- the bounds that memory is sized by, and refusal 14
   pub sound : Sound batchOf
+  -- pools sorted by high, and the flush split as it was first published
+  pub as-published : AsPublished batchOf

@@ -12,6 +12,7 @@ pub mod Log
 pub mod Cases
 pub mod Demand
 pub mod Reached
+pub mod Figure
 pub mod Refusals
 pub mod Runs
 pub mod Document

@@ -5,3 +5,5 @@ pub mod SplitLaws
 pub mod Splitting
 pub mod Reversing
 pub mod Distance
+pub mod TimeLaws
+pub mod Sorting
