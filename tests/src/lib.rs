@@ -23,7 +23,20 @@ pub fn start() -> Child {
 
 /// What it prints for a file that is written to it in pieces of these sizes, the last one repeated.
 pub fn printed(file: &[u8], pieces: &[usize]) -> Vec<u8> {
-    let mut child = start();
+    printed_by(start(), file, pieces)
+}
+
+/// What `eachlog`, the environment's `EACHLOG`, prints for a file with these arguments.
+pub fn each_printed(file: &[u8], arguments: &[usize]) -> Vec<u8> {
+    let path =
+        std::env::var_os("EACHLOG").expect("EACHLOG names the program for one record a call");
+    let mut command = Command::new(path);
+    command.args(arguments.iter().map(usize::to_string));
+    command.stdin(Stdio::piped()).stdout(Stdio::piped());
+    printed_by(command.spawn().expect("eachlog starts"), file, &[])
+}
+
+fn printed_by(mut child: Child, file: &[u8], pieces: &[usize]) -> Vec<u8> {
     let mut input = child.stdin.take().expect("piped");
     let mut output = child.stdout.take().expect("piped");
     let mut text = Vec::new();

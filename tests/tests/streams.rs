@@ -8,9 +8,10 @@ use std::process::Stdio;
 
 #[test]
 fn pieces_of_any_size() {
-    let file = script(Kind::Tails, 5, 12_000);
+    let file = script(Kind::Tails, 5, 40_000);
     let expected = log::log_text(&log::answers(&mut Hub::new(), &file));
-    for pieces in [&[1][..], &[7], &[16], &[15, 2, 31], &[4095], &[65_535, 1, 65_537], &[65_536]] {
+    for pieces in [&[1][..], &[7], &[16], &[15, 2, 31], &[4095], &[262_143, 1, 262_145], &[262_144]]
+    {
         assert!(printed(&file, pieces) == expected, "{pieces:?}");
     }
 }
@@ -27,8 +28,8 @@ fn closed_output_ends_it() {
     let mut output = child.stdout.take().expect("piped");
     let mut input = child.stdin.take().expect("piped");
     let mut first = [0; 4];
-    // It answers a whole block of 4096 records at once.
-    let block = vec![7; 64 * 1024];
+    // It answers a whole block of 16384 records at once.
+    let block = vec![7; 256 * 1024];
     input.write_all(&block).expect("read");
     output.read_exact(&mut first).expect("a line");
     drop(output);

@@ -1,6 +1,1 @@
-pub mod Memory
-pub mod Left
-pub mod Back
-pub mod Shell
-pub mod Public
-pub mod Demands
+pub mod Doors

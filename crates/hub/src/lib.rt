@@ -1,17 +1,81 @@
-// The hub on lent memory: one record applied.
+// The doors to the loop over the records (crate `core`): the slots as one lent row of structs, of any length. The first 2048 of them are read
+// into words, the loop runs on the words, and they are written back.
 ghost use mathlib.Core.Path.{_≡_};
-ghost use lib.ListN.{getD};
-ghost use Rattle.slots.specs.Slots.{vacantSlot};
-ghost use Rattle.plan.specs.Plan.{decodedIn, planOf, thirdOf};
-ghost use Rattle.ready.specs.Ready.{readyOf};
-ghost use Rattle.steps.specs.Steps.{actOf};
-ghost use Rattle.hub.specs.Back.{lentOf, backIn, steppedBy};
-ghost use Rattle.hub.specs.Memory.{memory};
-ghost use Rattle.hub.specs.Public.{Does};
-use plan::Plan;
+ghost use Prim.Native.Nat.{_+_, _/_, _≤_, min};
+ghost use lib.ListN.{length, replicate, take, drop, set};
+ghost use Rattle.versions.specs.Versions.{rowOf};
+ghost use Rattle.simulation.specs.Memory.{memory};
+ghost use Rattle.simulation.specs.Public.{Does};
+ghost use Rattle.simulation.specs.Buffer.{Applies};
+ghost use Rattle.hub.specs.Doors.{wordsOf, loadedTo, storedTo, One};
 use slots::Slot;
 use state::Hub;
 use values::Answer;
+
+// ---- the row of structs as words, and back
+
+// The words of a slot at an index; past the end nothing.
+fn put_words(row: &mut [[u64; 5]], i: usize, s: Slot)
+    ensures { λ _. ⌜ now (row .exit) ≡ set (now (row .entry)) i (wordsOf s) ⌝ }
+{
+    if row.len() <= i {
+        return;
+    }
+    let v = s.value;
+    row[i] = [v.count, s.low, s.high, s.older as u64, s.newer as u64];
+}
+
+// The first n words become the slots.
+fn load_row(slots: &[Slot], row: &mut [[u64; 5]], n: usize)
+    ensures { λ _. ⌜ now (row .exit) ≡ loadedTo (now (slots .entry)) (now (row .entry)) n ⌝ }
+{
+    let mut i = 0;
+    while i < n {
+        let s = slots::load(slots, i);
+        put_words(row, i, s);
+        i = i + 1;
+    }
+}
+
+// The first n slots become the words.
+fn store_row(slots: &mut [Slot], row: &[[u64; 5]], n: usize)
+    ensures { λ _. ⌜ now (slots .exit) ≡ storedTo (now (slots .entry)) (now (row .entry)) n ⌝ }
+{
+    let mut i = 0;
+    while i < n {
+        let s = versions::load(row, i);
+        slots::store(slots, i, s);
+        i = i + 1;
+    }
+}
+
+// A row of words, before anything is loaded into it.
+fn zeros() -> [[u64; 5]; 2048]
+    ensures { λ r. ⌜ r ≡ replicate 2048 (replicate 5 0) ⌝ }
+{
+    [[0u64; 5]; 2048]
+}
+
+fn at_most(n: usize, most: usize) -> usize
+    ensures { λ r. ⌜ (r ≡ min n most) × (r ≤ most) ⌝ }
+{
+    if n < most {
+        return n;
+    }
+    most
+}
+
+// How many records n bytes are. A rest of fewer than sixteen is one more.
+fn count_records(n: usize) -> usize
+    ensures { λ r. ⌜ r ≡ (n + 15) / 16 ⌝ }
+{
+    if n % 16 == 0 {
+        return n / 16;
+    }
+    n / 16 + 1
+}
+
+// ---- one record
 
 // What a record leaves of the hub by value, and what it is answered.
 pub struct Applied {
@@ -19,123 +83,46 @@ pub struct Applied {
     pub answer: Answer,
 }
 
-// The slots that a plan looks at, and the third's place.
-struct Loaded {
-    a: Slot,
-    b: Slot,
-    c: Slot,
-    k: usize,
-}
-
-// The plan's first slot, its older neighbour, and the third.
-fn fetch(slots: &[Slot], plan: Plan) -> Loaded
-    ensures { λ r. ⌜
-        (r .a ≡ getD (now (slots .entry)) (plan .first) vacantSlot)
-        × (r .b ≡ getD (now (slots .entry)) (r .a .older) vacantSlot)
-        × (r .k ≡ thirdOf plan (r .a .newer))
-        × (r .c ≡ getD (now (slots .entry)) (r .k) vacantSlot)
-        ⌝ }
-{
-    let a = slots::load(slots, plan.first);
-    let b = slots::load(slots, a.older);
-    let k = plan::third(plan, a.newer);
-    let c = slots::load(slots, k);
-    Loaded { a, b, c, k }
-}
-
-// The slots as they are to be stored: at `k`, at `first` and at `older`; and a setup of v registers and n slots, n 0 where there is none.
-struct Back {
-    first: usize,
-    older: usize,
-    k: usize,
-    a: Slot,
-    b: Slot,
-    c: Slot,
-    v: usize,
+// One record on the first n slots of the words.
+fn run_one(
+    row: &mut [[u64; 5]],
     n: usize,
-}
-
-// The third slot is stored first, then the first and its older neighbour: a put's second step may find the third in the second's place, and only
-// the second is changed then. After that a setup makes the first n slots anew.
-fn put_back(slots: &mut [Slot], back: Back)
-    ensures { λ _. ⌜ now (slots .exit) ≡ backIn (now (slots .entry)) back ⌝ }
-{
-    slots::store(slots, back.k, back.c);
-    slots::store(slots, back.first, back.a);
-    slots::store(slots, back.older, back.b);
-    slots::set_up(slots, back.v, back.n);
-}
-
-// What is answered and left by value, and the slots to be stored.
-struct Stepped {
-    applied: Applied,
-    back: Back,
-}
-
-// The plan is carried out on the slots that were loaded and on the arrays.
-fn carry_out(
-    hub: Hub,
-    plan: Plan,
-    s: Loaded,
-    newest: &mut [u16; 256],
-    free: &mut [u16; 2048],
-    queue: &mut [u32; 6144],
-    lens: &mut [u32; 2048],
-    merged: &mut [u32; 12288],
-) -> Stepped
-    ensures { λ r. ⌜
-        (r, lentOf (now (newest .exit)) (now (free .exit)) (now (queue .exit)) (now (lens .exit)) (now (merged .exit)))
-        ≡ steppedBy plan s
-        (actOf hub plan (s .a) (s .b) (s .c)
-        (lentOf (now (newest .entry)) (now (free .entry)) (now (queue .entry)) (now (lens .entry)) (now (merged .entry))))
-        ⌝ }
-{
-    let a = s.a;
-    let b = s.b;
-    let c = s.c;
-    let t = steps::act(hub, plan, a, b, c, newest, free, queue, lens, merged);
-    let left = t.hub;
-    let answer = t.answer;
-    let applied = Applied { hub: left, answer };
-    let x = t.a;
-    let y = t.b;
-    let z = t.c;
-    let back = Back {
-        first: plan.first,
-        older: a.older,
-        k: s.k,
-        a: x,
-        b: y,
-        c: z,
-        v: t.v,
-        n: t.n,
-    };
-    Stepped { applied, back }
-}
-
-// What is decided, on memory that is only looked at.
-fn see(
     hub: Hub,
     rec: &[u8],
-    linked: bool,
-    long: usize,
     newest: &mut [u16; 256],
     free: &mut [u16; 2048],
     queue: &mut [u32; 6144],
     lens: &mut [u32; 2048],
     merged: &mut [u32; 12288],
-) -> Plan
+) -> Applied
+    requires { ⌜ n ≤ length (now row) ⌝ }
     ensures { λ r. ⌜
-        (r
-        ≡ planOf hub (decodedIn (now (rec .entry)))
-        (readyOf hub (now (newest .entry)) (now (free .entry)) (now (queue .entry)) (now (lens .entry)) (now (merged .entry)) linked long)
-        long (now (newest .entry)) (now (free .entry)) (now (merged .entry)))
-        × (lentOf (now (newest .exit)) (now (free .exit)) (now (queue .exit)) (now (lens .exit)) (now (merged .exit))
-        ≡ lentOf (now (newest .entry)) (now (free .entry)) (now (queue .entry)) (now (lens .entry)) (now (merged .entry)))
+        One
+        (memory hub (take n (rowOf (now (row .entry)))) (now (newest .entry)) (now (free .entry)) (now (queue .entry)) (now (lens .entry))
+        (now (merged .entry)))
+        (now (rec .entry))
+        (memory (r .hub) (take n (rowOf (now (row .exit)))) (now (newest .exit)) (now (free .exit)) (now (queue .exit)) (now (lens .exit)) (now (merged .exit)))
+        (r .answer)
         ⌝ }
 {
-    let up = ready::ready(hub, newest, free, queue, lens, merged, linked, long);
-    plan::decide(hub, rec, up, long, newest, free, merged)
+    let mut kinds = [0u8; 1];
+    let mut numbers = [0u64; 1];
+    let done = core::run(
+        &mut row[0..n],
+        hub,
+        rec,
+        1,
+        &mut kinds,
+        &mut numbers,
+        newest,
+        free,
+        queue,
+        lens,
+        merged,
+    );
+    let left = done.hub;
+    let answer = done.last;
+    Applied { hub: left, answer }
 }
 
 // One record, of any bytes and any number of them, on any lent memory.
@@ -152,16 +139,205 @@ pub fn apply(
     ensures { λ r. ⌜
         Does
         (memory hub (now (slots .entry)) (now (newest .entry)) (now (free .entry)) (now (queue .entry)) (now (lens .entry)) (now (merged .entry)))
-        (now (rec .entry))
-        (r .answer)
+        (now (rec .entry)) (r .answer)
         (memory (r .hub) (now (slots .exit)) (now (newest .exit)) (now (free .exit)) (now (queue .exit)) (now (lens .exit)) (now (merged .exit)))
         ⌝ }
 {
-    let linked = slots::all_linked(slots, hub.n);
-    let long = slots.len();
-    let plan = see(hub, rec, linked, long, newest, free, queue, lens, merged);
-    let s = fetch(slots, plan);
-    let t = carry_out(hub, plan, s, newest, free, queue, lens, merged);
-    put_back(slots, t.back);
-    t.applied
+    let mut row = zeros();
+    let n = at_most(slots.len(), 2048);
+    load_row(slots, &mut row, n);
+    let done = run_one(&mut row, n, hub, rec, newest, free, queue, lens, merged);
+    store_row(slots, &row, n);
+    done
+}
+
+// ---- a buffer of records
+
+// What is left of the hub by value, and how many records were applied.
+pub struct Left {
+    pub hub: Hub,
+    pub count: usize,
+}
+
+// The records of the bytes, as many as there is room for answers, on the first n slots of the words.
+fn run_all(
+    row: &mut [[u64; 5]],
+    n: usize,
+    hub: Hub,
+    bytes: &[u8],
+    kinds: &mut [u8],
+    numbers: &mut [u64],
+    newest: &mut [u16; 256],
+    free: &mut [u16; 2048],
+    queue: &mut [u32; 6144],
+    lens: &mut [u32; 2048],
+    merged: &mut [u32; 12288],
+) -> Left
+    requires { ⌜ n ≤ length (now row) ⌝ }
+    ensures { λ r. ⌜
+        Applies
+        (memory hub (take n (rowOf (now (row .entry)))) (now (newest .entry)) (now (free .entry)) (now (queue .entry)) (now (lens .entry))
+        (now (merged .entry)))
+        (now (bytes .entry)) (now (kinds .entry)) (now (numbers .entry)) (r .count)
+        (memory (r .hub) (take n (rowOf (now (row .exit)))) (now (newest .exit)) (now (free .exit)) (now (queue .exit)) (now (lens .exit)) (now (merged .exit)))
+        (now (kinds .exit)) (now (numbers .exit))
+        ⌝ }
+{
+    let room = at_most(kinds.len(), numbers.len());
+    let count = at_most(count_records(bytes.len()), room);
+    let done = core::run(
+        &mut row[0..n],
+        hub,
+        bytes,
+        count,
+        kinds,
+        numbers,
+        newest,
+        free,
+        queue,
+        lens,
+        merged,
+    );
+    let left = done.hub;
+    Left { hub: left, count }
+}
+
+// Applies the records of the bytes, as many as there is room for answers: the kind and the number of answer k stand at k.
+pub fn apply_all(
+    slots: &mut [Slot],
+    hub: Hub,
+    bytes: &[u8],
+    kinds: &mut [u8],
+    numbers: &mut [u64],
+    newest: &mut [u16; 256],
+    free: &mut [u16; 2048],
+    queue: &mut [u32; 6144],
+    lens: &mut [u32; 2048],
+    merged: &mut [u32; 12288],
+) -> Left
+    ensures { λ r. ⌜
+        (drop 2048 (now (slots .exit)) ≡ drop 2048 (now (slots .entry)))
+        × Applies
+        (memory hub (take 2048 (now (slots .entry))) (now (newest .entry)) (now (free .entry)) (now (queue .entry)) (now (lens .entry)) (now (merged .entry)))
+        (now (bytes .entry)) (now (kinds .entry)) (now (numbers .entry)) (r .count)
+        (memory (r .hub) (take 2048 (now (slots .exit))) (now (newest .exit)) (now (free .exit)) (now (queue .exit)) (now (lens .exit)) (now (merged .exit)))
+        (now (kinds .exit)) (now (numbers .exit))
+        ⌝ }
+{
+    let mut row = zeros();
+    let n = at_most(slots.len(), 2048);
+    load_row(slots, &mut row, n);
+    let done = run_all(
+        &mut row,
+        n,
+        hub,
+        bytes,
+        kinds,
+        numbers,
+        newest,
+        free,
+        queue,
+        lens,
+        merged,
+    );
+    store_row(slots, &row, n);
+    done
+}
+
+// ---- for programs that own the row
+
+// What is left of the hub and of the row by value, and how many records were applied.
+pub struct Owned {
+    pub hub: Hub,
+    pub slots: [Slot; 2048],
+    pub count: usize,
+}
+
+// The same for a caller that owns the row of 2048 slots: it is taken and given back by value, so that the caller needs no proof by hand.
+pub fn apply_owned(
+    row: [Slot; 2048],
+    hub: Hub,
+    bytes: &[u8],
+    kinds: &mut [u8],
+    numbers: &mut [u64],
+    newest: &mut [u16; 256],
+    free: &mut [u16; 2048],
+    queue: &mut [u32; 6144],
+    lens: &mut [u32; 2048],
+    merged: &mut [u32; 12288],
+) -> Owned
+    ensures { λ r. ⌜
+        Applies
+        (memory hub row (now (newest .entry)) (now (free .entry)) (now (queue .entry)) (now (lens .entry)) (now (merged .entry)))
+        (now (bytes .entry)) (now (kinds .entry)) (now (numbers .entry)) (r .count)
+        (memory (r .hub) (r .slots) (now (newest .exit)) (now (free .exit)) (now (queue .exit)) (now (lens .exit)) (now (merged .exit)))
+        (now (kinds .exit)) (now (numbers .exit))
+        ⌝ }
+{
+    let mut slots = row;
+    let done = apply_all(
+        &mut slots,
+        hub,
+        bytes,
+        kinds,
+        numbers,
+        newest,
+        free,
+        queue,
+        lens,
+        merged,
+    );
+    let left = done.hub;
+    Owned {
+        hub: left,
+        slots,
+        count: done.count,
+    }
+}
+
+// What is left of the hub and of the row by value, and what the record is answered.
+pub struct Answered {
+    pub hub: Hub,
+    pub slots: [Slot; 2048],
+    pub answer: Answer,
+}
+
+// One record on the first `long` slots of a row that the caller owns: they are lent to `apply`. More than 2048 count as 2048.
+pub fn apply_row(
+    row: [Slot; 2048],
+    long: usize,
+    hub: Hub,
+    rec: &[u8],
+    newest: &mut [u16; 256],
+    free: &mut [u16; 2048],
+    queue: &mut [u32; 6144],
+    lens: &mut [u32; 2048],
+    merged: &mut [u32; 12288],
+) -> Answered
+    ensures { λ r. ⌜
+        (drop (min long 2048) (r .slots) ≡ drop (min long 2048) row)
+        × Does
+        (memory hub (take (min long 2048) row) (now (newest .entry)) (now (free .entry)) (now (queue .entry)) (now (lens .entry)) (now (merged .entry)))
+        (now (rec .entry)) (r .answer)
+        (memory (r .hub) (take (min long 2048) (r .slots)) (now (newest .exit)) (now (free .exit)) (now (queue .exit)) (now (lens .exit)) (now (merged .exit)))
+        ⌝ }
+{
+    let mut slots = row;
+    let n = at_most(long, 2048);
+    let done = apply(
+        &mut slots[0..n],
+        hub,
+        rec,
+        newest,
+        free,
+        queue,
+        lens,
+        merged,
+    );
+    let left = done.hub;
+    Answered {
+        hub: left,
+        slots,
+        answer: done.answer,
+    }
 }

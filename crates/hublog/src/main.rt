@@ -1,40 +1,41 @@
 // Reads records from standard input and writes a line for each (document 01, "The log"). This crate owns the memory of the hub.
-ghost use Prim.Native.Nat.{_≤_};
+ghost use Prim.Native.Nat.{_≤_, _<_};
 ghost use lib.ListN.{length};
 use state::Hub;
-
-// What was read: how many bytes, and whether a read failed.
-struct Input {
-    n: usize,
-    failed: bool,
-}
-
-// Reads from standard input until buf is full, the input ends or a read fails. Pieces of any size are put together, so that records are
-// cut at the same places whatever the reads bring.
-fn fill(buf: &mut [u8]) -> Input
-    ensures { λ r. ⌜ r .n ≤ length (now (buf .exit)) ⌝ }
-{
-    let mut n: usize = 0;
-    while n < buf.len() {
-        let part = &mut buf[n..];
-        let got = libc::read(libc::STDIN_FILENO, part);
-        if got < 0 {
-            return Input { n, failed: true };
-        }
-        let more = io::count(got, part);
-        if more == 0 {
-            return Input { n, failed: false };
-        }
-        n += more;
-    }
-    Input { n, failed: false }
-}
 
 // Writes the lines of a block from the start of out; answers how many bytes they have.
 fn write_block(out: &mut [u8], first: u64, kinds: &[u8], numbers: &[u64], count: usize) -> usize
     ensures { λ r. ⌜ r ≤ length (now (out .entry)) ⌝ }
 {
     lines::write_lines(out, first, kinds, numbers, count)
+}
+
+// The smaller of two numbers, which is not 0 where both are not.
+fn at_most(n: usize, most: usize) -> usize
+    ensures { λ r. ⌜ (r ≤ n) × (r ≤ most) × (0 < n → 0 < most → 0 < r) ⌝ }
+{
+    if n < most {
+        return n;
+    }
+    most
+}
+
+// Writes the lines of the first `count` answers to standard output, 4096 at a time, the first with the number `first`; answers whether all
+// were written.
+fn write_log(text: &mut [u8], first: u64, kinds: &[u8], numbers: &[u64], count: usize) -> bool {
+    let most = at_most(count, at_most(kinds.len(), numbers.len()));
+    let mut number = first;
+    let mut from: usize = 0;
+    while from < most {
+        let piece = at_most(most - from, 4096);
+        let used = write_block(text, number, &kinds[from..], &numbers[from..], piece);
+        if !io::write_all(libc::STDOUT_FILENO, &text[0..used]) {
+            return false;
+        }
+        number = std::num::wrapping_add_u64(number, 4096);
+        from += piece;
+    }
+    true
 }
 
 // Says on standard error what went wrong. Where that cannot be written either, nothing is left to do.
@@ -45,14 +46,14 @@ fn say(text: &[u8]) {
 }
 
 fn main() {
-    // A block is 4096 records, and the longest line has 48 bytes.
-    let mut input_space = [0u8; 65536];
-    let input: &mut [u8] = &mut input_space;
+    // A block is 16384 records; the text has room for 4096 lines of 48 bytes, the longest.
+    let mut block_space = [0u8; 262144];
+    let block: &mut [u8] = &mut block_space;
     let mut text_space = [0u8; 196608];
     let text: &mut [u8] = &mut text_space;
-    let mut kind_space = [0u8; 4096];
+    let mut kind_space = [0u8; 16384];
     let kinds: &mut [u8] = &mut kind_space;
-    let mut number_space = [0u64; 4096];
+    let mut number_space = [0u64; 16384];
     let numbers: &mut [u64] = &mut number_space;
     let mut newest = [0u16; 256];
     let mut free = [0u16; 2048];
@@ -68,12 +69,12 @@ fn main() {
     let mut turns = u64::MAX;
     while turns > 0 {
         turns -= 1;
-        let got = fill(input);
+        let got = input::fill(block);
         let n = got.n;
-        let done = buffer::apply_all(
+        let done = hub::apply_owned(
             slots,
             hub,
-            &input[0..n],
+            &block[0..n],
             kinds,
             numbers,
             &mut newest,
@@ -86,8 +87,7 @@ fn main() {
         let h = done.hub;
         slots = s;
         hub = h;
-        let used = write_block(text, first, kinds, numbers, done.count);
-        if !io::write_all(libc::STDOUT_FILENO, &text[0..used]) {
+        if !write_log(text, first, kinds, numbers, done.count) {
             say(b"hublog: cannot write standard output\n");
             return;
         }
@@ -95,9 +95,9 @@ fn main() {
             say(b"hublog: cannot read standard input\n");
             return;
         }
-        if n < 65536 {
+        if n < 262144 {
             return;
         }
-        first = std::num::wrapping_add_u64(first, 4096);
+        first = std::num::wrapping_add_u64(first, 16384);
     }
 }

@@ -70,7 +70,7 @@ fn main() {
     let kinds: &mut [u8] = &mut kind_space;
     let mut number_space = [0u64; 22];
     let numbers: &mut [u64] = &mut number_space;
-    let done = buffer::apply_all(
+    let done = hub::apply_owned(
         slots,
         hub,
         bytes,

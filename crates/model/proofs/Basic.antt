@@ -7,9 +7,9 @@ use Prim.Native.Nat.{ℕ, zero, suc, _+_, _≤_, _<_}
 use native.Mathlib.Nat.{not-suc-le-zero, le-of-suc-le-suc}
 use native.Mathlib.Omega.{arith}
 use lib.Dec.{ltb, leb, eqb}
-use lib.ListN.{length, getD, set}
-use lib.Seq.{getD-set-same}
+use lib.ListN.{length, getD, set, take, drop}
 use borrow.Author.Tests.{ltb-true, ltb-false, leb-true, leb-false, eqb-true, eqb-false, eq-eqb, ne-eqb}
+use Rattle.model.specs.Store.{Store, up}
 use Rattle.model.specs.Demand.{occurrences, All}
 
 -- a test, decided, with what it says
@@ -33,13 +33,6 @@ hit-eq j i e = ap (λ (t : Bool). cond t 1 0) (eq-eqb j i e)
 pub hit-other : (j i : ℕ) → j ≢ i → hit j i ≡ 0
 hit-other j i n = ap (λ (t : Bool). cond t 1 0) (ne-eqb j i n)
 
-pub hit≤1 : (j i : ℕ) → hit j i ≤ 1
-hit≤1 j i = go (eqb j i)
-  where
-    go : (t : Bool) → cond t 1 0 ≤ 1
-    go true = omega arith
-    go false = omega arith
-
 pub occurrences-append : (i : ℕ) (a b : List ℕ) → occurrences i (a ++ b) ≡ occurrences i a + occurrences i b
 unfolding occurrences
 occurrences-append i [] b = omega arith
@@ -57,6 +50,38 @@ module _ {ℓ} {A : Type ℓ} where
   pub All-append : (P : A → Type 0) (a b : List A) → All P a → All P b → All P (a ++ b)
   All-append P [] b s t = t
   All-append P (x ∷ a) b s t = (s .0, All-append P a b (s .1) t)
+
+  module _ (Q : A → Type 0) where
+    pub All-at : (l : List A) (i : ℕ) (d : A) → i < length l → All Q l → Q (getD l i d)
+    All-at [] i d h t = absurd (not-suc-le-zero h)
+    All-at (x ∷ l) zero d h t = t .0
+    All-at (x ∷ l) (suc i) d h t = All-at l i d (le-of-suc-le-suc h) (t .1)
+
+    -- where the default has it too, for every index
+    pub All-nth : (l : List A) (i : ℕ) (d : A) → Q d → All Q l → Q (getD l i d)
+    All-nth [] i d a t = a
+    All-nth (x ∷ l) zero d a t = t .0
+    All-nth (x ∷ l) (suc i) d a t = All-nth l i d a (t .1)
+
+    pub All-set : (l : List A) (i : ℕ) (y : A) → Q y → All Q l → All Q (set l i y)
+    All-set [] i y a t = tt
+    All-set (x ∷ l) zero y a t = (a, t .1)
+    All-set (x ∷ l) (suc i) y a t = (t .0, All-set l i y a (t .1))
+
+    pub All-take : (n : ℕ) (l : List A) → All Q l → All Q (take n l)
+    All-take zero l t = tt
+    All-take (suc n) [] t = tt
+    All-take (suc n) (x ∷ l) t = (t .0, All-take n l (t .1))
+
+    pub All-drop : (n : ℕ) (l : List A) → All Q l → All Q (drop n l)
+    All-drop zero l t = t
+    All-drop (suc n) [] t = tt
+    All-drop (suc n) (x ∷ l) t = All-drop n l (t .1)
+
+    -- each entry changed by f
+    pub All-through : (f : A → A) → ((x : A) → Q x → Q (f x)) → (l : List A) → All Q l → All Q (map f l)
+    All-through f g [] t = tt
+    All-through f g (x ∷ l) t = (g x (t .0), All-through f g l (t .1))
 
 pub getD-map {ℓ ℓ′} : {A : Type ℓ} {B : Type ℓ′} (f : A → B) (l : List A) (i : ℕ) (d : A) (e : B) → i < length l → getD (map f l) i e ≡ f (getD l i d)
 getD-map f [] i d e h = absurd (not-suc-le-zero h)
@@ -98,26 +123,9 @@ All-get P (d ∷ l) t c h = go (eq-cases d c) (λ z. All-get P l (t .1) c z)
     go (inl e) f = subst P (e .0) (t .0)
     go (inr e) f = f (omega (arith, hit-other d c (e .0)))
 
-pub getD-right {ℓ} : {A : Type ℓ} (a b : List A) (i : ℕ) (d : A) (k : ℕ) → k ≡ length a + i → getD (a ++ b) k d ≡ getD b i d
-getD-right [] b i d k e = ap (λ (j : ℕ). getD b j d) (let z : k ≡ i = omega (arith, e) in z)
-getD-right (x ∷ a) b i d zero e = absurd (omega (arith, e))
-getD-right (x ∷ a) b i d (suc k) e = getD-right a b i d k (omega (arith, e))
-
-pub app-nil {ℓ} : {A : Type ℓ} (a : List A) → a ++ [] ≡ a
-app-nil [] = refl
-app-nil (x ∷ a) = ap (λ l. x ∷ l) (app-nil a)
-
-pub app-assoc {ℓ} : {A : Type ℓ} (a b c : List A) → (a ++ b) ++ c ≡ a ++ (b ++ c)
-app-assoc [] b c = refl
-app-assoc (x ∷ a) b c = ap (λ l. x ∷ l) (app-assoc a b c)
-
 pub map-app {ℓ ℓ′} : {A : Type ℓ} {B : Type ℓ′} (f : A → B) (a b : List A) → map f (a ++ b) ≡ map f a ++ map f b
 map-app f [] b = refl
 map-app f (x ∷ a) b = ap (λ l. f x ∷ l) (map-app f a b)
-
--- a length and an entry, after one entry is changed
-pub at-set-same {ℓ} : {A : Type ℓ} (l : List A) (i : ℕ) (y d : A) → i < length l → getD (set l i y) i d ≡ y
-at-set-same l i y d h = getD-set-same l i y d h
 
 pub occurrences-head : (c : ℕ) (l : List ℕ) → 0 < occurrences c (c ∷ l)
 unfolding occurrences
@@ -128,6 +136,10 @@ unfolding occurrences
 occurrences-at [] i d h = absurd (not-suc-le-zero h)
 occurrences-at (x ∷ l) zero d h = omega (arith, hit-same x)
 occurrences-at (x ∷ l) (suc i) d h = omega (arith, occurrences-at l i d (le-of-suc-le-suc h))
+
+-- a hub that is set up has one store
+pub up-inj : (s t : Store) → up s ≡ up t → s ≡ t
+up-inj s t e = cc
 
 -- both parts of a conjunction that holds
 pub and-both : (a b : Bool) → a && b ≡ true → (a ≡ true) × (b ≡ true)

@@ -2,11 +2,11 @@
 use mathlib.Core.Path.{_≡_, refl, subst}
 use mathlib.Core.Bool.{Bool, true, false, not, cond}
 use mathlib.Core.Logic.{_≢_}
-use mathlib.Core.List.{List, [], _∷_, _++_, map}
-use Prim.Native.Nat.{ℕ, zero, suc, _+_, _*_, _≤_, _<_, _/_}
+use mathlib.Core.List.{List, [], _∷_, _++_}
+use Prim.Native.Nat.{ℕ, suc, _+_, _*_, _≤_, _<_, _/_}
 use native.Mathlib.Omega.{arith}
 use lib.Dec.{ltb, leb, eqb}
-use lib.ListN.{length, getD, set, take, drop, length-append, length-take, length-drop}
+use lib.ListN.{length, set, take, drop, length-append, length-take, length-drop}
 use borrow.Author.Tests as Tests
 use Rattle.model.specs.Store.{absent, Reading, Range, Doing, Idle, PutPublish, PutStamp, PutHandIn, FlushTake, FlushRead, FlushFree, OpenAnnounce, OpenPass, ReadEnter, ReadStand, CloseWithdraw, GetShow, Worker, startWorker, Store, workerAt, slotAt, rangeOf, withWorker, withDoing, place}
 use Rattle.model.specs.Answer.{Stepped}
@@ -16,7 +16,7 @@ use Rattle.model.specs.Steps.{putPublish, putStamp, putHandIn, flushTake
 use Rattle.model.specs.Record.{Operation, Put, Open, Read, Close, Get, Collect}
 use Rattle.model.specs.Apply.{firstPlace}
 use Rattle.model.specs.Demand.{All}
-use Rattle.model.proofs.Basic.{cond-both, All-append}
+use Rattle.model.proofs.Basic.{cond-both, All-append, All-nth, All-set, All-drop, All-through}
 
 ------------------------------------------------------------------------
 -- Lengths
@@ -51,11 +51,6 @@ module _ (b : ℕ) where
   len-firstTwo [] t = omega arith
   len-firstTwo (p ∷ []) t = omega (arith, t .0 .1)
   len-firstTwo (p ∷ q ∷ l) t = omega (arith, t .0 .1, t .1 .0 .1, len-merge p q)
-
-  rest-sized : (q : List (List Range)) → All (Sized (2 * b)) q → All (Sized (2 * b)) (drop 2 q)
-  rest-sized [] t = tt
-  rest-sized (p ∷ []) t = tt
-  rest-sized (p ∷ q ∷ l) t = t .1 .1
 
   needed-sized : 0 < b → (l : List Range) → length l ≤ 4 * b → All (Sized (2 * b)) (neededPools b l)
   unfolding neededPools
@@ -125,23 +120,9 @@ pub record Within (b : ℕ) (s : Store) : Type 0 where
   pub workers : All (FitW b) (s .workers)
   pub pools : All (Sized (2 * b)) (s .queue)
 
-pub All-set {ℓ} : {A : Type ℓ} (Q : A → Type 0) (l : List A) (i : ℕ) (y : A) → Q y → All Q l → All Q (set l i y)
-All-set Q [] i y a t = tt
-All-set Q (x ∷ l) zero y a t = (a, t .1)
-All-set Q (x ∷ l) (suc i) y a t = (t .0, All-set Q l i y a (t .1))
-
-pub All-nth {ℓ} : {A : Type ℓ} (Q : A → Type 0) (l : List A) (i : ℕ) (d : A) → Q d → All Q l → Q (getD l i d)
-All-nth Q [] i d a t = a
-All-nth Q (x ∷ l) zero d a t = t .0
-All-nth Q (x ∷ l) (suc i) d a t = All-nth Q l i d a (t .1)
-
-pub All-through {ℓ} : {A : Type ℓ} (Q : A → Type 0) (f : A → A) → ((x : A) → Q x → Q (f x)) → (l : List A) → All Q l → All Q (map f l)
-All-through Q f g [] t = tt
-All-through Q f g (x ∷ l) t = (g x (t .0), All-through Q f g l (t .1))
-
-module _ (batch : ℕ → ℕ) (s : Store) (pos : 0 < batch (s .P)) (W : Within (batch (s .P)) s) (w : ℕ) where
+module _ (s : Store) (pos : 0 < s .site .B) (W : Within (s .site .B) s) (w : ℕ) where
   abbrev b : ℕ
-  b = batch (s .P)
+  b = s .site .B
 
   abbrev n : ℕ
   n = length (workerAt s w .pool)
@@ -158,7 +139,7 @@ module _ (batch : ℕ → ℕ) (s : Store) (pos : 0 < batch (s .P)) (W : Within 
   put-within r y e [] = record { workers = to (withDoing (workerAt s w) Idle) (own (PutPublish r y) e); pools = W .pools }
   put-within r y e (f ∷ fs) = record { workers = to (withDoing (workerAt s w) (PutStamp r _)) (own (PutPublish r y) e); pools = W .pools }
 
-  pub step-within : (d : Doing) → workerAt s w .doing ≡ d → Within b (stepAt batch s w d .store)
+  pub step-within : (d : Doing) → workerAt s w .doing ≡ d → Within b (stepAt s w d .store)
   unfolding stepAt putStamp putHandIn flushTake flushRead flushSplit flushFree openAnnounce openPass readEnter readStand getShow closeWithdraw stamp workerOff
   step-within Idle e = W
   step-within (PutPublish r y) e = put-within r y e (s .free)
@@ -176,9 +157,12 @@ module _ (batch : ℕ → ℕ) (s : Store) (pos : 0 < batch (s .P)) (W : Within 
       go true u = record { workers = to _ (omega (arith, len, own (PutHandIn r c) e)); pools = W .pools }
       go false u = record { workers = to _ (let ne : length (workerAt s w .pool ++ (rangeOf s c ∷ [])) ≢ b = Tests.eqb-false (length (workerAt s w .pool ++ (rangeOf s c ∷ []))) b u in omega (arith, len, own (PutHandIn r c) e)); pools = W .pools }
   step-within FlushTake e =
-      record { workers = to (withDoing (workerAt s w) (FlushRead (firstTwo (s .queue)) [])) (own FlushTake e, len-firstTwo b (s .queue) (W .pools)); pools = rest-sized b (s .queue) (W .pools) }
+      record {
+        workers = to (withDoing (workerAt s w) (FlushRead (firstTwo (s .queue)) [])) (own FlushTake e, len-firstTwo b (s .queue) (W .pools));
+        pools = All-drop (Sized (2 * b)) 2 (s .queue) (W .pools);
+      }
   step-within (FlushRead m ts) e =
-      cond-both (λ (q : Stepped). Within b (q .store)) (ltb (length ts) (s .P)) _ _
+      cond-both (λ (q : Stepped). Within b (q .store)) (ltb (length ts) (s .site .P)) _ _
       (λ u. record { workers = to (withDoing (workerAt s w) (FlushRead m (ts ++ readTimes s (length ts)))) (own (FlushRead m ts) e); pools = W .pools })
       (λ u.
       let a = own (FlushRead m ts) e in

@@ -5,7 +5,7 @@ use mathlib.Core.Path.{_≡_, refl, ap, _∙_, subst}
 use mathlib.Core.Bool.{Bool, true, false, not, cond}
 use mathlib.Core.Logic.{_⊎_, inl, inr, ⊎-elim}
 use mathlib.Core.List.{List, [], _∷_, _++_}
-use Prim.Native.Nat.{ℕ, zero, suc, _+_, _*_, _≤_, _<_, _/_}
+use Prim.Native.Nat.{ℕ, zero, suc, _+_, _≤_, _<_}
 use native.Mathlib.Omega.{arith}
 use lib.Dec.{ltb, leb, eqb}
 use lib.ListN.{length, getD, set, take, drop, replicate}
@@ -14,18 +14,17 @@ use borrow.Author.Tests as Tests
 use Rattle.model.specs.Store.{absent, Reading, Slot, Range, Doing, Idle, PutPublish, PutStamp, PutHandIn, FlushTake, FlushRead, FlushFree, OpenAnnounce, OpenPass, ReadEnter, ReadStand, CloseWithdraw, GetShow, Worker, startWorker, Store, workerAt, slotAt, newestOf, rangeOf, withWorker, withDoing, place}
 use Rattle.model.specs.Answer.{Stepped}
 use Rattle.model.specs.Versions.{setLow, setHigh, setNewer, change, published, stampSlots, stamp, linkSlots, unlinkSlots}
-use Rattle.model.specs.Ranges.{needed, filter, mergeInto, merge, firstTwo, neededPools, joining, queuedPool}
+use Rattle.model.specs.Ranges.{needed, filter, mergeInto, merge, firstTwo, neededPools, joining}
 use Rattle.model.specs.Steps.{putPublish, putStamp, putHandIn, flushTake, readTimes, flushSplit, flushRead, moveOff, workerOff, flushFree, openAnnounce, openPass, readEnter, readStand, getShow, closeWithdraw, stepAt}
 use Rattle.model.specs.Record.{Operation, Put, Open, Read, Close, Get, Collect}
 use Rattle.model.specs.Apply.{firstPlace}
 use Rattle.model.specs.Demand.{Call, Plain, All}
 use Rattle.model.specs.Figure.{ByHigh, HandByHigh, WorkerByHigh, StoreByHigh}
-use Rattle.model.proofs.Basic.{cond-both, eq-cases, lt-cases, All-map, All-append}
+use Rattle.model.proofs.Basic.{cond-both, eq-cases, lt-cases, All-map, All-append, All-nth, All-set, All-take, All-drop, All-through}
 use Rattle.model.proofs.Slots.{nth, change-part, unlink-part}
-use Rattle.model.proofs.Count.{All-merge, All-keep, All-take}
+use Rattle.model.proofs.Count.{All-merge, All-keep, firstTwo-has, pools-have, joining-has, queued-has}
 use Rattle.model.proofs.Invariant.{Inv}
 use Rattle.model.proofs.Places.{doing-is}
-use Rattle.model.proofs.Bounds.{All-set, All-nth, All-through}
 
 ------------------------------------------------------------------------
 -- Lists
@@ -67,36 +66,6 @@ drop-byHigh (suc n) (x ∷ l) t = drop-byHigh n l (t .1)
 snoc-byHigh : (l : List Range) (ρ : Range) → ByHigh l → All (λ σ. σ .high ≤ ρ .high) l → ByHigh (l ++ (ρ ∷ []))
 snoc-byHigh [] ρ t a = (tt, tt)
 snoc-byHigh (x ∷ l) ρ t a = (All-append (λ σ. x .high ≤ σ .high) l (ρ ∷ []) (t .0) (a .0, tt), snoc-byHigh l ρ (t .1) (a .1))
-
-firstTwo-byHigh : (q : List (List Range)) → All ByHigh q → ByHigh (firstTwo q)
-unfolding firstTwo
-firstTwo-byHigh [] t = tt
-firstTwo-byHigh (a ∷ []) t = t .0
-firstTwo-byHigh (a ∷ b ∷ q) t = merge-byHigh a b (t .0) (t .1 .0)
-
-rest-byHigh : (q : List (List Range)) → All ByHigh q → All ByHigh (drop 2 q)
-rest-byHigh [] t = tt
-rest-byHigh (a ∷ []) t = tt
-rest-byHigh (a ∷ b ∷ q) t = t .1 .1
-
-pools-byHigh : (b : ℕ) (l : List Range) → ByHigh l → All ByHigh (neededPools b l)
-unfolding neededPools
-pools-byHigh b l t =
-    cond-both (All ByHigh) (ltb (2 * b) (length l)) (take h l ∷ drop h l ∷ []) (cond (ltb b (length l)) (l ∷ []) [])
-    (λ u. (take-byHigh h l t, (drop-byHigh h l t, tt)))
-    (λ u. cond-both (All ByHigh) (ltb b (length l)) (l ∷ []) [] (λ v. (t, tt)) (λ v. tt))
-  where
-    h : ℕ
-    h = (length l + 1) / 2
-
-joining-byHigh : (b : ℕ) (l : List Range) → ByHigh l → ByHigh (joining b l)
-unfolding joining
-joining-byHigh b l t = cond-both ByHigh (ltb b (length l)) [] l (λ u. tt) (λ u. t)
-
-queued-byHigh : (l : List Range) → ByHigh l → All ByHigh (queuedPool l)
-unfolding queuedPool
-queued-byHigh [] t = tt
-queued-byHigh (x ∷ l) t = (t, tt)
 
 ------------------------------------------------------------------------
 -- Slots: where a step changes a high, the high is then at least the clock
@@ -191,9 +160,9 @@ All-points : (Q : Worker → Type 0) (l : List Worker) → ((i : ℕ) → i < le
 All-points Q [] f = tt
 All-points Q (y ∷ l) f = (f 0 (omega arith), All-points Q l (λ i h. f (suc i) (omega (arith, h))))
 
-module _ (now : ℕ) (s : Store) (olds : List (List ℕ)) (h : List Call) (o : List ℕ) (p : Plain) (I : Inv now s olds h o p) (S : StoreByHigh s) (w : ℕ) (wb : w < s .P) where
+module _ (now : ℕ) (s : Store) (olds : List (List ℕ)) (h : List Call) (o : List ℕ) (p : Plain) (I : Inv now s olds h o p) (S : StoreByHigh s) (w : ℕ) (wb : w < s .site .P) where
   -- no high of a pool is above the clock
-  low : (v : ℕ) → v < s .P → Low (s .clock) (workerAt s v)
+  low : (v : ℕ) → v < s .site .P → Low (s .clock) (workerAt s v)
   low v b = All-map (λ ρ g. g .2) (workerAt s v .pool) (I .workers v b .pool)
 
   lows : All (Low (s .clock)) (s .workers)
@@ -244,15 +213,15 @@ module _ (now : ℕ) (s : Store) (olds : List (List ℕ)) (h : List Call) (o : L
       high : nth (s .slots) c .high ≡ absent
       high = I .stamps r (doing-is now s olds h o p I w wb (PutPublish r y) e .0) .0
 
-  pub step-byHigh : (batch : ℕ → ℕ) (d : Doing) → workerAt s w .doing ≡ d → StoreByHigh (stepAt batch s w d .store)
+  pub step-byHigh : (d : Doing) → workerAt s w .doing ≡ d → StoreByHigh (stepAt s w d .store)
   unfolding stepAt putStamp putHandIn flushTake flushRead flushSplit flushFree openAnnounce openPass readEnter readStand getShow closeWithdraw workerOff rangeOf
-  step-byHigh batch Idle e = S
-  step-byHigh batch (PutPublish r y) e = put-byHigh r y e (s .free)
-  step-byHigh batch (PutStamp r c) e =
+  step-byHigh Idle e = S
+  step-byHigh (PutPublish r y) e = put-byHigh r y e (s .free)
+  step-byHigh (PutStamp r c) e =
       cond-both (λ (q : Store). StoreByHigh (place q w (PutHandIn r c))) (eqb (slotAt s c .high) absent) (stamp s r) s
       (λ u. stamped r (PutHandIn r c) (hand (PutStamp r c) e))
       (λ u. placed (PutHandIn r c) (hand (PutStamp r c) e))
-  step-byHigh batch (PutHandIn r c) e = go (eqb (length (workerAt s w .pool ++ (rangeOf s c ∷ []))) (batch (s .P)))
+  step-byHigh (PutHandIn r c) e = go (eqb (length (workerAt s w .pool ++ (rangeOf s c ∷ []))) (s .site .B))
     where
       ended : ByHigh (workerAt s w .pool ++ (rangeOf s c ∷ []))
       ended = snoc-byHigh (workerAt s w .pool) (rangeOf s c) (own .local) (hand (PutHandIn r c) e)
@@ -260,24 +229,27 @@ module _ (now : ℕ) (s : Store) (olds : List (List ℕ)) (h : List Call) (o : L
       go : (full : Bool) → StoreByHigh (withWorker s w (record { doing = cond full FlushTake Idle; announced = workerAt s w .announced; pool = workerAt s w .pool ++ (rangeOf s c ∷ []) }))
       go true = record { queued = S .queued; workers = to _ (record { local = ended; hand = tt }) }
       go false = record { queued = S .queued; workers = to _ (record { local = ended; hand = tt }) }
-  step-byHigh batch FlushTake e =
-      record { queued = rest-byHigh (s .queue) (S .queued); workers = at (FlushRead (firstTwo (s .queue)) []) (firstTwo-byHigh (s .queue) (S .queued)) }
-  step-byHigh batch (FlushRead m ts) e =
-      cond-both (λ (q : Stepped). StoreByHigh (q .store)) (ltb (length ts) (s .P)) _ _
+  step-byHigh FlushTake e =
+      record {
+        queued = All-drop ByHigh 2 (s .queue) (S .queued);
+        workers = at (FlushRead (firstTwo (s .queue)) []) (firstTwo-has ByHigh tt merge-byHigh (s .queue) (S .queued));
+      }
+  step-byHigh (FlushRead m ts) e =
+      cond-both (λ (q : Stepped). StoreByHigh (q .store)) (ltb (length ts) (s .site .P)) _ _
       (λ u. placed (FlushRead m (ts ++ readTimes s (length ts))) (hand (FlushRead m ts) e))
       (λ u.
-      let b = batch (s .P) in
+      let b = s .site .B in
       let stay = filter (needed ts) m in
       let ok : ByHigh stay = filter-byHigh (needed ts) m (hand (FlushRead m ts) e) in
       record {
         queued =
             All-append ByHigh (s .queue ++ neededPools b stay) _
-            (All-append ByHigh (s .queue) _ (S .queued) (pools-byHigh b stay ok))
-            (queued-byHigh _ (merge-byHigh (workerAt s w .pool) (joining b stay) (own .local) (joining-byHigh b stay ok)));
+            (All-append ByHigh (s .queue) _ (S .queued) (pools-have ByHigh b stay (λ n. take-byHigh n stay ok) (λ n. drop-byHigh n stay ok) ok))
+            (queued-has ByHigh _ (merge-byHigh (workerAt s w .pool) (joining b stay) (own .local) (joining-has ByHigh b stay tt ok)));
         workers = to _ (record { local = tt; hand = filter-byHigh (λ ρ. not (needed ts ρ)) m (hand (FlushRead m ts) e) });
       })
-  step-byHigh batch (FlushFree []) e = placed Idle tt
-  step-byHigh batch (FlushFree (ρ ∷ l)) e =
+  step-byHigh (FlushFree []) e = placed Idle tt
+  step-byHigh (FlushFree (ρ ∷ l)) e =
       record {
         queued = S .queued;
         workers =
@@ -286,18 +258,18 @@ module _ (now : ℕ) (s : Store) (olds : List (List ℕ)) (h : List Call) (o : L
             (set (s .workers) w (withDoing (workerAt s w) (FlushFree l)))
             (with-slots (unlinkSlots (s .slots) (ρ .slot)) (λ c. inl (unlink-part (s .slots) (ρ .slot) (λ v. v .high) (λ v x. refl) (λ v x. refl) c)) (FlushFree l) (hand (FlushFree (ρ ∷ l)) e .1));
       }
-  step-byHigh batch OpenAnnounce e =
+  step-byHigh OpenAnnounce e =
       cond-both (λ (q : Stepped). StoreByHigh (q .store)) (eqb (s .clock) 4294967295) _ _
       (λ u. placed Idle tt)
       (λ u. record { queued = S .queued; workers = to _ (record { local = own .local; hand = tt }) })
-  step-byHigh batch OpenPass e = record { queued = S .queued; workers = at Idle tt }
-  step-byHigh batch (ReadEnter r) e = stamped r (ReadStand r (newestOf s r)) tt
-  step-byHigh batch (ReadStand r c) e =
+  step-byHigh OpenPass e = record { queued = S .queued; workers = at Idle tt }
+  step-byHigh (ReadEnter r) e = stamped r (ReadStand r (newestOf s r)) tt
+  step-byHigh (ReadStand r c) e =
       cond-both (λ (q : Stepped). StoreByHigh (q .store)) (leb (slotAt s c .low) (workerAt s w .announced)) _ _
       (λ u. placed Idle tt)
       (λ u. placed (ReadStand r (slotAt s c .older)) tt)
-  step-byHigh batch CloseWithdraw e = record { queued = S .queued; workers = to _ (record { local = own .local; hand = tt }) }
-  step-byHigh batch (GetShow r) e = stamped r Idle tt
+  step-byHigh CloseWithdraw e = record { queued = S .queued; workers = to _ (record { local = own .local; hand = tt }) }
+  step-byHigh (GetShow r) e = stamped r Idle tt
 
   pub begin-byHigh : (c : Operation) → StoreByHigh (place s w (firstPlace c))
   unfolding firstPlace

@@ -10,11 +10,11 @@ use native.Mathlib.Omega.{arith}
 use lib.Dec.{ltb, leb, eqb}
 use lib.ListN.{length, getD, set, take, drop, take-append-drop}
 use borrow.Author.Tests as Tests
-use Rattle.model.specs.Store.{absent, Range, upFrom}
+use Rattle.model.specs.Store.{absent, Range}
 use Rattle.model.specs.Ranges.{needs, needed, filter, mergeInto, merge, firstTwo, neededPools, joining, queuedPool}
 use Rattle.model.specs.Demand.{occurrences, All}
 use Rattle.model.specs.Reached.{sumBy}
-use Rattle.model.proofs.Basic.{hit, hit-other, eq-cases, cond-both, lt-cases, le-cases}
+use Rattle.model.proofs.Basic.{hit, hit-other, eq-cases, cond-both}
 
 ------------------------------------------------------------------------
 -- Sums
@@ -143,45 +143,37 @@ module _ (Q : Range → Type 0) where
   All-keep p [] t = tt
   All-keep p (x ∷ l) t = cond-both (All Q) (p x) (x ∷ filter p l) (filter p l) (λ u. (t .0, All-keep p l (t .1))) (λ u. All-keep p l (t .1))
 
-  pub All-take : (n : ℕ) (l : List Range) → All Q l → All Q (take n l)
-  All-take zero l t = tt
-  All-take (suc n) [] t = tt
-  All-take (suc n) (x ∷ l) t = (t .0, All-take n l (t .1))
+------------------------------------------------------------------------
+-- What holds of every pool, as a flush takes two, queues the needed ones and joins the local pool
 
-  pub All-drop : (n : ℕ) (l : List Range) → All Q l → All Q (drop n l)
-  All-drop zero l t = t
-  All-drop (suc n) [] t = tt
-  All-drop (suc n) (x ∷ l) t = All-drop n l (t .1)
-
-  pub All-queued : (l : List Range) → All Q l → All (All Q) (queuedPool l)
-  unfolding queuedPool
-  All-queued [] t = tt
-  All-queued (x ∷ l) t = (t, tt)
-
-  pub All-firstTwo : (q : List (List Range)) → All (All Q) q → All Q (firstTwo q)
+module _ (Q : List Range → Type 0) where
+  pub firstTwo-has : Q [] → ((a b : List Range) → Q a → Q b → Q (merge a b)) → (q : List (List Range)) → All Q q → Q (firstTwo q)
   unfolding firstTwo
-  All-firstTwo [] t = tt
-  All-firstTwo (p ∷ []) t = t .0
-  All-firstTwo (p ∷ q ∷ l) t = All-merge p q (t .0) (t .1 .0)
+  firstTwo-has z m [] t = z
+  firstTwo-has z m (p ∷ []) t = t .0
+  firstTwo-has z m (p ∷ q ∷ l) t = m p q (t .0) (t .1 .0)
 
-  pub All-rest : (q : List (List Range)) → All (All Q) q → All (All Q) (drop 2 q)
-  All-rest [] t = tt
-  All-rest (p ∷ []) t = tt
-  All-rest (p ∷ q ∷ l) t = t .1 .1
-
-  pub All-toQueue : (b : ℕ) (l : List Range) → All Q l → All (All Q) (neededPools b l)
+  pub pools-have : (b : ℕ) (l : List Range) → ((n : ℕ) → Q (take n l)) → ((n : ℕ) → Q (drop n l)) → Q l → All Q (neededPools b l)
   unfolding neededPools
-  All-toQueue b l t =
-      cond-both (All (All Q)) (ltb (2 * b) (length l)) (take h l ∷ drop h l ∷ []) (cond (ltb b (length l)) (l ∷ []) [])
-      (λ u. (All-take h l t, (All-drop h l t, tt)))
-      (λ u. cond-both (All (All Q)) (ltb b (length l)) (l ∷ []) [] (λ v. (t, tt)) (λ v. tt))
+  pools-have b l f g t =
+      cond-both (All Q) (ltb (2 * b) (length l)) (take h l ∷ drop h l ∷ []) (cond (ltb b (length l)) (l ∷ []) [])
+      (λ u. (f h, (g h, tt)))
+      (λ u. cond-both (All Q) (ltb b (length l)) (l ∷ []) [] (λ v. (t, tt)) (λ v. tt))
     where
       h : ℕ
       h = (length l + 1) / 2
 
-  pub All-toLocal : (b : ℕ) (l : List Range) → All Q l → All Q (joining b l)
+  pub joining-has : (b : ℕ) (l : List Range) → Q [] → Q l → Q (joining b l)
   unfolding joining
-  All-toLocal b l t = cond-both (All Q) (ltb b (length l)) [] l (λ u. tt) (λ u. t)
+  joining-has b l z t = cond-both Q (ltb b (length l)) [] l (λ u. z) (λ u. t)
+
+  pub queued-has : (l : List Range) → Q l → All Q (queuedPool l)
+  unfolding queuedPool
+  queued-has [] t = tt
+  queued-has (x ∷ l) t = (t, tt)
+
+------------------------------------------------------------------------
+-- What a filter keeps
 
 -- what a filter keeps passes its test
 pub All-kept : (p : Range → Bool) (l : List Range) → All (λ ρ. p ρ ≡ true) (filter p l)

@@ -1,5 +1,5 @@
--- The theorems at document 01's batch size. That this is from 1 to 64 is computed for each number of workers.
-use mathlib.Core.Bool.{Bool, true, false, _&&_}
+-- The theorems under document 01's rules. That its batch size is from 1 to 64 is computed for each number of workers.
+use mathlib.Core.Bool.{Bool, true, _&&_}
 use mathlib.Core.Path.{_≡_, refl, sym, subst}
 use mathlib.Core.Logic.{⊎-elim}
 use Prim.Native.Nat.{ℕ, zero, suc, _≤_}
@@ -7,7 +7,7 @@ use native.Mathlib.Omega.{arith}
 use lib.Dec.{leb}
 use borrow.Author.Tests as Tests
 use Rattle.model.specs.Batch.{leastFrom, logUp, batchOf}
-use Rattle.model.specs.Reached.{BatchSizes}
+use Rattle.model.specs.Rules.{document01, Allowed, under, allUnder}
 use Rattle.model.specs.Document.{Document}
 use Rattle.model.proofs.Basic.{eq-cases, and-both}
 use Rattle.model.proofs.Main.{demand}
@@ -35,8 +35,15 @@ each (suc n) p t a b =
     (λ e. each n p (q .0) a (omega (arith, e .0)))
     (eq-cases p (suc n))
 
-pub batch-sizes : BatchSizes batchOf
-batch-sizes p a b = each 16 p tested a b
+pub document01-allowed : Allowed document01
+document01-allowed p a b = each 16 p tested a b
 
 pub document : Document
-document = record { demand-1 = demand-1 batchOf; demand-3 = demand batchOf; batches = batch-sizes; sound = sound batchOf; as-published = as-published batchOf }
+document =
+    record {
+      demand-1 = demand-1 document01;
+      demand-3 = λ row b e bs. demand row (under document01 b) e (allUnder document01 bs);
+      batches = document01-allowed;
+      sound = λ row b e bs. sound row (under document01 b) document01-allowed e (allUnder document01 bs);
+      as-published = λ row b e bs. as-published row (under document01 b) document01-allowed e (allUnder document01 bs);
+    }

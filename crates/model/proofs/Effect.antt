@@ -127,8 +127,8 @@ takes-self s v = go (workerAt s v .doing)
     go (GetShow r) = refl
 
 -- nothing is stamped and no time is passed
-pub change-none : (h : List Call) (s t : Store) → t .clock ≡ s .clock → ((v r c : ℕ) → v < s .P → workerAt s v .doing ≡ PutStamp r c → slotAt t c .high ≡ slotAt s c .high) → changeEffects h s t ≡ []
-change-none h s t k f = ap (map (runningOf h)) (below-none (takes s t) (s .P) (λ v z. takes-same s s t v k (λ r c e. f v r c z e) ∙ takes-self s v))
+pub change-none : (h : List Call) (s t : Store) → t .clock ≡ s .clock → ((v r c : ℕ) → v < s .site .P → workerAt s v .doing ≡ PutStamp r c → slotAt t c .high ≡ slotAt s c .high) → changeEffects h s t ≡ []
+change-none h s t k f = ap (map (runningOf h)) (below-none (takes s t) (s .site .P) (λ v z. takes-same s s t v k (λ r c e. f v r c z e) ∙ takes-self s v))
 
-pub change-same : (h : List Call) (s t t′ : Store) → t′ .clock ≡ t .clock → ((v r c : ℕ) → v < s .P → workerAt s v .doing ≡ PutStamp r c → slotAt t′ c .high ≡ slotAt t c .high) → changeEffects h s t′ ≡ changeEffects h s t
-change-same h s t t′ k f = ap (map (runningOf h)) (below-same (takes s t) (takes s t′) (s .P) (λ v z. takes-same s t t′ v k (λ r c e. f v r c z e)))
+pub change-same : (h : List Call) (s t t′ : Store) → t′ .clock ≡ t .clock → ((v r c : ℕ) → v < s .site .P → workerAt s v .doing ≡ PutStamp r c → slotAt t′ c .high ≡ slotAt t c .high) → changeEffects h s t′ ≡ changeEffects h s t
+change-same h s t t′ k f = ap (map (runningOf h)) (below-same (takes s t) (takes s t′) (s .site .P) (λ v z. takes-same s t t′ v k (λ r c e. f v r c z e)))

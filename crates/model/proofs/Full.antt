@@ -34,41 +34,41 @@ below-one : (c n : ℕ) → c < n → below c n ≡ 1
 below-one c n h = ⊎-elim (λ u. ap {B = ℕ} (λ (t : Bool). cond t 1 0) (u .1)) (λ u. absurd (omega (arith, h, u .0))) (lt-cases c n)
 
 -- following the older neighbours along a linked list
-list-is : (s : Store) (l : List ℕ) (above n : ℕ) → length l ≤ n → s .N ≤ absent → Linked (s .slots) above l → ((c : ℕ) → 0 < occurrences c l → c < s .N) → listFrom s n (headOr absent l) ≡ l
+list-is : (s : Store) (l : List ℕ) (above n : ℕ) → length l ≤ n → s .site .N ≤ absent → Linked (s .slots) above l → ((c : ℕ) → 0 < occurrences c l → c < s .site .N) → listFrom s n (headOr absent l) ≡ l
 unfolding listFrom occurrences
 list-is s [] above zero h big k b = refl
-list-is s [] above (suc n) h big k b = rw (le-ltb absent (s .N) big)
+list-is s [] above (suc n) h big k b = rw (le-ltb absent (s .site .N) big)
 list-is s (c ∷ l) above zero h big k b = absurd (omega arith)
 list-is s (c ∷ l) above (suc n) h big k b =
     let tail : listFrom s n (slotAt s c .older) ≡ l =
     ap (listFrom s n) (k .1) ∙ list-is s l c n (omega arith) big (k .2) (λ d z. b d (omega (arith, z))) in
-    rw (lt-ltb c (s .N) (b c (omega (arith, hit-same c))), tail)
+    rw (lt-ltb c (s .site .N) (b c (omega (arith, hit-same c))), tail)
 
 module _ {now : ℕ} {s : Store} {olds : List (List ℕ)} {h : List Call} {o : List ℕ} {p : Plain} (I : Inv now s olds h o p) where
-  pub full : s .free ≡ [] → (c : ℕ) → c < s .N → (r : ℕ) × (r < s .V') × (0 < occurrences c (chain (ctx s olds) r))
+  pub full : s .free ≡ [] → (c : ℕ) → c < s .site .N → (r : ℕ) × (r < s .site .V') × (0 < occurrences c (chain (ctx s olds) r))
   unfolding occurrences
   full e c b = go (pend c (s .workers) (s .queue)) refl
     where
-      go : (n : ℕ) → pend c (s .workers) (s .queue) ≡ n → (r : ℕ) × (r < s .V') × (0 < occurrences c (chain (ctx s olds) r))
+      go : (n : ℕ) → pend c (s .workers) (s .queue) ≡ n → (r : ℕ) × (r < s .site .V') × (0 < occurrences c (chain (ctx s olds) r))
       go zero z =
-          let a = times-some (s .newest) c (omega (arith, z, I .once c, ap (occurrences c) e, below-one c (s .N) b)) in
+          let a = times-some (s .newest) c (omega (arith, z, I .once c, ap (occurrences c) e, below-one c (s .site .N) b)) in
           (a .0, omega (arith, a .1, I .newestLength), omega (arith, hit-eq (getD (s .newest) (a .0) absent) c (a .2)))
       go (suc n) z = let a = pend-chain I c (omega (arith, z)) in (a .0, a .1, omega (arith, a .2))
 
-  pub not-full : (f : ℕ) (l : List ℕ) → s .free ≡ f ∷ l → (f < length (s .slots)) × ((r : ℕ) → r < s .V' → occurrences f (chain (ctx s olds) r) ≡ 0)
+  pub not-full : (f : ℕ) (l : List ℕ) → s .free ≡ f ∷ l → (f < length (s .slots)) × ((r : ℕ) → r < s .site .V' → occurrences f (chain (ctx s olds) r) ≡ 0)
   not-full f l e =
       let z : 0 < occurrences f (s .free) = subst (λ (q : List ℕ). 0 < occurrences f q) (sym e) (occurrences-head f l) in
       (free-in I f z, λ r b. omega (arith, z, chain-once I r b f))
 
   -- following the older neighbours from the newest version gives the register's versions
-  pub register-list : (r : ℕ) → r < s .V' → registerList s r ≡ chain (ctx s olds) r
+  pub register-list : (r : ℕ) → r < s .site .V' → registerList s r ≡ chain (ctx s olds) r
   unfolding registerList
   register-list r b =
-      list-is s (chain (ctx s olds) r) absent (s .N)
-      (length-once (s .N) (chain (ctx s olds) r) (λ c. omega (arith, chain-once I r b c)) (λ c z. none-past c z (occurrences c (chain (ctx s olds) r)) refl))
+      list-is s (chain (ctx s olds) r) absent (s .site .N)
+      (length-once (s .site .N) (chain (ctx s olds) r) (λ c. omega (arith, chain-once I r b c)) (λ c z. none-past c z (occurrences c (chain (ctx s olds) r)) refl))
       (I .slotsFew) (I .linked r b) (λ c z. omega (arith, I .slotsLength, chain-in I r b c z))
     where
-      none-past : (c : ℕ) → s .N ≤ c → (n : ℕ) → occurrences c (chain (ctx s olds) r) ≡ n → occurrences c (chain (ctx s olds) r) ≡ 0
+      none-past : (c : ℕ) → s .site .N ≤ c → (n : ℕ) → occurrences c (chain (ctx s olds) r) ≡ n → occurrences c (chain (ctx s olds) r) ≡ 0
       none-past c z zero e = e
       none-past c z (suc n) e = absurd (omega (arith, z, I .slotsLength, chain-in I r b c (omega (arith, e))))
 
@@ -77,9 +77,9 @@ module _ {now : ℕ} {s : Store} {olds : List (List ℕ)} {h : List Call} {o : L
       let a = full e c b in
       (a .0, a .1, subst (λ (l : List ℕ). 0 < occurrences c l) (sym (register-list (a .0) (a .1))) (a .2))
 
-  pub refuses-14 : (batch : ℕ → ℕ) → Refuses14 batch s
+  pub refuses-14 : Refuses14 s
   unfolding stepAt putPublish
-  refuses-14 batch w r x e = go (s .free) refl
+  refuses-14 w r x e = go (s .free) refl
     where
       go : (l : List ℕ) → s .free ≡ l → (putPublish s w r x l .answer ≡ No 14) ↔ EverySlotListed s
       go [] z = (λ y. every-listed z, λ y. refl)
@@ -92,22 +92,22 @@ module _ {now : ℕ} {s : Store} {olds : List (List ℕ)} {h : List Call} {o : L
       )
 
   abbrev Near : ℕ → Type 0
-  Near c = (c ≡ absent) ⊎ (c < s .N)
+  Near c = (c ≡ absent) ⊎ (c < s .site .N)
 
-  near-head : (r : ℕ) → r < s .V' → (l : List ℕ) → ((i : ℕ) → occurrences i l ≤ occurrences i (chain (ctx s olds) r)) → Near (headOr absent l)
+  near-head : (r : ℕ) → r < s .site .V' → (l : List ℕ) → ((i : ℕ) → occurrences i l ≤ occurrences i (chain (ctx s olds) r)) → Near (headOr absent l)
   unfolding occurrences
   near-head r b [] f = inl refl
   near-head r b (d ∷ l) f = inr (omega (arith, I .slotsLength, chain-in I r b d (omega (arith, f d, hit-same d))))
 
   -- every slot's neighbours are slots, or none
-  pub near : (c : ℕ) → c < s .N → Near (nth (s .slots) c .older) × Near (nth (s .slots) c .newer)
+  pub near : (c : ℕ) → c < s .site .N → Near (nth (s .slots) c .older) × Near (nth (s .slots) c .newer)
   unfolding occurrences
   near c b = in-free (occurrences c (s .free)) refl
     where
       in-old : (n : ℕ) → pend c (s .workers) (s .queue) ≡ n → occurrences c (s .free) ≡ 0 → Near (nth (s .slots) c .older) × Near (nth (s .slots) c .newer)
       in-old zero z y =
-          let a = times-some (s .newest) c (omega (arith, z, y, I .once c, below-one c (s .N) b)) in
-          let r : a .0 < s .V' = omega (arith, a .1, I .newestLength) in
+          let a = times-some (s .newest) c (omega (arith, z, y, I .once c, below-one c (s .site .N) b)) in
+          let r : a .0 < s .site .V' = omega (arith, a .1, I .newestLength) in
           let k = I .linked (a .0) r in
           subst (λ (i : ℕ). Near (nth (s .slots) i .older) × Near (nth (s .slots) i .newer)) (a .2)
           (subst Near (sym (k .1)) (near-head (a .0) r (old (ctx s olds) (a .0)) (λ i. omega arith)), inl (k .0))

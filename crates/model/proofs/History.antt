@@ -1,18 +1,20 @@
 -- What a record does to the history and the order: nothing, a begin, an end, or an end that shows something.
 use mathlib.Core.Path.{_≡_, refl, sym, ap, _∙_, subst}
+use mathlib.Core.Bool.{true, false, cond}
 use mathlib.Core.Logic.{_≢_, _⊎_, inl, inr, ⊎-elim}
 use mathlib.Core.List.{List, [], _∷_, _++_, map}
 use mathlib.Core.Option.{Option}
-use Prim.Native.Nat.{ℕ, _+_, _<_}
+use Prim.Native.Nat.{ℕ, suc, _+_, _<_}
 use native.Mathlib.Omega.{arith}
+use lib.Dec.{eqb}
 use lib.ListN.{length, length-append, List·getD-append}
 use lib.Seq.{getD-append-seam}
 use Rattle.model.specs.Store.{Reading}
 use Rattle.model.specs.Answer.{Answer, Ok, Going, Freed, At, Value, Done, No}
 use Rattle.model.specs.Record.{Operation}
-use Rattle.model.specs.Demand.{Ending, Unfinished, RefusedAt, FinishedAt, Call, endAs, endFor, Plain, feed, shows, call₀, occurrences, Stands, Agrees, callAt}
+use Rattle.model.specs.Demand.{Ending, Unfinished, RefusedAt, FinishedAt, Call, endAs, endOnce, endFor, Plain, feed, shows, call₀, occurrences, Stands, Agrees, callAt}
 use Rattle.model.proofs.Basic.{hit-other, lt-cases, eq-cases, occurrences-snoc}
-use Rattle.model.proofs.Linear.{Lin, lin-skip, lin-begin, lin-end, lin-end-agree, ended-length, ended-same, ended-own, ended-other}
+use Rattle.model.proofs.Linear.{Lin, lin-skip, lin-begin, lin-end, lin-end-agree, endOnce-keep, ended-length, ended-same, ended-own, ended-other}
 use Rattle.model.proofs.Invariant.{Running, NoneRunning}
 
 pub record Hist (now w : ℕ) (h : List Call) (o : List ℕ) (p : Plain) (h′ : List Call) (o′ : List ℕ) (p′ : Plain) : Type 0 where
@@ -25,6 +27,20 @@ pub record Hist (now w : ℕ) (h : List Call) (o : List ℕ) (p : Plain) (h′ :
 pub hist-skip : (now w : ℕ) (h : List Call) (o : List ℕ) (p : Plain) → Lin now h o p → Hist (now + 1) w h o p h o p
 hist-skip now w h o p L =
     record { shut = λ v n z. z; running = λ v n k z. (z, refl, refl); linear = lin-skip L; registers = λ r. refl; copy = λ v n. refl }
+
+-- a step record of a worker that performs no operation ends none
+pub ended-none : (now w : ℕ) (a : Answer) (h : List Call) → NoneRunning h w → map (endFor now w a) h ≡ h
+unfolding endFor
+ended-none now w a [] f = refl
+ended-none now w a (c ∷ h) f =
+    rw (ended-none now w a h (λ i z. f (suc i) (omega (arith, z))))
+    (ap (λ (e : Ending). record { operation = c .operation; worker = c .worker; begun = c .begun; ending = e } ∷ h) (⊎-elim own other (eq-cases (c .worker) w)))
+  where
+    own : (c .worker ≡ w) × (eqb (c .worker) w ≡ true) → cond (eqb (c .worker) w) (endOnce (c .ending) (endAs now a)) (c .ending) ≡ c .ending
+    own u = rw (u .1) (endOnce-keep (c .ending) (endAs now a) (f 0 (omega arith) (u .0)))
+
+    other : (c .worker ≢ w) × (eqb (c .worker) w ≡ false) → cond (eqb (c .worker) w) (endOnce (c .ending) (endAs now a)) (c .ending) ≡ c .ending
+    other u = rw (u .1)
 
 module _ (now w : ℕ) (h : List Call) (o : List ℕ) (p : Plain) (L : Lin now h o p) where
   module _ (c : Operation) where

@@ -33,7 +33,7 @@ pub record Ctx : Type 0 where
   pub holders : ℕ
 
 abbrev pub ctx : Store → List (List ℕ) → Ctx
-ctx s olds = record { slots = s .slots; clock = s .clock; newest = s .newest; olds = olds; held = held s; registers = s .V'; holders = holders s }
+ctx s olds = record { slots = s .slots; clock = s .clock; newest = s .newest; olds = olds; held = held s; registers = s .site .V'; holders = holders s }
 
 -- the slot of register r's newest version
 abbrev pub top : Ctx → ℕ → ℕ
@@ -187,28 +187,30 @@ pub record Works (x : Ctx) (h : List Call) (o : List ℕ) (p : Plain) (w : ℕ) 
 
 pub record Inv (now : ℕ) (s : Store) (olds : List (List ℕ)) (h : List Call) (o : List ℕ) (p : Plain) : Type 0 where
   -- shapes
-  pub workersLength : length (s .workers) ≡ s .P
-  pub newestLength : length (s .newest) ≡ s .V'
-  pub slotsLength : length (s .slots) ≡ s .N
-  pub oldsLength : length olds ≡ s .V'
-  pub slotsFew : s .N ≤ absent
+  pub workersLength : length (s .workers) ≡ s .site .P
+  pub newestLength : length (s .newest) ≡ s .site .V'
+  pub slotsLength : length (s .slots) ≡ s .site .N
+  pub oldsLength : length olds ≡ s .site .V'
+  pub slotsFew : s .site .N ≤ absent
   pub clockFits : s .clock < absent
   -- every slot is in just one place: pending, free, or a register's newest version
-  pub once : (c : ℕ) → pend c (s .workers) (s .queue) + (occurrences c (s .free) + occurrences c (s .newest)) ≡ below c (s .N)
+  pub once : (c : ℕ) → pend c (s .workers) (s .queue) + (occurrences c (s .free) + occurrences c (s .newest)) ≡ below c (s .site .N)
   -- a free slot has no neighbours
   pub freeAlone : (c : ℕ) → 0 < occurrences c (s .free) → (nth (s .slots) c .older ≡ absent) × (nth (s .slots) c .newer ≡ absent)
   -- the pending versions are those below the newest of some register, each once
   pub pendingOld : (c : ℕ) → sumBy (occurrences c) olds ≡ pend c (s .workers) (s .queue)
   -- each register's versions are a doubly linked list
-  pub linked : (r : ℕ) → r < s .V' → Linked (s .slots) absent (chain (ctx s olds) r)
+  pub linked : (r : ℕ) → r < s .site .V' → Linked (s .slots) absent (chain (ctx s olds) r)
   -- The newest version's high is open. It is stamped and has the plain register's value; or it is not, and then the next older one has that
   -- value and an open high. All others have low and high.
-  pub stamps : (r : ℕ) → r < s .V' → Fine (s .slots) (s .clock) (p .registers r) (chain (ctx s olds) r)
+  pub stamps : (r : ℕ) → r < s .site .V' → Fine (s .slots) (s .clock) (p .registers r) (chain (ctx s olds) r)
   -- the ranges of the queued pools
   pub queue : All (All (Good (ctx s olds))) (s .queue)
-  pub workers : (w : ℕ) → w < s .P → Works (ctx s olds) h o p w (workerAt s w)
+  pub workers : (w : ℕ) → w < s .site .P → Works (ctx s olds) h o p w (workerAt s w)
   -- an unstamped newest version belongs to a put that is at its second step
-  pub stamper : (r : ℕ) → r < s .V' → nth (s .slots) (newestOf s r) .low ≡ absent
-      → (w : ℕ) × (w < s .P) × (c : ℕ) × (workerAt s w .doing ≡ PutStamp r c) × (nth (s .slots) c .high ≡ absent)
+  pub stamper : (r : ℕ) → r < s .site .V' → nth (s .slots) (newestOf s r) .low ≡ absent
+      → (w : ℕ) × (w < s .site .P) × (c : ℕ) × (workerAt s w .doing ≡ PutStamp r c) × (nth (s .slots) c .high ≡ absent)
+  -- only the hub's workers perform calls
+  pub outside : (w : ℕ) → s .site .P ≤ w → NoneRunning h w
   -- the calls' order so far is one, and has led to the plain registers p
   pub linear : Lin now h o p

@@ -187,7 +187,7 @@ module _ {now : ℕ} {h : List Call} {o : List ℕ} {p : Plain} (L : Lin now h o
           let q : occurrences i (o ++ (k ∷ [])) ≡ occurrences i o = omega (arith, occurrences-snoc i o k, hit-other k i (e .0)) in
           rw q (L .isOrder .stands i y)
 
-endOnce-keep : (e x : Ending) → (e ≡ Unfinished → ⊥) → endOnce e x ≡ e
+pub endOnce-keep : (e x : Ending) → (e ≡ Unfinished → ⊥) → endOnce e x ≡ e
 unfolding endOnce
 endOnce-keep Unfinished x f = absurd (f refl)
 endOnce-keep (RefusedAt i) x f = refl

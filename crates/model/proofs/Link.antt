@@ -7,7 +7,7 @@ use native.Mathlib.Nat.{not-suc-le-zero, le-of-suc-le-suc}
 use native.Mathlib.Omega.{arith}
 use lib.ListN.{length, getD, set, length-set}
 use lib.Seq.{getD-set-same, getD-set-other}
-use Rattle.model.specs.Store.{absent, Reading, Slot, Range, PutPublish, PutStamp, Worker, startWorker, Store, workerAt, newestOf, withDoing, place}
+use Rattle.model.specs.Store.{absent, Reading, Slot, Range, PutPublish, PutStamp, Worker, startWorker, Store, workerAt, newestOf, withDoing, place, withSlots, withNewest, withFree}
 use Rattle.model.specs.Versions.{linkSlots}
 use Rattle.model.specs.Demand.{Call, Plain, occurrences, All, callAt}
 use Rattle.model.specs.Reached.{sumBy}
@@ -33,8 +33,8 @@ unfolding sumBy
 All-queue [] f t = tt
 All-queue (m ∷ q) f t = (All-cnt m (λ ρ z. f ρ (omega (arith, z))) (t .0), All-queue q (λ ρ z. f ρ (omega (arith, z))) (t .1))
 
-module _ (now : ℕ) (s : Store) (olds : List (List ℕ)) (h : List Call) (o : List ℕ) (p : Plain) (I : Inv now s olds h o p) (w : ℕ) (wb : w < s .P)
-    (r : ℕ) (b : r < s .V') (y : Reading) (e : workerAt s w .doing ≡ PutPublish r y) (st : nth (s .slots) (newestOf s r) .low ≤ s .clock)
+module _ (now : ℕ) (s : Store) (olds : List (List ℕ)) (h : List Call) (o : List ℕ) (p : Plain) (I : Inv now s olds h o p) (w : ℕ) (wb : w < s .site .P)
+    (r : ℕ) (b : r < s .site .V') (y : Reading) (e : workerAt s w .doing ≡ PutPublish r y) (st : nth (s .slots) (newestOf s r) .low ≤ s .clock)
     (f : ℕ) (fs : List ℕ) (fr : s .free ≡ f ∷ fs) where
   abbrev n : ℕ
   n = newestOf s r
@@ -56,20 +56,7 @@ module _ (now : ℕ) (s : Store) (olds : List (List ℕ)) (h : List Call) (o : L
 
   abbrev pub linked-store : Store
   linked-store =
-      place
-      (record {
-        P = s .P;
-        V' = s .V';
-        N = s .N;
-        clock = s .clock;
-        slots = sl′;
-        newest = set (s .newest) r f;
-        free = fs;
-        queue = s .queue;
-        workers = s .workers;
-      })
-      w
-      (PutStamp r n)
+      place (withFree (withNewest (withSlots s sl′) (set (s .newest) r f)) fs) w (PutStamp r n)
 
   abbrev olds′ : List (List ℕ)
   olds′ = set olds r (n ∷ old x r)
@@ -113,15 +100,15 @@ module _ (now : ℕ) (s : Store) (olds : List (List ℕ)) (h : List Call) (o : L
   f-in = free-in I f f-free
 
   f-pend : pend f (s .workers) (s .queue) ≡ 0
-  f-pend = omega (arith, I .once f, below≤1 f (s .N), f-free)
+  f-pend = omega (arith, I .once f, below≤1 f (s .site .N), f-free)
 
-  chain-f : (q : ℕ) → q < s .V' → (i : ℕ) → 0 < occurrences i (chain x q) → i ≢ f
+  chain-f : (q : ℕ) → q < s .site .V' → (i : ℕ) → 0 < occurrences i (chain x q) → i ≢ f
   chain-f q d i z u = omega (arith, chain-once I q d f, f-free, subst (λ (j : ℕ). 0 < occurrences j (chain x q)) u z)
 
   pend-f : (i : ℕ) → 0 < pend i (s .workers) (s .queue) → i ≢ f
   pend-f i z u = omega (arith, f-pend, subst (λ (j : ℕ). 0 < pend j (s .workers) (s .queue)) u z)
 
-  pub work-f : (v : ℕ) → v < s .P → (i : ℕ) → 0 < pendW i (workerAt s v) → i ≢ f
+  pub work-f : (v : ℕ) → v < s .site .P → (i : ℕ) → 0 < pendW i (workerAt s v) → i ≢ f
   work-f v vb i z = pend-f i (omega (arith, z, sumBy-one (pendW i) (s .workers) v startWorker (omega (arith, I .workersLength))))
 
   lows : (i : ℕ) → i ≢ f → nth sl′ i .low ≡ nth sl i .low
@@ -150,12 +137,12 @@ module _ (now : ℕ) (s : Store) (olds : List (List ℕ)) (h : List Call) (o : L
   good : (ρ : Range) → ρ .slot ≢ f → Good x ρ → Good x′ ρ
   good ρ z g = (g .0 ∙ sym (lows (ρ .slot) z), g .1 ∙ sym (highs (ρ .slot) z), g .2, g .3)
 
-  mono : (a q : ℕ) → q < s .V' → (i : ℕ) → 0 < occurrences i (chain x q) → (nth sl i .low ≤ a → nth sl′ i .low ≤ a) × (a < nth sl i .low → a < nth sl′ i .low) × (a < nth sl i .high → a < nth sl′ i .high) × (nth sl′ i .value ≡ nth sl i .value)
+  mono : (a q : ℕ) → q < s .site .V' → (i : ℕ) → 0 < occurrences i (chain x q) → (nth sl i .low ≤ a → nth sl′ i .low ≤ a) × (a < nth sl i .low → a < nth sl′ i .low) × (a < nth sl i .high → a < nth sl′ i .high) × (nth sl′ i .value ≡ nth sl i .value)
   mono a q d i z =
       let k = chain-f q d i z in
       ((λ u. omega (arith, lows i k)), (λ u. omega (arith, lows i k)), (λ u. omega (arith, highs i k)), values i k)
 
-  sees : (a : ℕ) (v : Reading) (q : ℕ) → q < s .V' → a < ck → Sees sl a v (chain x q) → Sees sl′ a v (chain x′ q)
+  sees : (a : ℕ) (v : Reading) (q : ℕ) → q < s .site .V' → a < ck → Sees sl a v (chain x q) → Sees sl′ a v (chain x′ q)
   sees a v q d z g =
       let k : Sees sl′ a v (chain x q) = Sees-mono sl sl′ a v (chain x q) (mono a q d) g in
       ⊎-elim
@@ -163,7 +150,7 @@ module _ (now : ℕ) (s : Store) (olds : List (List ℕ)) (h : List Call) (o : L
       (λ u. subst (Sees sl′ a v) (sym (chain-other q (u .0))) k)
       (eq-cases q r)
 
-  ons : (a c : ℕ) (v : Reading) (q : ℕ) → q < s .V' → a < ck → On sl a c v (chain x q) → On sl′ a c v (chain x′ q)
+  ons : (a c : ℕ) (v : Reading) (q : ℕ) → q < s .site .V' → a < ck → On sl a c v (chain x q) → On sl′ a c v (chain x′ q)
   ons a c v q d z g =
       let k : On sl′ a c v (chain x q) = On-mono sl sl′ a c v (chain x q) (mono a q d) g in
       ⊎-elim
@@ -171,7 +158,7 @@ module _ (now : ℕ) (s : Store) (olds : List (List ℕ)) (h : List Call) (o : L
       (λ u. subst (On sl′ a c v) (sym (chain-other q (u .0))) k)
       (eq-cases q r)
 
-  linked : (q : ℕ) → q < s .V' → Linked sl′ absent (chain x′ q)
+  linked : (q : ℕ) → q < s .site .V' → Linked sl′ absent (chain x′ q)
   unfolding occurrences
   linked q d =
       ⊎-elim
@@ -187,7 +174,7 @@ module _ (now : ℕ) (s : Store) (olds : List (List ℕ)) (h : List Call) (o : L
       (I .linked q d)))
       (eq-cases q r)
 
-  fine : (q : ℕ) → q < s .V' → Fine sl′ ck (p .registers q) (chain x′ q)
+  fine : (q : ℕ) → q < s .site .V' → Fine sl′ ck (p .registers q) (chain x′ q)
   unfolding occurrences
   fine q d =
       ⊎-elim
@@ -225,7 +212,7 @@ module _ (now : ℕ) (s : Store) (olds : List (List ℕ)) (h : List Call) (o : L
       (λ u. ap (λ (z : Worker). z .announced) (at-other v (u .0)))
       (eq-cases v w)
 
-  other : (v : ℕ) → v < s .P → v ≢ w → Works x′ h o p v (workerAt s v)
+  other : (v : ℕ) → v < s .site .P → v ≢ w → Works x′ h o p v (workerAt s v)
   other v vb vw =
       record {
         pool = All-cnt (workerAt s v .pool) (λ ρ z. good ρ (work-f v vb (ρ .slot) (omega (arith, z)))) (Z .pool);
@@ -287,7 +274,7 @@ module _ (now : ℕ) (s : Store) (olds : List (List ℕ)) (h : List Call) (o : L
 
   alone : (i : ℕ) → 0 < occurrences i fs → (nth sl′ i .older ≡ absent) × (nth sl′ i .newer ≡ absent)
   alone i z =
-      let i≢f : i ≢ f = λ u. omega (arith, I .once f, below≤1 f (s .N), free-times f, hit-same f, subst (λ (j : ℕ). 0 < occurrences j fs) u z) in
+      let i≢f : i ≢ f = λ u. omega (arith, I .once f, below≤1 f (s .site .N), free-times f, hit-same f, subst (λ (j : ℕ). 0 < occurrences j fs) u z) in
       let i≢n : i ≢ n = λ u. omega (arith, chain-once I r b n, n-chain, free-times n, subst (λ (j : ℕ). 0 < occurrences j fs) u z) in
       let a = I .freeAlone i (omega (arith, z, free-times i)) in
       (link-part sl n f y (λ v. v .older) (λ v k. refl) i i≢f ∙ a .0, link-newer-other sl n f y i i≢f i≢n ∙ a .1)
@@ -315,7 +302,7 @@ module _ (now : ℕ) (s : Store) (olds : List (List ℕ)) (h : List Call) (o : L
               workers = λ v vb. ⊎-elim (λ u. subst (λ (i : ℕ). Works x′ h o p i (workerAt linked-store i)) (sym (u .0)) (subst (Works x′ h o p w) (sym at-own) own)) (λ u. subst (Works x′ h o p v) (sym (at-other v (u .0))) (other v vb (u .0))) (eq-cases v w);
               stamper = λ q d z.
                   ⊎-elim
-                  (λ u. subst (λ (j : ℕ). (v : ℕ) × (v < s .P) × (c : ℕ) × (workerAt linked-store v .doing ≡ PutStamp j c) × (nth sl′ c .high ≡ absent)) (sym (u .0))
+                  (λ u. subst (λ (j : ℕ). (v : ℕ) × (v < s .site .P) × (c : ℕ) × (workerAt linked-store v .doing ≡ PutStamp j c) × (nth sl′ c .high ≡ absent)) (sym (u .0))
                   (w, wb, n, ap (λ (i : Worker). i .doing) at-own, highs n n≢f ∙ I .stamps r b .0))
                   (λ u.
                   let k : nth sl (top x q) .low ≡ absent = sym (lows (top x q) (chain-f q d (top x q) (omega (arith, hit-same (top x q))))) ∙ ap (λ (j : ℕ). nth sl′ j .low) (sym (top-other q (u .0))) ∙ z in
@@ -328,6 +315,7 @@ module _ (now : ℕ) (s : Store) (olds : List (List ℕ)) (h : List Call) (o : L
                     highs (a .2) (chain-f q d (a .2) (omega (arith, g .2))) ∙ a .4,
                   ))
                   (eq-cases q r);
+              outside = I .outside;
               linear = lin-skip (I .linear);
             };
       }

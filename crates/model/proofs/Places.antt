@@ -2,13 +2,13 @@
 use mathlib.Core.Path.{_≡_, refl, sym, ap, _∙_, subst}
 use mathlib.Core.Bool.{Bool, true, false, not, true≢false}
 use mathlib.Core.Logic.{_≢_, _⊎_, inl, inr, ⊎-elim}
-use mathlib.Core.List.{List, [], _∷_, _++_, map}
+use mathlib.Core.List.{List, [], _∷_, _++_, map, append-nil}
 use mathlib.Core.Option.{Option}
 use Prim.Native.Nat.{ℕ, zero, suc, _+_, _-_, _≤_, _<_}
 use native.Mathlib.Omega.{arith}
 use native.Mathlib.Nat.{not-suc-le-zero}
 use lib.Dec.{ltb}
-use lib.ListN.{length, getD, drop, length-append, List·getD-append}
+use lib.ListN.{length, getD, drop, length-append}
 use borrow.Author.Tests as Tests
 use Rattle.model.specs.Store.{absent, Reading, Slot, Range, Doing, Idle, PutPublish, PutStamp, PutHandIn, FlushTake, FlushRead, FlushFree, OpenAnnounce, OpenPass, ReadEnter, ReadStand, CloseWithdraw, GetShow, Worker, Store, workerAt, slotAt, newestOf, holders, held, rangeOf, withQueue, withWorker, withDoing, place}
 use Rattle.model.specs.Answer.{Done, No}
@@ -18,15 +18,15 @@ use Rattle.model.specs.Record.{Operation, Put, Open, Read, Close, Get, C
 use Rattle.model.specs.Apply.{firstPlace, registerBelow, mayOpen, mayUseTime}
 use Rattle.model.specs.Demand.{Ending, Unfinished, FinishedAt, Call, endAs, endFor, Plain, feed, inCopy, shows, atEnd, finishes, endEffects, occurrences, All, Stands, Agrees, callAt}
 use Rattle.model.specs.Reached.{sumBy}
-use Rattle.model.proofs.Basic.{hit-other, lt-cases, eq-cases, All-append, All-get, All-map, app-nil, getD-right, occurrences-append, occurrences-at}
+use Rattle.model.proofs.Basic.{lt-cases, All-append, All-get, All-map, All-take, All-drop, occurrences-append, occurrences-at}
 use Rattle.model.proofs.Linear.{agrees-refused, answerFor-end, answerFor-finishes}
 use Rattle.model.proofs.Slots.{nth}
-use Rattle.model.proofs.Chain.{On-found, On-on, Fine, Past, Next}
-use Rattle.model.proofs.Count.{cnt, sumBy-append, cnt-append, cnt-merge, cnt-split, cnt-queued, cnt-firstTwo, cnt-sent, All-merge, All-keep, All-queued, All-firstTwo, All-rest, All-toQueue, All-toLocal, All-kept, not-needed}
+use Rattle.model.proofs.Chain.{On-found, On-on, Fine, Past}
+use Rattle.model.proofs.Count.{cnt, sumBy-append, cnt-append, cnt-merge, cnt-split, cnt-queued, cnt-firstTwo, cnt-sent, All-merge, All-keep, firstTwo-has, pools-have, joining-has, queued-has, All-kept, not-needed}
 use Rattle.model.proofs.Invariant.{Ctx, ctx, old, chain, inDoing, pendW, Good, Settled, Asked, Spared, PlaceHolds, Running, NoneRunning, IsPut, Fits, Busy, Current, Works, Inv}
 use Rattle.model.proofs.Effect.{own-not, own-is}
 use Rattle.model.proofs.Transport.{asked, spared}
-use Rattle.model.proofs.Stamp.{put-at-other}
+use Rattle.model.proofs.Stamp.{put-at-other, next-open, next-low, next-high}
 use Rattle.model.proofs.History.{Hist, hist-skip, hist-begin, begin-running, begin-call, begin-not, hist-end, hist-show, end-shut}
 use Rattle.model.proofs.Work.{work-inv, after-times}
 
@@ -38,28 +38,18 @@ pub record Kept (now : ℕ) (s : Store) (h : List Call) (o : List ℕ) : Type 0 
 
 -- with what the order's definition adds
 pub none-more : {now : ℕ} {s : Store} {h : List Call} (o e : List ℕ) → e ≡ [] → Kept now s h o → Kept now s h (o ++ e)
-none-more {now} {s} {h} o e z K = subst (λ (q : List ℕ). Kept now s h (o ++ q)) (sym z) (subst (Kept now s h) (sym (app-nil o)) K)
+none-more {now} {s} {h} o e z K = subst (λ (q : List ℕ). Kept now s h (o ++ q)) (sym z) (subst (Kept now s h) (sym (append-nil o)) K)
 
 pub one-more : {now : ℕ} {s : Store} {h : List Call} (o e : List ℕ) (k : ℕ) → e ≡ k ∷ [] → Kept now s h (o ++ (k ∷ [])) → Kept now s h (o ++ e)
 one-more {now} {s} {h} o e k z K = subst (λ (q : List ℕ). Kept now s h (o ++ q)) (sym z) K
 
 pub fine-low : (s : List Slot) (t : ℕ) (x : Reading) (n c : ℕ) (l : List ℕ) → Fine s t x (n ∷ l) → 0 < occurrences c l → nth s c .low ≤ t
-unfolding occurrences
-fine-low s t x n c l f z = ⊎-elim (λ u. All-get (Past s t) l (u .2) c z .0) (λ u. next l (u .1) z) (f .1)
-  where
-    next : (m : List ℕ) → Next s t x m → 0 < occurrences c m → nth s c .low ≤ t
-    next [] a y = absurd a
-    next (d ∷ m) a y =
-        ⊎-elim (λ u. subst (λ (i : ℕ). nth s i .low ≤ t) (u .0) (a .0)) (λ u. All-get (Past s t) m (a .3) c (omega (arith, y, hit-other d c (u .0))) .0) (eq-cases d c)
+fine-low s t x n c l f z = ⊎-elim (λ u. All-get (Past s t) l (u .2) c z .0) (λ u. next-low s t x c l (u .1) z) (f .1)
 
 pub fine-high : (s : List Slot) (t : ℕ) (x : Reading) (n c : ℕ) (l : List ℕ) → Fine s t x (n ∷ l) → 0 < occurrences c l → nth s c .high ≢ absent → nth s c .high ≤ t
-unfolding occurrences
-fine-high s t x n c l f z e = ⊎-elim (λ u. All-get (Past s t) l (u .2) c z .1) (λ u. next l (u .1) z) (f .1)
-  where
-    next : (m : List ℕ) → Next s t x m → 0 < occurrences c m → nth s c .high ≤ t
-    next [] a y = absurd a
-    next (d ∷ m) a y =
-        ⊎-elim (λ u. absurd (e (ap (λ (i : ℕ). nth s i .high) (sym (u .0)) ∙ a .1))) (λ u. All-get (Past s t) m (a .3) c (omega (arith, y, hit-other d c (u .0))) .1) (eq-cases d c)
+fine-high s t x n c l f z e =
+    ⊎-elim (λ u. All-get (Past s t) l (u .2) c z .1)
+    (λ u. next-high s t x c l (u .1) z (λ v. e (ap (λ (i : ℕ). nth s i .high) (sym v) ∙ next-open s t x l (u .1)))) (f .1)
 
 -- a flush's step reads the next holders' times
 abbrev Reads : Store → ℕ → Type 0
@@ -73,7 +63,7 @@ reads s k b = (omega arith, go)
     go zero z = ap (held s) (let e : k ≡ k + 0 = omega arith in e)
     go (suc i) z = absurd (omega (arith, z))
 
-module _ (now : ℕ) (s : Store) (olds : List (List ℕ)) (h : List Call) (o : List ℕ) (p : Plain) (I : Inv now s olds h o p) (w : ℕ) (wb : w < s .P) where
+module _ (now : ℕ) (s : Store) (olds : List (List ℕ)) (h : List Call) (o : List ℕ) (p : Plain) (I : Inv now s olds h o p) (w : ℕ) (wb : w < s .site .P) where
   abbrev x : Ctx
   x = ctx s olds
 
@@ -136,7 +126,7 @@ module _ (now : ℕ) (s : Store) (olds : List (List ℕ)) (h : List Call) (o : L
   has-time : ltb t absent ≡ true → Settled x t → t < s .clock
   has-time e = ⊎-elim (λ u. absurd (omega (arith, u, Tests.ltb-true t absent e))) (λ u. u)
 
-  pub begin-kept : (c : Operation) → workerAt s w .doing ≡ Idle → registerBelow (s .V') c ≡ true → mayOpen c (ltb t absent) ≡ true → mayUseTime c (ltb t absent) ≡ true
+  pub begin-kept : (c : Operation) → workerAt s w .doing ≡ Idle → registerBelow (s .site .V') c ≡ true → mayOpen c (ltb t absent) ≡ true → mayUseTime c (ltb t absent) ≡ true
       → Kept now (place s w (firstPlace c)) (h ++ (record { operation = c; worker = w; begun = now; ending = Unfinished } ∷ [])) o
   unfolding firstPlace registerBelow mayOpen mayUseTime
   begin-kept c e rg fresh has = go c rg (ltb t absent) refl fresh has
@@ -160,18 +150,18 @@ module _ (now : ℕ) (s : Store) (olds : List (List ℕ)) (h : List Call) (o : L
                 (subst (Fits (ctx (to d) olds) t c d) (sym (begin-not now w h o p (I .linear) c)) ft),
           ))
 
-      go : (c : Operation) → registerBelow (s .V') c ≡ true → (b : Bool) → ltb t absent ≡ b → mayOpen c b ≡ true → mayUseTime c b ≡ true → Kept now (place s w (firstPlace c)) (h ++ (record { operation = c; worker = w; begun = now; ending = Unfinished } ∷ [])) o
-      go (Put r y) rg b eb fresh has = begun (Put r y) (PutPublish r y) (λ i. refl) (Tests.ltb-true r (s .V') rg, st) (λ a. a) (refl, refl)
+      go : (c : Operation) → registerBelow (s .site .V') c ≡ true → (b : Bool) → ltb t absent ≡ b → mayOpen c b ≡ true → mayUseTime c b ≡ true → Kept now (place s w (firstPlace c)) (h ++ (record { operation = c; worker = w; begun = now; ending = Unfinished } ∷ [])) o
+      go (Put r y) rg b eb fresh has = begun (Put r y) (PutPublish r y) (λ i. refl) (Tests.ltb-true r (s .site .V') rg, st) (λ a. a) (refl, refl)
       go Open rg true eb fresh has = absurd (true≢false (sym fresh))
       go Open rg false eb fresh has =
           begun Open OpenAnnounce (λ i. refl)
           (⊎-elim (λ u. u) (λ u. absurd (omega (arith, u, I .clockFits, Tests.ltb-false t absent eb))) st)
           (λ a. a) (refl, refl)
-      go (Read r) rg true eb fresh has = begun (Read r) (ReadEnter r) (λ i. refl) (Tests.ltb-true r (s .V') rg, has-time eb st) (λ a. a) (refl, refl)
+      go (Read r) rg true eb fresh has = begun (Read r) (ReadEnter r) (λ i. refl) (Tests.ltb-true r (s .site .V') rg, has-time eb st) (λ a. a) (refl, refl)
       go (Read r) rg false eb fresh has = absurd (true≢false (sym has))
       go Close rg true eb fresh has = begun Close CloseWithdraw (λ i. refl) (has-time eb st) (λ a. a) (refl, refl)
       go Close rg false eb fresh has = absurd (true≢false (sym has))
-      go (Get r) rg b eb fresh has = begun (Get r) (GetShow r) (λ i. refl) (Tests.ltb-true r (s .V') rg, st) (λ a. a) (refl, refl)
+      go (Get r) rg b eb fresh has = begun (Get r) (GetShow r) (λ i. refl) (Tests.ltb-true r (s .site .V') rg, st) (λ a. a) (refl, refl)
       go Collect rg b eb fresh has = begun Collect FlushTake (λ i. refl) st (λ a. a) (inr (refl, refl))
 
   ------------------------------------------------------------------------
@@ -282,17 +272,19 @@ module _ (now : ℕ) (s : Store) (olds : List (List ℕ)) (h : List Call) (o : L
   pub take-kept : workerAt s w .doing ≡ FlushTake → Kept now (withQueue (to (FlushRead (firstTwo (s .queue)) [])) (drop 2 (s .queue))) h o
   take-kept e =
       let a = cur-is FlushTake e in
+      let good : All (Good x) (firstTwo (s .queue)) = firstTwo-has (All (Good x)) tt (All-merge (Good x)) (s .queue) (I .queue) in
       record {
         olds = olds;
         p = p;
         inv =
             work-inv now s olds h o p I w wb (withDoing (workerAt s w) (FlushRead (firstTwo (s .queue)) [])) (drop 2 (s .queue)) (now + 1) h o p
-            (λ c. omega (arith, cnt-firstTwo c (s .queue), ap (inDoing c) e)) (All-rest (Good x) (s .queue) (I .queue)) (inl refl) (calm FlushTake tt e) skip
+            (λ c. omega (arith, cnt-firstTwo c (s .queue), ap (inDoing c) e)) (All-drop (All (Good x)) 2 (s .queue) (I .queue))
+            (inl refl) (calm FlushTake tt e) skip
             (record {
               pool = I .workers w wb .pool;
               announced = I .workers w wb .announced;
               snapshot = I .workers w wb .snapshot;
-              doing = (doing-is FlushTake e, All-firstTwo (Good x) (s .queue) (I .queue), omega arith, All-map (λ ρ g v z. absurd (not-suc-le-zero z)) (firstTwo (s .queue)) (All-firstTwo (Good x) (s .queue) (I .queue)));
+              doing = (doing-is FlushTake e, good, omega arith, All-map (λ ρ g v z. absurd (not-suc-le-zero z)) (firstTwo (s .queue)) good);
               current = (a .0, a .1, a .2);
             });
       }
@@ -375,8 +367,10 @@ module _ (now : ℕ) (s : Store) (olds : List (List ℕ)) (h : List Call) (o : L
                 ap (inDoing c) e,
               ))
               (All-append (All (Good x)) (s .queue ++ neededPools b stay) _
-              (All-append (All (Good x)) (s .queue) _ (I .queue) (All-toQueue (Good x) b stay gs))
-              (All-queued (Good x) _ (All-merge (Good x) (workerAt s w .pool) (joining b stay) (I .workers w wb .pool) (All-toLocal (Good x) b stay gs))))
+              (All-append (All (Good x)) (s .queue) _ (I .queue)
+              (pools-have (All (Good x)) b stay (λ n. All-take (Good x) n stay gs) (λ n. All-drop (Good x) n stay gs) gs))
+              (queued-has (All (Good x)) _
+              (All-merge (Good x) (workerAt s w .pool) (joining b stay) (I .workers w wb .pool) (joining-has (All (Good x)) b stay tt gs))))
               (inl refl) (calm (FlushRead m ts) tt e) skip
               (record {
                 pool = tt;

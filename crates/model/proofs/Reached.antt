@@ -7,210 +7,215 @@ use native.Mathlib.Omega.{arith}
 use lib.Dec.{ltb, leb, eqb}
 use lib.ListN.{length, replicate}
 use borrow.Author.Tests as Tests
-use Rattle.model.specs.Store.{absent, lastClock, Reading, Slot, Range, Doing, Idle, PutPublish, PutStamp, PutHandIn, FlushTake, FlushRead, FlushFree, OpenAnnounce, OpenPass, ReadEnter, ReadStand, CloseWithdraw, GetShow, startWorker, Store, Hub, blank, up, workerAt, slotAt, place}
+use Rattle.model.specs.Store.{absent, lastClock, Reading, Slot, Range, Doing, Idle, PutPublish, PutStamp, PutHandIn, FlushTake, FlushRead, FlushFree, OpenAnnounce, OpenPass, ReadEnter, ReadStand, CloseWithdraw, GetShow, startWorker, Site, Store, Hub, blank, up, workerAt, slotAt, place}
+use Rattle.model.specs.Rules.{Rules, Allowed, Ruled}
 use Rattle.model.specs.Answer.{Ok, Stepped, Applied}
 use Rattle.model.specs.Versions.{stamp}
 use Rattle.model.specs.Steps.{putPublish, putStamp, putHandIn, flushTake, flushSplit, flushRead, flushFree, openAnnounce, openPass, readEnter, readStand, getShow, closeWithdraw, stepAt}
 use Rattle.model.specs.Record.{SetUp, Begin, Step, Decoded, Asks, Refuses, decode}
-use Rattle.model.specs.Apply.{refuse, fresh, setUp, registerBelow, isIdle, mayOpen, mayUseTime, firstPlace, begin, step, obey, applyDecoded, apply}
-use Rattle.model.specs.Demand.{Call, Plain, plain₀, Event, events, observe, effects, All}
-use Rattle.model.specs.Reached.{sumBy, inHand, Bounds, SoundHub, BatchSizes, Sound}
+use Rattle.model.specs.Apply.{refuse, fresh, setUp, registerBelow, isIdle, mayOpen, mayUseTime, firstPlace, begin, step, obey, applyDecoded, apply, applyRuled}
+use Rattle.model.specs.Demand.{Call, Plain, plain₀, events, observe, effects, All}
+use Rattle.model.specs.Reached.{sumBy, inHand, Bounds, SoundHub, Throughout, Sound}
 use Rattle.model.specs.Figure.{HandByHigh, WorkerByHigh, StoreByHigh, FigureHub, AsPublished}
-use Rattle.model.proofs.Basic.{cond-both, All-map}
+use Rattle.model.proofs.Basic.{cond-both, All-map, All-nth, up-inj}
 use Rattle.model.proofs.Invariant.{Inv}
 use Rattle.model.proofs.Record.{Holds, apply-holds, idle-is}
 use Rattle.model.proofs.Setup.{Accepted, accepts, accepted-inv}
-use Rattle.model.proofs.Bounds.{Sized, Within, Fit, FitW, All-nth, step-within, begin-within}
+use Rattle.model.proofs.Bounds.{Sized, Within, Fit, FitW, step-within, begin-within}
 use Rattle.model.proofs.Total.{total}
 use Rattle.model.proofs.Full.{refuses-14}
 use Rattle.model.proofs.ByHigh.{step-byHigh, begin-byHigh, start-byHigh}
 use Rattle.model.proofs.Figure.{split-is-figure}
 
 ------------------------------------------------------------------------
--- P, V and N never change
+-- The site never changes
 
-abbrev SameSizes : Store → Store → Type 0
-SameSizes s t = (t .P ≡ s .P) × (t .V' ≡ s .V') × (t .N ≡ s .N)
+abbrev SameSite : Store → Store → Type 0
+SameSite s t = t .site ≡ s .site
 
-put-sizes : (s : Store) (w r : ℕ) (x : Reading) (l : List ℕ) → SameSizes s (putPublish s w r x l .store)
+put-site : (s : Store) (w r : ℕ) (x : Reading) (l : List ℕ) → SameSite s (putPublish s w r x l .store)
 unfolding putPublish stamp
-put-sizes s w r x [] = (refl, refl, refl)
-put-sizes s w r x (f ∷ l) = (refl, refl, refl)
+put-site s w r x [] = refl
+put-site s w r x (f ∷ l) = refl
 
-free-sizes : (s : Store) (w : ℕ) (m : List Range) → SameSizes s (flushFree s w m .store)
+free-site : (s : Store) (w : ℕ) (m : List Range) → SameSite s (flushFree s w m .store)
 unfolding flushFree
-free-sizes s w [] = (refl, refl, refl)
-free-sizes s w (ρ ∷ m) = (refl, refl, refl)
+free-site s w [] = refl
+free-site s w (ρ ∷ m) = refl
 
-step-sizes : (batch : ℕ → ℕ) (s : Store) (w : ℕ) (d : Doing) → SameSizes s (stepAt batch s w d .store)
+pub step-site : (s : Store) (w : ℕ) (d : Doing) → SameSite s (stepAt s w d .store)
 unfolding stepAt putStamp putHandIn flushTake flushRead flushSplit openAnnounce openPass readEnter readStand getShow closeWithdraw stamp
-step-sizes batch s w Idle = (refl, refl, refl)
-step-sizes batch s w (PutPublish r x) = put-sizes s w r x (s .free)
-step-sizes batch s w (PutStamp r c) =
-    cond-both (SameSizes s) (eqb (slotAt s c .high) absent) (stamp s r) s (λ u. (refl, refl, refl)) (λ u. (refl, refl, refl))
-step-sizes batch s w (PutHandIn r c) = (refl, refl, refl)
-step-sizes batch s w FlushTake = (refl, refl, refl)
-step-sizes batch s w (FlushRead m ts) =
-    cond-both (λ (q : Stepped). SameSizes s (q .store)) (ltb (length ts) (s .P)) _ _ (λ u. (refl, refl, refl)) (λ u. (refl, refl, refl))
-step-sizes batch s w (FlushFree m) = free-sizes s w m
-step-sizes batch s w OpenAnnounce =
-    cond-both (λ (q : Stepped). SameSizes s (q .store)) (eqb (s .clock) lastClock) _ _ (λ u. (refl, refl, refl)) (λ u. (refl, refl, refl))
-step-sizes batch s w OpenPass = (refl, refl, refl)
-step-sizes batch s w (ReadEnter r) = (refl, refl, refl)
-step-sizes batch s w (ReadStand r c) =
-    cond-both (λ (q : Stepped). SameSizes s (q .store)) (leb (slotAt s c .low) (workerAt s w .announced)) _ _
-    (λ u. (refl, refl, refl)) (λ u. (refl, refl, refl))
-step-sizes batch s w CloseWithdraw = (refl, refl, refl)
-step-sizes batch s w (GetShow r) = (refl, refl, refl)
+step-site s w Idle = refl
+step-site s w (PutPublish r x) = put-site s w r x (s .free)
+step-site s w (PutStamp r c) = cond-both (SameSite s) (eqb (slotAt s c .high) absent) (stamp s r) s (λ u. refl) (λ u. refl)
+step-site s w (PutHandIn r c) = refl
+step-site s w FlushTake = refl
+step-site s w (FlushRead m ts) = cond-both (λ (q : Stepped). SameSite s (q .store)) (ltb (length ts) (s .site .P)) _ _ (λ u. refl) (λ u. refl)
+step-site s w (FlushFree m) = free-site s w m
+step-site s w OpenAnnounce = cond-both (λ (q : Stepped). SameSite s (q .store)) (eqb (s .clock) lastClock) _ _ (λ u. refl) (λ u. refl)
+step-site s w OpenPass = refl
+step-site s w (ReadEnter r) = refl
+step-site s w (ReadStand r c) =
+    cond-both (λ (q : Stepped). SameSite s (q .store)) (leb (slotAt s c .low) (workerAt s w .announced)) _ _ (λ u. refl) (λ u. refl)
+step-site s w CloseWithdraw = refl
+step-site s w (GetShow r) = refl
 
 ------------------------------------------------------------------------
 -- One record keeps the bounds, and the pools sorted
 
-module _ (batch : ℕ → ℕ) (now : ℕ) (s : Store) (olds : List (List ℕ)) (h : List Call) (o : List ℕ) (p : Plain) (I : Inv now s olds h o p) (pos : 0 < batch (s .P)) (W : Within (batch (s .P)) s) (S : StoreByHigh s) where
+module _ (now : ℕ) (s : Store) (olds : List (List ℕ)) (h : List Call) (o : List ℕ) (p : Plain) (I : Inv now s olds h o p) (pos : 0 < s .site .B) (W : Within (s .site .B) s) (S : StoreByHigh s) where
   abbrev Bounded : Applied → Type 0
-  Bounded a = (t : Store) × (a .hub ≡ up t) × SameSizes s t × Within (batch (s .P)) t × StoreByHigh t
+  Bounded a = (t : Store) × (a .hub ≡ up t) × SameSite s t × Within (s .site .B) t × StoreByHigh t
 
   unchanged : (k : ℕ) → Bounded (refuse (up s) k)
-  unchanged k = (s, refl, (refl, refl, refl), W, S)
+  unchanged k = (s, refl, refl, W, S)
 
-  decoded-bounded : (d : Decoded) → Bounded (applyDecoded batch (up s) d)
+  decoded-bounded : (rules : Rules) (d : Decoded) → Bounded (applyDecoded rules (up s) d)
   unfolding applyDecoded obey setUp begin step
-  decoded-bounded (Asks (SetUp z)) = unchanged 9
-  decoded-bounded (Asks (Begin w c)) =
-      cond-both Bounded (ltb w (s .P)) _ _
-      (λ e₁. cond-both Bounded (registerBelow (s .V') c) _ _
+  decoded-bounded rules (Asks (SetUp z)) = unchanged 9
+  decoded-bounded rules (Asks (Begin w c)) =
+      cond-both Bounded (ltb w (s .site .P)) _ _
+      (λ e₁. cond-both Bounded (registerBelow (s .site .V') c) _ _
       (λ e₂. cond-both Bounded (isIdle (workerAt s w .doing)) _ _
       (λ e₃. cond-both Bounded (mayOpen c (ltb (workerAt s w .announced) absent)) _ _
       (λ e₄. cond-both Bounded (mayUseTime c (ltb (workerAt s w .announced) absent)) _ _
       (λ e₅. (
         place s w (firstPlace c),
         refl,
-        (refl, refl, refl),
-        begin-within batch s pos W w c (idle-is (workerAt s w .doing) e₃),
-        begin-byHigh now s olds h o p I S w (Tests.ltb-true w (s .P) e₁) c,
+        refl,
+        begin-within s pos W w c (idle-is (workerAt s w .doing) e₃),
+        begin-byHigh now s olds h o p I S w (Tests.ltb-true w (s .site .P) e₁) c,
       ))
       (λ e₅. unchanged 13))
       (λ e₄. unchanged 12))
       (λ e₃. unchanged 10))
       (λ e₂. unchanged 4))
       (λ e₁. unchanged 3)
-  decoded-bounded (Asks (Step w)) =
-      cond-both Bounded (ltb w (s .P)) _ _
+  decoded-bounded rules (Asks (Step w)) =
+      cond-both Bounded (ltb w (s .site .P)) _ _
       (λ e. (
-        stepAt batch s w (workerAt s w .doing) .store,
+        stepAt s w (workerAt s w .doing) .store,
         refl,
-        step-sizes batch s w (workerAt s w .doing),
-        step-within batch s pos W w (workerAt s w .doing) refl,
-        step-byHigh now s olds h o p I S w (Tests.ltb-true w (s .P) e) batch (workerAt s w .doing) refl,
+        step-site s w (workerAt s w .doing),
+        step-within s pos W w (workerAt s w .doing) refl,
+        step-byHigh now s olds h o p I S w (Tests.ltb-true w (s .site .P) e) (workerAt s w .doing) refl,
       ))
       (λ e. unchanged 3)
-  decoded-bounded (Refuses k) = unchanged k
+  decoded-bounded rules (Refuses k) = unchanged k
 
 ------------------------------------------------------------------------
 -- All records
 
--- a store that records left: it has the invariant with some history, order and plain registers, the bounds, and sorted pools
-pub record Reached (batch : ℕ → ℕ) (s : Store) : Type 0 where
+-- a site in the ranges of a setup, whose batch size is what the rules give and from 1 to 64
+pub record SiteFits (rules : Rules) (x : Site) : Type 0 where
+  pub one≤P : 1 ≤ x .P
+  pub P≤16 : x .P ≤ 16
+  pub one≤V : 1 ≤ x .V'
+  pub V≤256 : x .V' ≤ 256
+  pub V≤N : x .V' ≤ x .N
+  pub N≤2048 : x .N ≤ 2048
+  pub batch : x .B ≡ rules .batch (x .P)
+  pub one≤B : 1 ≤ x .B
+  pub B≤64 : x .B ≤ 64
+
+-- A store that records left, of which the first, a setup, was handed in under the rules given: it has the invariant with some history, order and
+-- plain registers, the bounds, and sorted pools.
+pub record Reached (rules : Rules) (s : Store) : Type 0 where
   pub now : ℕ
   pub olds : List (List ℕ)
   pub calls : List Call
   pub order : List ℕ
   pub plain : Plain
   pub inv : Inv now s olds calls order plain
-  pub within : Within (batch (s .P)) s
+  pub within : Within (s .site .B) s
   pub byHigh : StoreByHigh s
-  pub one≤P : 1 ≤ s .P
-  pub P≤16 : s .P ≤ 16
-  pub one≤V : 1 ≤ s .V'
-  pub V≤256 : s .V' ≤ 256
-  pub V≤N : s .V' ≤ s .N
-  pub N≤2048 : s .N ≤ 2048
+  pub fits : SiteFits rules (s .site)
 
-abbrev pub ReachedHub : (ℕ → ℕ) → Hub → Type 0
-ReachedHub batch (blank row) = ⊥
-ReachedHub batch (up s) = Reached batch s
+abbrev pub ReachedHub : Rules → Hub → Type 0
+ReachedHub rules (blank row) = ⊥
+ReachedHub rules (up s) = Reached rules s
 
-up-inj : (s t : Store) → up s ≡ up t → s ≡ t
-up-inj s t e = cc
+-- one record more, under any rules
+pub reached-apply : {first : Rules} (rules : Rules) (s : Store) → Reached first s → (b : List ℕ)
+    → (t : Store) × (apply rules (up s) b .hub ≡ up t) × Reached first t
+unfolding apply
+reached-apply {first} rules s R b = (
+  F .0,
+  F .1,
+  record {
+    now = R .now + 1;
+    olds = A .kept .olds;
+    calls = calls;
+    order = order;
+    plain = A .kept .p;
+    inv = subst (λ (q : Store). Inv (R .now + 1) q (A .kept .olds) calls order (A .kept .p)) (up-inj (A .store) (F .0) (sym (A .is) ∙ F .1)) (A .kept .inv);
+    within = subst (λ (q : Site). Within (q .B) (F .0)) (sym (F .2)) (F .3);
+    byHigh = F .4;
+    fits = subst (SiteFits first) (sym (F .2)) (R .fits);
+  },
+)
+  where
+    A : Holds (R .now) s (decode b) (R .calls) (R .order) (apply rules (up s) b)
+    A = apply-holds (R .now) s (R .olds) (R .calls) (R .order) (R .plain) (R .inv) rules b
 
-module _ (batch : ℕ → ℕ) (sizes : BatchSizes batch) where
-  -- one record more
-  pub reached-apply : (s : Store) → Reached batch s → (b : List ℕ) → (t : Store) × (apply batch (up s) b .hub ≡ up t) × Reached batch t
-  unfolding apply
-  reached-apply s R b = (
-    F .0,
-    F .1,
+    calls : List Call
+    calls = observe (R .now) (decode b) (apply rules (up s) b .answer) (R .calls)
+
+    order : List ℕ
+    order = R .order ++ effects (R .calls) (decode b) (up s) (apply rules (up s) b .answer) (up (A .store))
+
+    F : (t : Store) × (applyDecoded rules (up s) (decode b) .hub ≡ up t) × SameSite s t × Within (s .site .B) t × StoreByHigh t
+    F = decoded-bounded (R .now) s (R .olds) (R .calls) (R .order) (R .plain) (R .inv) (R .fits .one≤B) (R .within) (R .byHigh) rules (decode b)
+
+reached-all : {first : Rules} (bs : List Ruled) (s : Store) → Reached first s → Throughout (ReachedHub first) (events (up s) bs)
+unfolding events
+reached-all [] s R = tt
+reached-all {first} (b ∷ bs) s R =
+    let T = reached-apply (b .rules) s R (b .bytes) in (
+      (R, subst (ReachedHub first) (sym (T .1)) (T .2)),
+      subst (λ (q : Hub). Throughout (ReachedHub first) (events q bs)) (sym (T .1)) (reached-all bs (T .0) (T .2)),
+    )
+
+all-start : (b n : ℕ) → 0 < b → All (FitW b) (replicate n startWorker)
+all-start b zero h = tt
+all-start b (suc n) h = (h, all-start b n h)
+
+-- the store that an accepted setup leaves
+pub reached-start : (rules : Rules) → Allowed rules → {hub : Hub} (A : Accepted rules hub)
+    → Reached rules (fresh (rules .batch (A .sizes .P)) (A .sizes) (A .row))
+unfolding fresh
+reached-start rules allowed A =
+    let size = allowed (A .sizes .P) (A .fits .one≤P) (A .fits .P≤16) in
     record {
-      now = R .now + 1;
-      olds = A .kept .olds;
-      calls = calls;
-      order = order;
-      plain = A .kept .p;
-      inv = subst (λ (q : Store). Inv (R .now + 1) q (A .kept .olds) calls order (A .kept .p)) (up-inj (A .store) (F .0) (sym (A .is) ∙ F .1)) (A .kept .inv);
-      within = subst (λ (q : ℕ). Within (batch q) (F .0)) (sym (F .2 .0)) (F .3);
-      byHigh = F .4;
-      one≤P = omega (arith, R .one≤P, F .2 .0);
-      P≤16 = omega (arith, R .P≤16, F .2 .0);
-      one≤V = omega (arith, R .one≤V, F .2 .1);
-      V≤256 = omega (arith, R .V≤256, F .2 .1);
-      V≤N = omega (arith, R .V≤N, F .2 .1, F .2 .2);
-      N≤2048 = omega (arith, R .N≤2048, F .2 .2);
-    },
-  )
-    where
-      A : Holds (R .now) s (decode b) (R .calls) (R .order) (apply batch (up s) b)
-      A = apply-holds batch (R .now) s (R .olds) (R .calls) (R .order) (R .plain) (R .inv) b
+      now = 0;
+      olds = _;
+      calls = [];
+      order = [];
+      plain = plain₀;
+      inv = accepted-inv rules A;
+      within = record { workers = all-start (rules .batch (A .sizes .P)) (A .sizes .P) (size .0); pools = tt };
+      byHigh = record { queued = tt; workers = start-byHigh _ (A .sizes .P) };
+      fits =
+          record {
+            one≤P = A .fits .one≤P;
+            P≤16 = A .fits .P≤16;
+            one≤V = A .fits .one≤V;
+            V≤256 = A .fits .V≤256;
+            V≤N = A .fits .V≤N;
+            N≤2048 = A .fits .N≤2048;
+            batch = refl;
+            one≤B = size .0;
+            B≤64 = size .1;
+          };
+    }
 
-      calls : List Call
-      calls = observe (R .now) (decode b) (apply batch (up s) b .answer) (R .calls)
-
-      order : List ℕ
-      order = R .order ++ effects (R .calls) (decode b) (up s) (apply batch (up s) b .answer) (up (A .store))
-
-      F : (t : Store) × (applyDecoded batch (up s) (decode b) .hub ≡ up t) × SameSizes s t × Within (batch (s .P)) t × StoreByHigh t
-      F = decoded-bounded batch (R .now) s (R .olds) (R .calls) (R .order) (R .plain) (R .inv) (sizes (s .P) (R .one≤P) (R .P≤16) .0) (R .within) (R .byHigh) (decode b)
-
-  reached-all : (bs : List (List ℕ)) (s : Store) → Reached batch s → All (λ (e : Event). ReachedHub batch (e .before) × ReachedHub batch (e .after)) (events batch (up s) bs)
-  unfolding events
-  reached-all [] s R = tt
-  reached-all (b ∷ bs) s R =
-      let T = reached-apply s R b in (
-        (R, subst (ReachedHub batch) (sym (T .1)) (T .2)),
-        subst (λ (q : Hub). All (λ (e : Event). ReachedHub batch (e .before) × ReachedHub batch (e .after)) (events batch q bs)) (sym (T .1)) (reached-all bs (T .0) (T .2)),
-      )
-
-  all-start : (b n : ℕ) → 0 < b → All (FitW b) (replicate n startWorker)
-  all-start b zero h = tt
-  all-start b (suc n) h = (h, all-start b n h)
-
-  -- the store that an accepted setup leaves
-  pub reached-start : {hub : Hub} (A : Accepted hub) → Reached batch (fresh (A .sizes) (A .row))
-  unfolding fresh
-  reached-start A =
-      record {
-        now = 0;
-        olds = _;
-        calls = [];
-        order = [];
-        plain = plain₀;
-        inv = accepted-inv A;
-        within = record { workers = all-start (batch (A .sizes .P)) (A .sizes .P) (sizes (A .sizes .P) (A .fits .one≤P) (A .fits .P≤16) .0); pools = tt };
-        byHigh = record { queued = tt; workers = start-byHigh _ (A .sizes .P) };
-        one≤P = A .fits .one≤P;
-        P≤16 = A .fits .P≤16;
-        one≤V = A .fits .one≤V;
-        V≤256 = A .fits .V≤256;
-        V≤N = A .fits .V≤N;
-        N≤2048 = A .fits .N≤2048;
-      }
-
-  -- after every accepted setup, every hub that a record meets or leaves
-  pub reached : (row : List Slot) (setup : List ℕ) → apply batch (blank row) setup .answer ≡ Ok → (records : List (List ℕ))
-      → All (λ (e : Event). ReachedHub batch (e .before) × ReachedHub batch (e .after)) (events batch (apply batch (blank row) setup .hub) records)
-  reached row b e bs =
-      let A = accepts batch row b e in
-      subst (λ (q : Hub). All (λ (z : Event). ReachedHub batch (z .before) × ReachedHub batch (z .after)) (events batch q bs)) (sym (A .is))
-      (reached-all bs (fresh (A .sizes) (A .row)) (reached-start A))
+-- after every accepted setup whose rules are allowed, every hub that a record meets or leaves
+pub reached : (row : List Slot) (setup : Ruled) → Allowed (setup .rules) → applyRuled (blank row) setup .answer ≡ Ok
+    → (records : List Ruled) → Throughout (ReachedHub (setup .rules)) (events (applyRuled (blank row) setup .hub) records)
+reached row b allowed e bs =
+    let A = accepts (b .rules) row (b .bytes) e in
+    subst (λ (q : Hub). Throughout (ReachedHub (b .rules)) (events q bs)) (sym (A .is))
+    (reached-all bs (fresh (b .rules .batch (A .sizes .P)) (A .sizes) (A .row)) (reached-start (b .rules) allowed A))
 
 ------------------------------------------------------------------------
 -- What specs/Reached.antt claims
@@ -236,41 +241,42 @@ module _ (b : ℕ) where
   pools-few [] t = omega arith
   pools-few (l ∷ q) t = omega (arith, t .0 .0, pools-few q (t .1))
 
-pub bounds : (batch : ℕ → ℕ) (s : Store) → Reached batch s → Bounds (batch (s .P)) s
-bounds batch s R =
+pub bounds : {rules : Rules} (s : Store) → Reached rules s → Bounds s
+bounds s R =
     record {
-      workers = (R .one≤P, R .P≤16, R .inv .workersLength);
-      registers = (R .one≤V, R .V≤256, R .inv .newestLength);
-      slots = (R .V≤N, R .N≤2048, R .inv .slotsLength);
+      workers = (R .fits .one≤P, R .fits .P≤16, R .inv .workersLength);
+      registers = (R .fits .one≤V, R .fits .V≤256, R .inv .newestLength);
+      slots = (R .fits .V≤N, R .fits .N≤2048, R .inv .slotsLength);
       clock = omega (arith, R .inv .clockFits);
-      local = All-map (λ x a. fit-local (batch (s .P)) (length (x .pool)) (x .doing) a .0) (s .workers) (R .within .workers);
-      merged = All-map (λ x a. fit-local (batch (s .P)) (length (x .pool)) (x .doing) a .1) (s .workers) (R .within .workers);
+      batch = (R .fits .one≤B, R .fits .B≤64);
+      local = All-map (λ x a. fit-local (s .site .B) (length (x .pool)) (x .doing) a .0) (s .workers) (R .within .workers);
+      merged = All-map (λ x a. fit-local (s .site .B) (length (x .pool)) (x .doing) a .1) (s .workers) (R .within .workers);
       queued = R .within .pools;
       total = total (R .inv);
-      pools = omega (arith, total (R .inv), pools-few (batch (s .P)) (s .queue) (R .within .pools));
+      pools = omega (arith, total (R .inv), pools-few (s .site .B) (s .queue) (R .within .pools));
     }
 
-pub sound : (batch : ℕ → ℕ) → Sound batch
-sound batch sizes row b e bs =
-    All-map (λ z a. (hub (z .before) (a .0), hub (z .after) (a .1))) (events batch (apply batch (blank row) b .hub) bs) (reached batch sizes row b e bs)
+pub sound : Sound
+sound row b allowed e bs =
+    All-map (λ z a. (hub (z .before) (a .0), hub (z .after) (a .1))) (events (applyRuled (blank row) b .hub) bs) (reached row b allowed e bs)
   where
-    hub : (h : Hub) → ReachedHub batch h → SoundHub batch h
+    hub : (h : Hub) → ReachedHub (b .rules) h → SoundHub (b .rules) h
     hub (blank row) a = a
-    hub (up s) a = record { bounds = bounds batch s a; refuses14 = refuses-14 (a .inv) batch }
+    hub (up s) a = record { batch = a .fits .batch; bounds = bounds s a; refuses14 = refuses-14 (a .inv) }
 
 ------------------------------------------------------------------------
 -- What specs/Figure.antt claims
 
-pub as-published : (batch : ℕ → ℕ) → AsPublished batch
-as-published batch sizes row b e bs =
-    All-map (λ z a. (hub (z .before) (a .0), hub (z .after) (a .1))) (events batch (apply batch (blank row) b .hub) bs) (reached batch sizes row b e bs)
+pub as-published : AsPublished
+as-published row b allowed e bs =
+    All-map (λ z a. (hub (z .before) (a .0), hub (z .after) (a .1))) (events (applyRuled (blank row) b .hub) bs) (reached row b allowed e bs)
   where
-    hub : (h : Hub) → ReachedHub batch h → FigureHub batch h
+    hub : (h : Hub) → ReachedHub (b .rules) h → FigureHub h
     hub (blank row) a = a
     hub (up s) a =
         record {
           byHigh = a .byHigh;
           split = λ w m ts i us.
-              split-is-figure batch s w m us
+              split-is-figure s w m us
               (subst (HandByHigh (s .slots) (workerAt s w .pool)) i (All-nth (WorkerByHigh (s .slots)) (s .workers) w startWorker (record { local = tt; hand = tt }) (a .byHigh .workers) .hand));
         }

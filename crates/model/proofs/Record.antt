@@ -1,20 +1,22 @@
 -- One record, refused or not, keeps the invariant.
 use mathlib.Core.Path.{_≡_, refl, sym, ap, _∙_, subst}
-use mathlib.Core.Bool.{Bool, true, true≢false}
+use mathlib.Core.Bool.{Bool, true, false, true≢false, not, _&&_}
 use mathlib.Core.Logic.{_⊎_, inl}
 use mathlib.Core.List.{List, [], _++_}
 use Prim.Native.Nat.{ℕ, _<_}
 use lib.Dec.{ltb}
 use borrow.Author.Tests as Tests
 use Rattle.model.specs.Store.{absent, Doing, Idle, PutPublish, PutStamp, PutHandIn, FlushTake, FlushRead, FlushFree, OpenAnnounce, OpenPass, ReadEnter, ReadStand, CloseWithdraw, GetShow, Store, up, workerAt, place}
+use Rattle.model.specs.Rules.{Rules}
 use Rattle.model.specs.Answer.{Freed, No, Applied}
 use Rattle.model.specs.Steps.{stepAt}
 use Rattle.model.specs.Record.{Operation, SetUp, Begin, Step, Decoded, Asks, Refuses, decode}
-use Rattle.model.specs.Apply.{refuse, setUp, registerBelow, isIdle, mayOpen, mayUseTime, firstPlace, begin, step, obey, applyDecoded, apply}
-use Rattle.model.specs.Demand.{Call, isOk, ends, observe, Plain, endEffects, stepEffects, effects, occurrences, FreesNothingNeeded, TookBy}
+use Rattle.model.specs.Apply.{refuse, setUp, registerBelow, isIdle, mayOpen, mayUseTime, firstPlace, begin, step, takesStep, obey, applyDecoded, apply}
+use Rattle.model.specs.Demand.{Call, isOk, ends, observe, Performs, StepTaken, Plain, endEffects, stepEffects, effects, occurrences, FreesNothingNeeded, TookBy}
 use Rattle.model.proofs.Basic.{cond-both}
-use Rattle.model.proofs.Invariant.{Inv}
-use Rattle.model.proofs.Places.{Kept, none-more, begin-kept}
+use Rattle.model.proofs.Invariant.{NoneRunning, Inv}
+use Rattle.model.proofs.Places.{Kept, none-more, cur-is, begin-kept}
+use Rattle.model.proofs.History.{ended-none}
 use Rattle.model.proofs.Step.{NotFreed, inv-skip, step-after, change-still, own-refused}
 
 -- what a record does that reads as d, finds store s, calls h and order o, and leaves and answers a
@@ -42,7 +44,7 @@ idle-is (ReadStand r c) e = absurd (true≢false (sym e))
 idle-is CloseWithdraw e = absurd (true≢false (sym e))
 idle-is (GetShow r) e = absurd (true≢false (sym e))
 
-module _ (batch : ℕ → ℕ) (now : ℕ) (s : Store) (olds : List (List ℕ)) (h : List Call) (o : List ℕ) (p : Plain) (I : Inv now s olds h o p) where
+module _ (now : ℕ) (s : Store) (olds : List (List ℕ)) (h : List Call) (o : List ℕ) (p : Plain) (I : Inv now s olds h o p) where
   -- a refusal on reading begins nothing and takes no step
   refused-holds : (d : Decoded) (k : ℕ) → observe now d (No k) h ≡ h → effects h d (up s) (No k) (up s) ≡ [] → Holds now s d h o (refuse (up s) k)
   refused-holds d k e f =
@@ -62,8 +64,8 @@ module _ (batch : ℕ → ℕ) (now : ℕ) (s : Store) (olds : List (List ℕ)) 
   begin-holds : (w : ℕ) (c : Operation) → Holds now s (Asks (Begin w c)) h o (begin s w c)
   unfolding begin observe isOk effects
   begin-holds w c =
-      cond-both H (ltb w (s .P)) _ _
-      (λ e₁. cond-both H (registerBelow (s .V') c) _ _
+      cond-both H (ltb w (s .site .P)) _ _
+      (λ e₁. cond-both H (registerBelow (s .site .V') c) _ _
       (λ e₂. cond-both H (isIdle (workerAt s w .doing)) _ _
       (λ e₃. cond-both H (mayOpen c has) _ _
       (λ e₄. cond-both H (mayUseTime c has) _ _
@@ -73,7 +75,7 @@ module _ (batch : ℕ → ℕ) (now : ℕ) (s : Store) (olds : List (List ℕ)) 
         is = refl;
         kept =
             none-more o [] refl
-            (begin-kept now s olds h o p I w (Tests.ltb-true w (s .P) e₁) c (idle-is (workerAt s w .doing) e₃) e₂ e₄ e₅);
+            (begin-kept now s olds h o p I w (Tests.ltb-true w (s .site .P) e₁) c (idle-is (workerAt s w .doing) e₃) e₂ e₄ e₅);
         safe = λ i z. absurd (subst NotFreed z tt);
         frees = λ i z. absurd (subst NotFreed z tt);
         stays = λ i z. inl z;
@@ -90,29 +92,50 @@ module _ (batch : ℕ → ℕ) (now : ℕ) (s : Store) (olds : List (List ℕ)) 
       has : Bool
       has = ltb (workerAt s w .announced) absent
 
-  step-holds : (w : ℕ) → Holds now s (Asks (Step w)) h o (step batch s w)
+  step-holds : (w : ℕ) → Holds now s (Asks (Step w)) h o (step s w)
   unfolding step observe ends effects stepEffects
   step-holds w =
-      cond-both (Holds now s (Asks (Step w)) h o) (ltb w (s .P)) _ _
+      cond-both (Holds now s (Asks (Step w)) h o) (ltb w (s .site .P)) _ _
       (λ e.
-      let A = step-after batch now s olds h o p I w (Tests.ltb-true w (s .P) e) (workerAt s w .doing) refl in
+      let A = step-after now s olds h o p I w (Tests.ltb-true w (s .site .P) e) (workerAt s w .doing) refl in
       record {
-        store = stepAt batch s w (workerAt s w .doing) .store;
+        store = stepAt s w (workerAt s w .doing) .store;
         is = refl;
         kept = A .kept;
         safe = A .safe;
         frees = A .frees;
         stays = A .stays;
       })
-      (λ e. refused-holds (Asks (Step w)) 3 refl (ap (λ (q : List ℕ). q ++ endEffects h w (No 3)) (change-still h s s refl refl) ∙ own-refused h w 3))
+      (λ e.
+      refused-holds (Asks (Step w)) 3 (ended-none now w (No 3) h (I .outside w (Tests.ltb-false w (s .site .P) e)))
+      (ap (λ (q : List ℕ). q ++ endEffects h w (No 3)) (change-still h s s refl refl) ∙ own-refused h w 3))
 
-  decoded-holds : (d : Decoded) → Holds now s d h o (applyDecoded batch (up s) d)
+  -- a worker that performs an operation is one of the hub's and not idle
+  performing : (w : ℕ) → Performs h w → takesStep (up s) (Asks (Step w)) ≡ true
+  unfolding takesStep
+  performing w f = go (ltb w (s .site .P)) refl (isIdle (workerAt s w .doing)) refl
+    where
+      performs : NoneRunning h w → ⊥
+      performs n = n (f .0) (f .1) (f .2) (f .3)
+
+      go : (b : Bool) → ltb w (s .site .P) ≡ b → (i : Bool) → isIdle (workerAt s w .doing) ≡ i → b && not i ≡ true
+      go true e true j = absurd (performs (cur-is now s olds h o p I w (Tests.ltb-true w (s .site .P) e) Idle (idle-is (workerAt s w .doing) j)))
+      go true e false j = refl
+      go false e i j = absurd (performs (I .outside w (Tests.ltb-false w (s .site .P) e)))
+
+  pub step-taken : (d : Decoded) → StepTaken h d (up s)
+  step-taken (Asks (SetUp z)) = tt
+  step-taken (Asks (Begin w c)) = tt
+  step-taken (Asks (Step w)) = performing w
+  step-taken (Refuses k) = tt
+
+  decoded-holds : (rules : Rules) (d : Decoded) → Holds now s d h o (applyDecoded rules (up s) d)
   unfolding applyDecoded obey setUp observe effects
-  decoded-holds (Asks (SetUp z)) = refused-holds (Asks (SetUp z)) 9 refl refl
-  decoded-holds (Asks (Begin w c)) = begin-holds w c
-  decoded-holds (Asks (Step w)) = step-holds w
-  decoded-holds (Refuses k) = refused-holds (Refuses k) k refl refl
+  decoded-holds rules (Asks (SetUp z)) = refused-holds (Asks (SetUp z)) 9 refl refl
+  decoded-holds rules (Asks (Begin w c)) = begin-holds w c
+  decoded-holds rules (Asks (Step w)) = step-holds w
+  decoded-holds rules (Refuses k) = refused-holds (Refuses k) k refl refl
 
-  pub apply-holds : (b : List ℕ) → Holds now s (decode b) h o (apply batch (up s) b)
+  pub apply-holds : (rules : Rules) (b : List ℕ) → Holds now s (decode b) h o (apply rules (up s) b)
   unfolding apply
-  apply-holds b = decoded-holds (decode b)
+  apply-holds rules b = decoded-holds rules (decode b)

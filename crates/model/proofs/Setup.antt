@@ -1,6 +1,6 @@
 -- The store that an accepted setup leaves meets the invariant, with an empty history.
 use mathlib.Core.Path.{_≡_, refl, sym, ap, _∙_, subst}
-use mathlib.Core.Bool.{Bool, true, false, true≢false, cond, _&&_}
+use mathlib.Core.Bool.{Bool, true, false, cond, _&&_}
 use mathlib.Core.Logic.{_⊎_, inl, inr, ⊎-elim}
 use mathlib.Core.List.{List, [], _∷_}
 use Prim.Native.Nat.{ℕ, zero, suc, _+_, _-_, _≤_, _<_}
@@ -11,6 +11,7 @@ use lib.Seq.{length-take-le}
 use lib.ListN.{length, getD, take, replicate, length-replicate, getD-replicate}
 use borrow.Author.Tests as Tests
 use Rattle.model.specs.Store.{absent, lastClock, reading₀, Slot, startWorker, Hub, blank, up, upFrom}
+use Rattle.model.specs.Rules.{Rules}
 use Rattle.model.specs.Answer.{Ok, Applied}
 use Rattle.model.specs.Record.{Sizes, SetUp, Begin, Step, Decoded, Asks, Refuses, decode}
 use Rattle.model.specs.Apply.{refuse, inRanges, firstSlots, fresh, setUp, obey, applyDecoded, apply}
@@ -80,7 +81,7 @@ sum-replicate f a e zero = refl
 sum-replicate f a e (suc n) = omega (arith, e, sum-replicate f a e n)
 
 -- what `inRanges` and the row's length give
-module _ (z : Sizes) (row : List Slot) (long : z .N ≤ length row) (v≤n : z .V' ≤ z .N) (n≤ : z .N ≤ 2048) (c< : z .clock < absent) where
+module _ (size : ℕ) (z : Sizes) (row : List Slot) (long : z .N ≤ length row) (v≤n : z .V' ≤ z .N) (n≤ : z .N ≤ 2048) (c< : z .clock < absent) where
   abbrev p : ℕ
   p = z .P
 
@@ -96,7 +97,7 @@ module _ (z : Sizes) (row : List Slot) (long : z .N ≤ length row) (v≤n : z .
   abbrev olds : List (List ℕ)
   olds = replicate v []
 
-  pub start-inv : Inv 0 (fresh z row) olds [] [] plain₀
+  pub start-inv : Inv 0 (fresh size z row) olds [] [] plain₀
   unfolding fresh occurrences sumBy cnt
   start-inv =
       record {
@@ -112,8 +113,9 @@ module _ (z : Sizes) (row : List Slot) (long : z .N ≤ length row) (v≤n : z .
         linked = λ r b. subst (Linked (firstSlots v (take n row)) absent) (sym (chain-is r b)) (ap (λ (z : Slot). z .newer) (at r b), ap (λ (z : Slot). z .older) (at r b), tt);
         stamps = λ r b. subst (Fine (firstSlots v (take n row)) c reading₀) (sym (chain-is r b)) (ap (λ (z : Slot). z .high) (at r b), inl (omega (arith, ap (λ (z : Slot). z .low) (at r b)), ap (λ (z : Slot). z .value) (at r b), tt));
         queue = tt;
-        workers = λ w b. subst (Works (ctx (fresh z row) olds) [] [] plain₀ w) (sym (getD-replicate p w startWorker startWorker b)) (record { pool = tt; announced = inl refl; snapshot = λ z. absurd (omega (arith, z, c<)); doing = inl refl; current = λ i z. absurd (not-suc-le-zero z) });
+        workers = λ w b. subst (Works (ctx (fresh size z row) olds) [] [] plain₀ w) (sym (getD-replicate p w startWorker startWorker b)) (record { pool = tt; announced = inl refl; snapshot = λ z. absurd (omega (arith, z, c<)); doing = inl refl; current = λ i z. absurd (not-suc-le-zero z) });
         stamper = λ r b z. absurd (omega (arith, z, ap (λ (i : ℕ). nth (firstSlots v (take n row)) i .low) (top-is r b), ap (λ (q : Slot). q .low) (at r b)));
+        outside = λ w b i z. absurd (not-suc-le-zero z);
         linear = first-lin;
       }
     where
@@ -139,8 +141,8 @@ module _ (z : Sizes) (row : List Slot) (long : z .N ≤ length row) (v≤n : z .
       top-is : (r : ℕ) → r < v → getD (upFrom 0 v) r absent ≡ r
       top-is r b = omega (arith, up-at 0 v r b)
 
-      chain-is : (r : ℕ) → r < v → chain (ctx (fresh z row) olds) r ≡ r ∷ []
-      chain-is r b = ap (λ (i : ℕ). i ∷ old (ctx (fresh z row) olds) r) (top-is r b) ∙ ap (λ (l : List ℕ). r ∷ l) (getD-replicate v r [] [] b)
+      chain-is : (r : ℕ) → r < v → chain (ctx (fresh size z row) olds) r ≡ r ∷ []
+      chain-is r b = ap (λ (i : ℕ). i ∷ old (ctx (fresh size z row) olds) r) (top-is r b) ∙ ap (λ (l : List ℕ). r ∷ l) (getD-replicate v r [] [] b)
 
       at : (r : ℕ) → r < v → nth (firstSlots v (take n row)) r ≡ record { value = reading₀; low = 0; high = absent; older = absent; newer = absent }
       at r b = first-at v (take n row) r b (omega (arith, length-take-le n row long))
@@ -188,23 +190,23 @@ in-ranges z e =
     }
 
 -- a record that a hub not yet set up answers `ok` is a setup: its store is fresh, with sizes in their ranges
-pub record Accepted (hub : Hub) : Type 0 where
+pub record Accepted (rules : Rules) (hub : Hub) : Type 0 where
   pub sizes : Sizes
   pub row : List Slot
-  pub is : hub ≡ up (fresh sizes row)
+  pub is : hub ≡ up (fresh (rules .batch (sizes .P)) sizes row)
   pub long : sizes .N ≤ length row
   pub fits : InRanges sizes
 
-abbrev Accepts : Applied → Type 0
-Accepts a = a .answer ≡ Ok → Accepted (a .hub)
+abbrev Accepts : Rules → Applied → Type 0
+Accepts rules a = a .answer ≡ Ok → Accepted rules (a .hub)
 
-refuses : (h : Hub) (k : ℕ) → Accepts (refuse h k)
-refuses h k e = absurd (let z : _≡_ {A = ℕ} 0 1 = cc in omega arith)
+refuses : (rules : Rules) (h : Hub) (k : ℕ) → Accepts rules (refuse h k)
+refuses rules h k e = absurd (let z : _≡_ {A = ℕ} 0 1 = cc in omega arith)
 
-obeys : (batch : ℕ → ℕ) (row : List Slot) (d : Decoded) → Accepts (applyDecoded batch (blank row) d)
+obeys : (rules : Rules) (row : List Slot) (d : Decoded) → Accepts rules (applyDecoded rules (blank row) d)
 unfolding applyDecoded obey setUp
-obeys batch row (Asks (SetUp z)) =
-    cond-both Accepts (inRanges z && leb (z .N) (length row)) _ _
+obeys rules row (Asks (SetUp z)) =
+    cond-both (Accepts rules) (inRanges z && leb (z .N) (length row)) _ _
     (λ e o.
     let w = and-both (inRanges z) (leb (z .N) (length row)) e in
     record {
@@ -214,16 +216,17 @@ obeys batch row (Asks (SetUp z)) =
       long = Tests.leb-true (z .N) (length row) (w .1);
       fits = in-ranges z (w .0);
     })
-    (λ e. refuses (blank row) 5)
-obeys batch row (Asks (Begin w o)) = refuses (blank row) 8
-obeys batch row (Asks (Step w)) = refuses (blank row) 8
-obeys batch row (Refuses k) = refuses (blank row) k
+    (λ e. refuses rules (blank row) 5)
+obeys rules row (Asks (Begin w o)) = refuses rules (blank row) 8
+obeys rules row (Asks (Step w)) = refuses rules (blank row) 8
+obeys rules row (Refuses k) = refuses rules (blank row) k
 
-pub accepts : (batch : ℕ → ℕ) (row : List Slot) (b : List ℕ) → apply batch (blank row) b .answer ≡ Ok → Accepted (apply batch (blank row) b .hub)
+pub accepts : (rules : Rules) (row : List Slot) (b : List ℕ) → apply rules (blank row) b .answer ≡ Ok → Accepted rules (apply rules (blank row) b .hub)
 unfolding apply
-accepts batch row b = obeys batch row (decode b)
+accepts rules row b = obeys rules row (decode b)
 
 -- its store meets the invariant
-pub accepted-inv : {hub : Hub} (A : Accepted hub) → Inv 0 (fresh (A .sizes) (A .row)) (replicate (A .sizes .V') []) [] [] plain₀
-accepted-inv A =
-    start-inv (A .sizes) (A .row) (A .long) (A .fits .V≤N) (A .fits .N≤2048) (omega (arith, A .fits .clock≤last))
+pub accepted-inv : (rules : Rules) {hub : Hub} (A : Accepted rules hub)
+    → Inv 0 (fresh (rules .batch (A .sizes .P)) (A .sizes) (A .row)) (replicate (A .sizes .V') []) [] [] plain₀
+accepted-inv rules A =
+    start-inv (rules .batch (A .sizes .P)) (A .sizes) (A .row) (A .long) (A .fits .V≤N) (A .fits .N≤2048) (omega (arith, A .fits .clock≤last))

@@ -2,7 +2,7 @@
 use mathlib.Core.Path.{_≡_, refl, sym, ap, _∙_, subst}
 use mathlib.Core.Bool.{true, false}
 use mathlib.Core.Logic.{_≢_, inl, inr, ⊎-elim}
-use mathlib.Core.List.{List, [], _∷_, _++_, map}
+use mathlib.Core.List.{List, [], _∷_, _++_, map, append-nil}
 use Prim.Native.Nat.{ℕ, _+_, _≤_, _<_}
 use native.Mathlib.Omega.{arith}
 use lib.Dec.{eqb}
@@ -12,7 +12,7 @@ use Rattle.model.specs.Store.{absent, Reading, Slot, Range, Doing, PutSt
 use Rattle.model.specs.Versions.{stampSlots, stamp}
 use Rattle.model.specs.Record.{Operation, Put}
 use Rattle.model.specs.Demand.{Call, Plain, update, feed, runningOf, takesEffect, changeEffects, occurrences, callAt}
-use Rattle.model.proofs.Basic.{hit, hit-same, hit-eq, hit-other, eq-cases, All-map, All-get, All-occurrences, occurrences-snoc, app-nil}
+use Rattle.model.proofs.Basic.{hit, hit-same, hit-eq, hit-other, eq-cases, All-map, All-get, All-occurrences, occurrences-snoc}
 use Rattle.model.proofs.Effect.{running-is, change-none, below-one, takes, takes-same, takes-self}
 use Rattle.model.proofs.Linear.{Lin, lin-effect}
 use Rattle.model.proofs.Slots.{nth, stamp-not, stamp-length, stamp-value, stamp-older, stamp-newer, stamp-low-other, stamp-low-own, stamp-high-other, stamp-high-own}
@@ -28,19 +28,23 @@ put-at-same f i y = rw (Tests.eq-eqb i i refl)
 pub put-at-other {ℓ} : {A : Type ℓ} (f : ℕ → A) (i : ℕ) (y : A) (j : ℕ) → j ≢ i → update f i y j ≡ f j
 put-at-other f i y j n = rw (Tests.ne-eqb j i n)
 
+pub next-open : (s : List Slot) (t : ℕ) (x : Reading) (l : List ℕ) → Next s t x l → nth s (headOr absent l) .high ≡ absent
+next-open s t x [] a = absurd a
+next-open s t x (d ∷ l) a = a .1
+
 next-head : (s : List Slot) (t : ℕ) (x : Reading) (c : ℕ) (l : List ℕ) → t < absent → Next s t x l → 0 < occurrences c l → nth s c .high ≡ absent → headOr absent l ≡ c
 unfolding occurrences
 next-head s t x c [] b a h e = absurd a
 next-head s t x c (d ∷ l) b a h e =
     ⊎-elim (λ u. u .0) (λ u. absurd (omega (arith, e, All-get (Past s t) l (a .3) c (omega (arith, hit-other d c (u .0))) .1))) (eq-cases d c)
 
-next-low : (s : List Slot) (t : ℕ) (x : Reading) (c : ℕ) (l : List ℕ) → Next s t x l → 0 < occurrences c l → nth s c .low ≤ t
+pub next-low : (s : List Slot) (t : ℕ) (x : Reading) (c : ℕ) (l : List ℕ) → Next s t x l → 0 < occurrences c l → nth s c .low ≤ t
 unfolding occurrences
 next-low s t x c [] a h = absurd a
 next-low s t x c (d ∷ l) a h =
     ⊎-elim (λ u. subst (λ (i : ℕ). nth s i .low ≤ t) (u .0) (a .0)) (λ u. All-get (Past s t) l (a .3) c (omega (arith, hit-other d c (u .0))) .0) (eq-cases d c)
 
-next-high : (s : List Slot) (t : ℕ) (x : Reading) (c : ℕ) (l : List ℕ) → Next s t x l → 0 < occurrences c l → headOr absent l ≢ c → nth s c .high ≤ t
+pub next-high : (s : List Slot) (t : ℕ) (x : Reading) (c : ℕ) (l : List ℕ) → Next s t x l → 0 < occurrences c l → headOr absent l ≢ c → nth s c .high ≤ t
 unfolding occurrences
 next-high s t x c [] a h n = absurd a
 next-high s t x c (d ∷ l) a h n =
@@ -53,7 +57,7 @@ pub record Stamped (now : ℕ) (s : Store) (r : ℕ) (olds : List (List ℕ)) (h
   pub inv : Inv now (stamp s r) olds h o p
   pub low : nth (stamp s r .slots) (newestOf s r) .low ≤ s .clock
 
-module _ (now : ℕ) (s : Store) (olds : List (List ℕ)) (h : List Call) (o : List ℕ) (p : Plain) (I : Inv now s olds h o p) (r : ℕ) (b : r < s .V') where
+module _ (now : ℕ) (s : Store) (olds : List (List ℕ)) (h : List Call) (o : List ℕ) (p : Plain) (I : Inv now s olds h o p) (r : ℕ) (b : r < s .site .V') where
   abbrev n : ℕ
   n = newestOf s r
 
@@ -72,7 +76,7 @@ module _ (now : ℕ) (s : Store) (olds : List (List ℕ)) (h : List Call) (o : L
   stamp-had e =
       record {
         o = o;
-        grown = sym (app-nil o) ∙ ap (λ (q : List ℕ). o ++ q) (sym (change-none h s (stamp s r) refl (λ v q c z y. ap (λ (i : Store). nth (i .slots) c .high) same)));
+        grown = sym (append-nil o) ∙ ap (λ (q : List ℕ). o ++ q) (sym (change-none h s (stamp s r) refl (λ v q c z y. ap (λ (i : Store). nth (i .slots) c .high) same)));
         p = p;
         inv = subst (λ (q : Store). Inv now q olds h o p) (sym same) I;
         low = subst (λ (q : Store). nth (q .slots) n .low ≤ ck) (sym same) (⊎-elim (λ u. u .0) (λ u. absurd (e (u .0))) (I .stamps r b .1));
@@ -81,7 +85,7 @@ module _ (now : ℕ) (s : Store) (olds : List (List ℕ)) (h : List Call) (o : L
       same : stamp s r ≡ s
       same = ap (withSlots s) (stamp-not sl n ck e)
 
-  module _ (e : nth sl n .low ≡ absent) (w : ℕ) (wb : w < s .P) (c : ℕ) (dw : workerAt s w .doing ≡ PutStamp r c) (hc : nth sl c .high ≡ absent)
+  module _ (e : nth sl n .low ≡ absent) (w : ℕ) (wb : w < s .site .P) (c : ℕ) (dw : workerAt s w .doing ≡ PutStamp r c) (hc : nth sl c .high ≡ absent)
       (k : ℕ) (kOpen : Running h w k) (y : Reading) (kCall : callAt h k .operation ≡ Put r y) (kNot : occurrences k o ≡ 0) (kVal : nth sl n .value ≡ y) where
     abbrev sl′ : List Slot
     sl′ = stampSlots sl n ck
@@ -176,7 +180,7 @@ module _ (now : ℕ) (s : Store) (olds : List (List ℕ)) (h : List Call) (o : L
               ⊎-elim (λ u. omega (arith, high-c, ap (λ (j : ℕ). nth sl′ j .high) (u .0))) (λ u. omega (arith, highs i (u .0), next-high sl ck (p .registers r) i (old x r) next z (λ v. u .0 (sym v ∙ head)))) (eq-cases i c),
             )
 
-    fine : (q : ℕ) → q < s .V' → Fine sl′ ck (p′ .registers q) (chain x q)
+    fine : (q : ℕ) → q < s .site .V' → Fine sl′ ck (p′ .registers q) (chain x q)
     unfolding occurrences
     fine q d = ⊎-elim (λ u. subst (λ (i : ℕ). Fine sl′ ck (p′ .registers i) (chain x i)) (sym (u .0)) fine-own) other (eq-cases q r)
       where
@@ -205,16 +209,16 @@ module _ (now : ℕ) (s : Store) (olds : List (List ℕ)) (h : List Call) (o : L
         }
 
     -- no other put covers c
-    apart-c : (v : ℕ) → v < s .P → v ≢ w → (q i : ℕ) → workerAt s v .doing ≡ PutStamp q i → i ≢ c
+    apart-c : (v : ℕ) → v < s .site .P → v ≢ w → (q i : ℕ) → workerAt s v .doing ≡ PutStamp q i → i ≢ c
     apart-c v vb vw q i dv u =
         let a : pendW c (workerAt s v) ≡ hit i c + cnt c (workerAt s v .pool) = ap (λ (d : Doing). inDoing c d + cnt c (workerAt s v .pool)) dv in
         let z : pendW c (workerAt s w) ≡ hit c c + cnt c (workerAt s w .pool) = ap (λ (d : Doing). inDoing c d + cnt c (workerAt s w .pool)) dw in
-        omega (arith, a, z, hit-eq i c u, hit-same c, sumBy-two (pendW c) (s .workers) v w startWorker (omega (arith, I .workersLength)) (omega (arith, I .workersLength)) vw, I .once c, below≤1 c (s .N))
+        omega (arith, a, z, hit-eq i c u, hit-same c, sumBy-two (pendW c) (s .workers) v w startWorker (omega (arith, I .workersLength)) (omega (arith, I .workersLength)) vw, I .once c, below≤1 c (s .site .N))
 
-    covers : (v : ℕ) → v < s .P → v ≢ w → (q i : ℕ) → workerAt s v .doing ≡ PutStamp q i → Covers x x′ q i
+    covers : (v : ℕ) → v < s .site .P → v ≢ w → (q i : ℕ) → workerAt s v .doing ≡ PutStamp q i → Covers x x′ q i
     covers v vb vw q i dv = ((λ z. (highs i (apart-c v vb vw q i dv) ∙ z, values (top x q))), high≤ i)
 
-    works : (v : ℕ) → v < s .P → Works x′ h o′ p′ v (workerAt s v)
+    works : (v : ℕ) → v < s .site .P → Works x′ h o′ p′ v (workerAt s v)
     works v vb =
         record {
           pool = All-map good (workerAt s v .pool) (Z .pool);
@@ -241,7 +245,7 @@ module _ (now : ℕ) (s : Store) (olds : List (List ℕ)) (h : List Call) (o : L
             ))
             (Z .current)
 
-    owner : (q : ℕ) → q < s .V' → nth sl′ (newestOf s q) .low ≡ absent → (v : ℕ) × (v < s .P) × (i : ℕ) × (workerAt s v .doing ≡ PutStamp q i) × (nth sl′ i .high ≡ absent)
+    owner : (q : ℕ) → q < s .site .V' → nth sl′ (newestOf s q) .low ≡ absent → (v : ℕ) × (v < s .site .P) × (i : ℕ) × (workerAt s v .doing ≡ PutStamp q i) × (nth sl′ i .high ≡ absent)
     unfolding occurrences
     owner q d z =
         ⊎-elim
@@ -262,7 +266,7 @@ module _ (now : ℕ) (s : Store) (olds : List (List ℕ)) (h : List Call) (o : L
     change-k : changeEffects h s s′ ≡ k ∷ []
     unfolding takesEffect
     change-k =
-        ap (map (runningOf h)) (below-one (takes s s′) (s .P) w wb yes (λ v vb vw. takes-same s s s′ v refl (λ q i dv. highs i (apart-c v vb vw q i dv)) ∙ takes-self s v))
+        ap (map (runningOf h)) (below-one (takes s s′) (s .site .P) w wb yes (λ v vb vw. takes-same s s s′ v refl (λ q i dv. highs i (apart-c v vb vw q i dv)) ∙ takes-self s v))
         ∙ ap (λ (i : ℕ). i ∷ []) (running-is kOpen)
       where
         yes : takes s s′ w ≡ true
@@ -291,6 +295,7 @@ module _ (now : ℕ) (s : Store) (olds : List (List ℕ)) (h : List Call) (o : L
                 queue = All-map (λ l. All-map good l) (s .queue) (I .queue);
                 workers = works;
                 stamper = owner;
+                outside = I .outside;
                 linear = lin;
               };
           low = omega (arith, low-n);

@@ -2,7 +2,7 @@
 use mathlib.Core.Path.{_≡_, refl, sym, ap, _∙_, subst}
 use mathlib.Core.Bool.{cond}
 use mathlib.Core.Logic.{_≢_, inl, ⊎-elim}
-use mathlib.Core.List.{List, [], _∷_, _++_, map}
+use mathlib.Core.List.{List, [], _∷_, _++_, map, append-assoc}
 use Prim.Native.Nat.{ℕ, _≤_, _<_}
 use native.Mathlib.Omega.{arith}
 use lib.Dec.{eqb}
@@ -11,7 +11,7 @@ use Rattle.model.specs.Versions.{stamp}
 use Rattle.model.specs.Steps.{answerFor}
 use Rattle.model.specs.Record.{Operation}
 use Rattle.model.specs.Demand.{Ending, FinishedAt, Call, endFor, Plain, feed, shows, changeEffects, atEnd, endEffects, Stands, Agrees, callAt}
-use Rattle.model.proofs.Basic.{eq-cases, All-get, app-assoc}
+use Rattle.model.proofs.Basic.{eq-cases, All-get}
 use Rattle.model.proofs.Effect.{own-is, change-none}
 use Rattle.model.proofs.Linear.{answerFor-end, answerFor-finishes}
 use Rattle.model.proofs.Slots.{nth, stamp-value}
@@ -22,7 +22,7 @@ use Rattle.model.proofs.History.{hist-skip, hist-show, end-shut}
 use Rattle.model.proofs.Places.{Kept, none-more, one-more, place-inv, doing-is, cur-is, calm, fine-high}
 
 -- the covered version is stamped: on to the hand-in
-cover-on : (now : ℕ) (s : Store) (olds : List (List ℕ)) (h : List Call) (o : List ℕ) (p : Plain) → Inv now s olds h o p → (w : ℕ) → w < s .P
+cover-on : (now : ℕ) (s : Store) (olds : List (List ℕ)) (h : List Call) (o : List ℕ) (p : Plain) → Inv now s olds h o p → (w : ℕ) → w < s .site .P
     → (r c : ℕ) → workerAt s w .doing ≡ PutStamp r c → nth (s .slots) c .high ≤ s .clock → Kept now (place s w (PutHandIn r c)) h o
 cover-on now s olds h o p I w wb r c e hi =
     let d = doing-is now s olds h o p I w wb (PutStamp r c) e in
@@ -33,7 +33,7 @@ cover-on now s olds h o p I w wb r c e hi =
     (d .0, d .1, d .2, hi)
     (a .0, a .1, ((r, a .2 .0, a .2 .1), ⊎-elim (λ u. absurd (omega (arith, u .0, hi, I .clockFits))) (λ u. u .1) (a .2 .2)))
 
-module _ (now : ℕ) (s : Store) (olds : List (List ℕ)) (h : List Call) (o : List ℕ) (p : Plain) (I : Inv now s olds h o p) (w : ℕ) (wb : w < s .P) where
+module _ (now : ℕ) (s : Store) (olds : List (List ℕ)) (h : List Call) (o : List ℕ) (p : Plain) (I : Inv now s olds h o p) (w : ℕ) (wb : w < s .site .P) where
   pub cover-kept : (r c : ℕ) → workerAt s w .doing ≡ PutStamp r c → Kept now (place (cond (eqb (slotAt s c .high) absent) (stamp s r) s) w (PutHandIn r c)) h (o ++ changeEffects h s (cond (eqb (slotAt s c .high) absent) (stamp s r) s))
   unfolding stamp
   cover-kept r c e = ⊎-elim (λ u. rw (u .1) first) (λ u. rw (u .1) (second (u .0))) (eq-cases (slotAt s c .high) absent)
@@ -76,7 +76,7 @@ module _ (now : ℕ) (s : Store) (olds : List (List ℕ)) (h : List Call) (o : L
   unfolding stamp feed shows atEnd answerFor
   show-kept r e =
       let a = cur-is now (stamp s r) olds h (T .o) (T .p) (T .inv) w wb (GetShow r) e in
-      subst (Kept now (place (stamp s r) w Idle) (map (endFor now w (answerFor v)) h)) (app-assoc o (changeEffects h s (stamp s r)) (endEffects h w (answerFor v)))
+      subst (Kept now (place (stamp s r) w Idle) (map (endFor now w (answerFor v)) h)) (append-assoc o (changeEffects h s (stamp s r)) (endEffects h w (answerFor v)))
       (subst (λ (q : List ℕ). Kept now (place (stamp s r) w Idle) (map (endFor now w (answerFor v)) h) (q ++ endEffects h w (answerFor v))) (T .grown)
       (one-more (T .o) (endEffects h w (answerFor v)) (a .0) (own-is (a .1) (answerFor v) (answerFor-finishes v) (ap atEnd (a .2 .0)))
       (place-inv now (stamp s r) olds h (T .o) (T .p) (T .inv) w wb (GetShow r) Idle e (λ i. refl) (calm now (stamp s r) olds h (T .o) (T .p) (T .inv) w wb (GetShow r) tt e)

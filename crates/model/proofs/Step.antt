@@ -2,7 +2,7 @@
 use mathlib.Core.Path.{_≡_, refl, sym, ap, _∙_, subst}
 use mathlib.Core.Bool.{Bool, true, false, cond}
 use mathlib.Core.Logic.{_⊎_, inl, inr, ⊎-elim}
-use mathlib.Core.List.{List, [], _∷_, _++_, map}
+use mathlib.Core.List.{List, [], _∷_, _++_, map, append-nil}
 use Prim.Native.Nat.{ℕ, _≤_, _<_}
 use native.Mathlib.Omega.{arith}
 use lib.Dec.{ltb, leb, eqb}
@@ -14,14 +14,15 @@ use Rattle.model.specs.Answer.{Answer, Ok, Going, Freed, At, Value, Done
 use Rattle.model.specs.Versions.{stamp}
 use Rattle.model.specs.Steps.{putPublish, putStamp, putHandIn, flushTake, flushSplit, flushRead, flushFree, openAnnounce, openPass, answerFor, readEnter, readStand, getShow, closeWithdraw, stepAt}
 use Rattle.model.specs.Demand.{Call, ends, endFor, Plain, changeEffects, finishes, endEffects, occurrences, FreesNothingNeeded, TookIn}
-use Rattle.model.proofs.Basic.{hit-same, hit-other, eq-cases, cond-both, app-nil}
+use Rattle.model.proofs.Basic.{hit-same, hit-other, eq-cases, cond-both}
 use Rattle.model.proofs.Slots.{nth, link-new, unlink-part}
 use Rattle.model.proofs.Effect.{change-none, change-same}
 use Rattle.model.proofs.Linear.{lin-skip, answerFor-ends}
-use Rattle.model.proofs.Invariant.{Inv, inDoing}
+use Rattle.model.proofs.Invariant.{Inv, inDoing, NoneRunning}
+use Rattle.model.proofs.History.{ended-none}
 use Rattle.model.proofs.Apart.{below≤1, free-in}
 use Rattle.model.proofs.Stamp.{Stamped, stamp-inv}
-use Rattle.model.proofs.Places.{Kept, none-more, doing-is, refuse-put, refuse-open, flush-done, hand-done, hand-full, take-kept, ask-kept, split-kept, announce-kept, withdraw-kept, found-kept, on-kept}
+use Rattle.model.proofs.Places.{Kept, none-more, doing-is, cur-is, refuse-put, refuse-open, flush-done, hand-done, hand-full, take-kept, ask-kept, split-kept, announce-kept, withdraw-kept, found-kept, on-kept}
 use Rattle.model.proofs.Stamping.{cover-kept, enter-kept, show-kept}
 use Rattle.model.proofs.Link.{link-kept, linked-store, highs, work-f}
 use Rattle.model.proofs.Unlink.{unlink-kept, freed-store, not-needed, c-pend}
@@ -77,7 +78,7 @@ module _ {now : ℕ} (s : Store) {w : ℕ} {h : List Call} {o : List ℕ} where
   -- only puts and opens take effect
   spreads : (t : Store) (a : Answer) → endEffects h w a ≡ [] → Kept now t (seen now w a h) (o ++ changeEffects h s t) → t .free ≡ s .free → NotFreed a → After now s w h o (record { store = t; answer = a })
   spreads t a y K e n =
-      quiet (subst (λ (q : List ℕ). Kept now t (seen now w a h) (o ++ q)) (sym (ap (λ (q : List ℕ). changeEffects h s t ++ q) y ∙ app-nil (changeEffects h s t))) K) e n
+      quiet (subst (λ (q : List ℕ). Kept now t (seen now w a h) (o ++ q)) (sym (ap (λ (q : List ℕ). changeEffects h s t ++ q) y ∙ append-nil (changeEffects h s t))) K) e n
 
   -- a step that shows a reading
   shows-it : (x : Reading) (t : Store) → Kept now t (map (endFor now w (answerFor x)) h) (o ++ (changeEffects h s t ++ endEffects h w (answerFor x))) → t .free ≡ s .free → After now s w h o (record { store = t; answer = answerFor x })
@@ -117,11 +118,17 @@ inv-skip now s olds h o p I =
             queue = I .queue;
             workers = I .workers;
             stamper = I .stamper;
+            outside = I .outside;
             linear = lin-skip (I .linear);
           };
     }
 
-module _ (batch : ℕ → ℕ) (now : ℕ) (s : Store) (olds : List (List ℕ)) (h : List Call) (o : List ℕ) (p : Plain) (I : Inv now s olds h o p) (w : ℕ) (wb : w < s .P) where
+-- a step record of a worker that performs no operation, refused on reading
+pub no-step : (now : ℕ) (s : Store) (olds : List (List ℕ)) (h : List Call) (o : List ℕ) (p : Plain) → Inv now s olds h o p
+    → (w k : ℕ) → NoneRunning h w → Kept now s (map (endFor now w (No k)) h) o
+no-step now s olds h o p I w k f = subst (λ (q : List Call). Kept now s q o) (sym (ended-none now w (No k) h f)) (inv-skip now s olds h o p I)
+
+module _ (now : ℕ) (s : Store) (olds : List (List ℕ)) (h : List Call) (o : List ℕ) (p : Plain) (I : Inv now s olds h o p) (w : ℕ) (wb : w < s .site .P) where
   put-after : (r : ℕ) (y : Reading) → workerAt s w .doing ≡ PutPublish r y → (l : List ℕ) → s .free ≡ l → After now s w h o (putPublish s w r y l)
   unfolding putPublish ends stamp occurrences
   put-after r y e [] fr = plain s (place s w Idle) (No 14) refl refl (own-refused h w 14) (refuse-put now s olds h o p I w wb r y e) refl tt
@@ -129,7 +136,7 @@ module _ (batch : ℕ → ℕ) (now : ℕ) (s : Store) (olds : List (List ℕ)) 
       record {
         kept =
             subst (λ (q : List ℕ). Kept now t h (o ++ (changeEffects h s t ++ q))) (sym (own-going h w))
-            (subst (λ (q : List ℕ). Kept now t h (o ++ q)) (sym (app-nil (changeEffects h s t)))
+            (subst (λ (q : List ℕ). Kept now t h (o ++ q)) (sym (append-nil (changeEffects h s t)))
             (subst (λ (q : List ℕ). Kept now t h (o ++ q)) (sym same)
             (subst (Kept now t h) (T .grown) (link-kept now (stamp s r) olds h (T .o) (T .p) (T .inv) w wb r b y e (T .low) f fs fr))));
         safe = λ c z. absurd (subst NotFreed z tt);
@@ -141,7 +148,7 @@ module _ (batch : ℕ → ℕ) (now : ℕ) (s : Store) (olds : List (List ℕ)) 
             (eq-cases f c);
       }
     where
-      b : r < s .V'
+      b : r < s .site .V'
       b = doing-is now s olds h o p I w wb (PutPublish r y) e .0
 
       T : Stamped now s r olds h o
@@ -172,9 +179,9 @@ module _ (batch : ℕ → ℕ) (now : ℕ) (s : Store) (olds : List (List ℕ)) 
   free-pick true r = refl
   free-pick false r = refl
 
-  hand-after : (r c : ℕ) → workerAt s w .doing ≡ PutHandIn r c → After now s w h o (putHandIn batch s w c)
+  hand-after : (r c : ℕ) → workerAt s w .doing ≡ PutHandIn r c → After now s w h o (putHandIn s w c)
   unfolding putHandIn ends
-  hand-after r c e = go (eqb (length (workerAt s w .pool ++ (rangeOf s c ∷ []))) (batch (s .P)))
+  hand-after r c e = go (eqb (length (workerAt s w .pool ++ (rangeOf s c ∷ []))) (s .site .B))
     where
       go : (full : Bool) → After now s w h o
           (record { store = withWorker s w (record { doing = cond full FlushTake Idle; announced = workerAt s w .announced; pool = workerAt s w .pool ++ (rangeOf s c ∷ []) }); answer = cond full Going Done })
@@ -199,13 +206,13 @@ module _ (batch : ℕ → ℕ) (now : ℕ) (s : Store) (olds : List (List ℕ)) 
         frees = λ c z.
             let i : ρ .slot ≡ c = cc in
             subst (λ (k : ℕ). (occurrences k (s .free) ≡ 0) × (0 < occurrences k (ρ .slot ∷ s .free))) i
-            (omega (arith, I .once (ρ .slot), below≤1 (ρ .slot) (s .N), c-pend now s olds h o p I w wb ρ l e), omega (arith, hit-same (ρ .slot)));
+            (omega (arith, I .once (ρ .slot), below≤1 (ρ .slot) (s .site .N), c-pend now s olds h o p I w wb ρ l e), omega (arith, hit-same (ρ .slot)));
         stays = λ c z. inl (omega (arith, z));
       }
 
-  pub step-after : (d : Doing) → workerAt s w .doing ≡ d → After now s w h o (stepAt batch s w d)
+  pub step-after : (d : Doing) → workerAt s w .doing ≡ d → After now s w h o (stepAt s w d)
   unfolding stepAt ends putStamp flushTake flushRead flushSplit openAnnounce openPass readEnter readStand getShow closeWithdraw stamp
-  step-after Idle e = plain s s (No 11) refl refl (own-refused h w 11) (inv-skip now s olds h o p I) refl tt
+  step-after Idle e = plain s s (No 11) refl refl (own-refused h w 11) (no-step now s olds h o p I w 11 (cur-is now s olds h o p I w wb Idle e)) refl tt
   step-after (PutPublish r y) e = put-after r y e (s .free) refl
   step-after (PutStamp r c) e = spreads s _ Going (own-going h w) (cover-kept now s olds h o p I w wb r c e) (free-pick (eqb (slotAt s c .high) absent) r) tt
   step-after (PutHandIn r c) e = hand-after r c e
@@ -213,7 +220,7 @@ module _ (batch : ℕ → ℕ) (now : ℕ) (s : Store) (olds : List (List ℕ)) 
   step-after (FlushRead m ts) e =
       cond-both (After now s w h o) (ltb (length ts) (holders s)) _ _
       (λ u. plain s _ Going refl refl (own-going h w) (ask-kept now s olds h o p I w wb m ts e (Tests.ltb-true (length ts) (holders s) u)) refl tt)
-      (λ u. plain s _ Going refl refl (own-going h w) (split-kept now s olds h o p I w wb m ts e (batch (s .P)) (Tests.ltb-false (length ts) (holders s) u)) refl tt)
+      (λ u. plain s _ Going refl refl (own-going h w) (split-kept now s olds h o p I w wb m ts e (s .site .B) (Tests.ltb-false (length ts) (holders s) u)) refl tt)
   step-after (FlushFree m) e = give-after m e
   step-after OpenAnnounce e =
       cond-both (After now s w h o) (eqb (s .clock) 4294967295) _ _

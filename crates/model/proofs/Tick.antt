@@ -2,7 +2,7 @@
 use mathlib.Core.Path.{_≡_, refl, sym, ap, _∙_, subst}
 use mathlib.Core.Bool.{Bool, true, false, true≢false, cond}
 use mathlib.Core.Logic.{_≢_, _⊎_, inl, inr, ⊎-elim}
-use mathlib.Core.List.{List, [], _∷_, _++_, map}
+use mathlib.Core.List.{List, [], _∷_, _++_, map, append-nil, append-assoc}
 use mathlib.Core.Option.{some}
 use Prim.Native.Nat.{ℕ, zero, suc, _+_, _≤_, _<_}
 use native.Mathlib.Omega.{arith}
@@ -13,7 +13,7 @@ use Rattle.model.specs.Store.{absent, Reading, Slot, Range, Doing, Idle,
 use Rattle.model.specs.Answer.{At}
 use Rattle.model.specs.Record.{Operation, Open}
 use Rattle.model.specs.Demand.{FinishedAt, Call, endAs, endFor, Plain, feed, runningOf, stampedOver, passed, takesEffect, filterBelow, changeEffects, atEnd, endEffects, occurrences, Agrees, callAt}
-use Rattle.model.proofs.Basic.{hit-same, hit-other, eq-cases, lt-cases, le-cases, All-map, occurrences-snoc, app-nil, app-assoc, map-app}
+use Rattle.model.proofs.Basic.{hit-same, hit-other, eq-cases, lt-cases, le-cases, All-map, occurrences-snoc, map-app}
 use Rattle.model.proofs.Effect.{running-is, own-not, takes, never, change-none}
 use Rattle.model.proofs.Linear.{Lin, lin-effect}
 use Rattle.model.proofs.Slots.{nth}
@@ -159,15 +159,15 @@ module _ (now : ℕ) (s : Store) (olds : List (List ℕ)) (h : List Call) (o : L
     pub p′ : Plain
     pub linear : Lin now h o′ p′
     pub registers : (r : ℕ) → p′ .registers r ≡ p .registers r
-    pub did : (v : ℕ) → v < s .P → v < m → Ready v → ((f : ℕ → Reading) × (p′ .copy v ≡ some f) × ((r : ℕ) → f r ≡ p .registers r)) × ((k : ℕ) → Running h v k → occurrences k o′ ≡ 1)
-    pub same : (v : ℕ) → v < s .P → (m ≤ v) ⊎ (Ready v → ⊥) → (p′ .copy v ≡ p .copy v) × ((k : ℕ) → Running h v k → occurrences k o′ ≡ occurrences k o)
+    pub did : (v : ℕ) → v < s .site .P → v < m → Ready v → ((f : ℕ → Reading) × (p′ .copy v ≡ some f) × ((r : ℕ) → f r ≡ p .registers r)) × ((k : ℕ) → Running h v k → occurrences k o′ ≡ 1)
+    pub same : (v : ℕ) → v < s .site .P → (m ≤ v) ⊎ (Ready v → ⊥) → (p′ .copy v ≡ p .copy v) × ((k : ℕ) → Running h v k → occurrences k o′ ≡ occurrences k o)
 
-  ticked : (m : ℕ) → m ≤ s .P → Ticked m
+  ticked : (m : ℕ) → m ≤ s .site .P → Ticked m
   unfolding filterBelow
   ticked zero b =
       record {
         o′ = o;
-        grown = sym (app-nil o);
+        grown = sym (append-nil o);
         p′ = p;
         linear = I .linear;
         registers = λ r. refl;
@@ -180,7 +180,7 @@ module _ (now : ℕ) (s : Store) (olds : List (List ℕ)) (h : List Call) (o : L
       pass T n =
           record {
             o′ = T .o′;
-            grown = T .grown ∙ ap (λ (q : List ℕ). o ++ map (runningOf h) q) (sym (ap (λ (t : Bool). filterBelow (takes s s⁺) m ++ cond t (m ∷ []) []) (takes-not m n) ∙ app-nil (filterBelow (takes s s⁺) m)));
+            grown = T .grown ∙ ap (λ (q : List ℕ). o ++ map (runningOf h) q) (sym (ap (λ (t : Bool). filterBelow (takes s s⁺) m ++ cond t (m ∷ []) []) (takes-not m n) ∙ append-nil (filterBelow (takes s s⁺) m)));
             p′ = T .p′;
             linear = T .linear;
             registers = T .registers;
@@ -194,7 +194,7 @@ module _ (now : ℕ) (s : Store) (olds : List (List ℕ)) (h : List Call) (o : L
             o′ = o⁺;
             grown =
                 ap (λ (q : List ℕ). q ++ (k ∷ [])) (T .grown)
-                ∙ app-assoc o (map (runningOf h) (filterBelow (takes s s⁺) m)) (k ∷ [])
+                ∙ append-assoc o (map (runningOf h) (filterBelow (takes s s⁺) m)) (k ∷ [])
                 ∙ ap (λ (i : ℕ). o ++ (map (runningOf h) (filterBelow (takes s s⁺) m) ++ (i ∷ []))) (sym (running-is K))
                 ∙ ap (λ (q : List ℕ). o ++ q) (sym (map-app (runningOf h) (filterBelow (takes s s⁺) m) (m ∷ [])))
                 ∙ ap (λ (t : Bool). o ++ map (runningOf h) (filterBelow (takes s s⁺) m ++ cond t (m ∷ []) [])) (sym (takes-ready m g));
@@ -272,13 +272,14 @@ module _ (now : ℕ) (s : Store) (olds : List (List ℕ)) (h : List Call) (o : L
       queue = All-map (λ m. All-map good m) (s .queue) (I .queue);
       workers = works;
       stamper = I .stamper;
+      outside = I .outside;
       linear = T .linear;
     },
     T .grown,
   )
     where
-      T : Ticked (s .P)
-      T = ticked (s .P) (omega arith)
+      T : Ticked (s .site .P)
+      T = ticked (s .site .P) (omega arith)
 
       x′ : Ctx
       x′ = ctx (withClock s (s .clock + 1)) olds
@@ -286,7 +287,7 @@ module _ (now : ℕ) (s : Store) (olds : List (List ℕ)) (h : List Call) (o : L
       good : (ρ : Range) → Good x ρ → Good x′ ρ
       good ρ g = (g .0, g .1, omega (arith, g .2), omega (arith, g .3))
 
-      works : (v : ℕ) → v < s .P → Works x′ h (T .o′) (T .p′) v (workerAt s v)
+      works : (v : ℕ) → v < s .site .P → Works x′ h (T .o′) (T .p′) v (workerAt s v)
       works v vb =
           record {
             pool = All-map good (workerAt s v .pool) (Z .pool);
@@ -340,7 +341,7 @@ module _ (now : ℕ) (s : Store) (olds : List (List ℕ)) (h : List Call) (o : L
               (Z .current)
 
 -- the open's second step, with the clock past its time
-done-kept : (now : ℕ) (s : Store) (olds : List (List ℕ)) (h : List Call) (o : List ℕ) (p : Plain) → Inv now s olds h o p → (w : ℕ) → w < s .P
+done-kept : (now : ℕ) (s : Store) (olds : List (List ℕ)) (h : List Call) (o : List ℕ) (p : Plain) → Inv now s olds h o p → (w : ℕ) → w < s .site .P
     → workerAt s w .doing ≡ OpenPass → workerAt s w .announced < s .clock → Kept now (place s w Idle) (map (endFor now w (At (workerAt s w .announced))) h) (o ++ endEffects h w (At (workerAt s w .announced)))
 unfolding endAs atEnd
 done-kept now s olds h o p I w wb e b =
@@ -352,7 +353,7 @@ done-kept now s olds h o p I w wb e b =
     (λ q. subst (λ (c : Operation). Agrees c (FinishedAt now (At (workerAt s w .announced))) q) (sym (a .2 .0)) tt))
     refl (inr b) (end-shut now w h o p (I .linear) (At (workerAt s w .announced)) (a .0) (a .1)))
 
-pub pass-kept : (now : ℕ) (s : Store) (olds : List (List ℕ)) (h : List Call) (o : List ℕ) (p : Plain) → Inv now s olds h o p → (w : ℕ) → w < s .P
+pub pass-kept : (now : ℕ) (s : Store) (olds : List (List ℕ)) (h : List Call) (o : List ℕ) (p : Plain) → Inv now s olds h o p → (w : ℕ) → w < s .site .P
     → workerAt s w .doing ≡ OpenPass
     → Kept now (place (withClock s (cond (eqb (s .clock) (workerAt s w .announced)) (s .clock + 1) (s .clock))) w Idle) (map (endFor now w (At (workerAt s w .announced))) h)
     (o ++ (changeEffects h s (withClock s (cond (eqb (s .clock) (workerAt s w .announced)) (s .clock + 1) (s .clock))) ++ endEffects h w (At (workerAt s w .announced))))
@@ -362,7 +363,7 @@ pass-kept now s olds h o p I w wb e =
     (λ u.
     let T = tick-inv now s olds h o p I (omega (arith, u .0, d .1)) in
     subst (λ (t : Bool). Kept now (place (withClock s (cond t (s .clock + 1) (s .clock))) w Idle) (map (endFor now w (At (workerAt s w .announced))) h) (o ++ (changeEffects h s (withClock s (cond t (s .clock + 1) (s .clock))) ++ endEffects h w (At (workerAt s w .announced))))) (sym (u .1))
-    (subst (Kept now (place (withClock s (s .clock + 1)) w Idle) (map (endFor now w (At (workerAt s w .announced))) h)) (app-assoc o (changeEffects h s (withClock s (s .clock + 1))) (endEffects h w (At (workerAt s w .announced))))
+    (subst (Kept now (place (withClock s (s .clock + 1)) w Idle) (map (endFor now w (At (workerAt s w .announced))) h)) (append-assoc o (changeEffects h s (withClock s (s .clock + 1))) (endEffects h w (At (workerAt s w .announced))))
     (subst (λ (q : List ℕ). Kept now (place (withClock s (s .clock + 1)) w Idle) (map (endFor now w (At (workerAt s w .announced))) h) (q ++ endEffects h w (At (workerAt s w .announced)))) (T .3)
     (done-kept now (withClock s (s .clock + 1)) olds h (T .0) (T .1) (T .2) w wb e (omega (arith, u .0))))))
     (λ u.

@@ -130,21 +130,21 @@ sumTo-below : (n : ℕ) → sumTo n (λ c. below c n) ≡ n
 sumTo-below n = sumTo-same n (λ c. below c n) (λ c. 1) (λ c z. ⊎-elim (λ u. u .1) (λ u. absurd (omega (arith, z, u .0))) (below-is c n)) ∙ ones n
 
 pub total : {now : ℕ} {s : Store} {olds : List (List ℕ)} {h : List Call} {o : List ℕ} {p : Plain} → Inv now s olds h o p
-    → sumBy versionsHeld (s .workers) + sumBy length (s .queue) + (length (s .free) + s .V') ≡ s .N
+    → sumBy versionsHeld (s .workers) + sumBy length (s .queue) + (length (s .free) + s .site .V') ≡ s .site .N
 total {s = s} I =
     omega (
       arith,
       I .newestLength,
-      sumTo-below (s .N),
-      sumTo-same (s .N) (λ c. pend c (s .workers) (s .queue) + (occurrences c (s .free) + occurrences c (s .newest))) (λ c. below c (s .N)) (λ c z. I .once c),
-      sumTo-add (s .N) (λ c. pend c (s .workers) (s .queue)) (λ c. occurrences c (s .free) + occurrences c (s .newest)),
-      sumTo-add (s .N) (λ c. sumBy (pendW c) (s .workers)) (λ c. sumBy (cnt c) (s .queue)),
-      sumTo-add (s .N) (λ c. occurrences c (s .free)) (λ c. occurrences c (s .newest)),
-      occurrences-all (s .N) (s .free) (λ c z. omega (arith, zero-at c z)),
-      occurrences-all (s .N) (s .newest) (λ c z. omega (arith, zero-at c z)),
-      work-all (s .N) (s .workers) (λ c z. omega (arith, zero-at c z)),
-      queue-all (s .N) (s .queue) (λ c z. omega (arith, zero-at c z)),
+      sumTo-below (s .site .N),
+      sumTo-same (s .site .N) (λ c. pend c (s .workers) (s .queue) + (occurrences c (s .free) + occurrences c (s .newest))) (λ c. below c (s .site .N)) (λ c z. I .once c),
+      sumTo-add (s .site .N) (λ c. pend c (s .workers) (s .queue)) (λ c. occurrences c (s .free) + occurrences c (s .newest)),
+      sumTo-add (s .site .N) (λ c. sumBy (pendW c) (s .workers)) (λ c. sumBy (cnt c) (s .queue)),
+      sumTo-add (s .site .N) (λ c. occurrences c (s .free)) (λ c. occurrences c (s .newest)),
+      occurrences-all (s .site .N) (s .free) (λ c z. omega (arith, zero-at c z)),
+      occurrences-all (s .site .N) (s .newest) (λ c z. omega (arith, zero-at c z)),
+      work-all (s .site .N) (s .workers) (λ c z. omega (arith, zero-at c z)),
+      queue-all (s .site .N) (s .queue) (λ c z. omega (arith, zero-at c z)),
     )
   where
-    zero-at : (c : ℕ) → s .N ≤ c → pend c (s .workers) (s .queue) + (occurrences c (s .free) + occurrences c (s .newest)) ≡ 0
-    zero-at c z = I .once c ∙ ⊎-elim (λ u. absurd (omega (arith, z, u .0))) (λ u. u .1) (below-is c (s .N))
+    zero-at : (c : ℕ) → s .site .N ≤ c → pend c (s .workers) (s .queue) + (occurrences c (s .free) + occurrences c (s .newest)) ≡ 0
+    zero-at c z = I .once c ∙ ⊎-elim (λ u. absurd (omega (arith, z, u .0))) (λ u. u .1) (below-is c (s .site .N))

@@ -9,7 +9,7 @@ use lib.Dec.{eqb}
 use lib.ListN.{length, set, length-set, length-map}
 use lib.Seq.{getD-set-same, getD-set-other}
 use borrow.Author.Tests as Tests
-use Rattle.model.specs.Store.{absent, Reading, Slot, Range, Doing, Idle, PutPublish, PutStamp, PutHandIn, FlushTake, FlushRead, FlushFree, OpenAnnounce, OpenPass, ReadEnter, ReadStand, CloseWithdraw, GetShow, Worker, startWorker, Store, workerAt, holders, held, withDoing}
+use Rattle.model.specs.Store.{absent, Reading, Slot, Range, Doing, Idle, PutPublish, PutStamp, PutHandIn, FlushTake, FlushRead, FlushFree, OpenAnnounce, OpenPass, ReadEnter, ReadStand, CloseWithdraw, GetShow, Worker, startWorker, Store, workerAt, holders, held, withDoing, withSlots, withFree, withWorkers}
 use Rattle.model.specs.Versions.{unlinkSlots}
 use Rattle.model.specs.Steps.{moveOff, workerOff}
 use Rattle.model.specs.Demand.{Call, Plain, occurrences, All, callAt}
@@ -108,7 +108,7 @@ doing-off c q x x′ p w t (ReadStand r i) m s a = s r i refl a
 doing-off c q x x′ p w t CloseWithdraw m s a = doing-map x x′ p p w t refl CloseWithdraw (m tt) a
 doing-off c q x x′ p w t (GetShow r) m s a = doing-map x x′ p p w t refl (GetShow r) (m tt) a
 
-module _ (now : ℕ) (s : Store) (olds : List (List ℕ)) (h : List Call) (o : List ℕ) (p : Plain) (I : Inv now s olds h o p) (w : ℕ) (wb : w < s .P)
+module _ (now : ℕ) (s : Store) (olds : List (List ℕ)) (h : List Call) (o : List ℕ) (p : Plain) (I : Inv now s olds h o p) (w : ℕ) (wb : w < s .site .P)
     (ρ : Range) (l : List Range) (e : workerAt s w .doing ≡ FlushFree (ρ ∷ l)) where
   abbrev c : ℕ
   c = ρ .slot
@@ -133,17 +133,7 @@ module _ (now : ℕ) (s : Store) (olds : List (List ℕ)) (h : List Call) (o : L
 
   abbrev pub freed-store : Store
   freed-store =
-      record {
-        P = s .P;
-        V' = s .V';
-        N = s .N;
-        clock = s .clock;
-        slots = sl′;
-        newest = s .newest;
-        free = c ∷ s .free;
-        queue = s .queue;
-        workers = map (workerOff c oc) (set (s .workers) w y⁺);
-      }
+      withWorkers (withFree (withSlots s sl′) (c ∷ s .free)) (map (workerOff c oc) (set (s .workers) w y⁺))
 
   d₀ : PlaceHolds x p w (workerAt s w .announced) (FlushFree (ρ ∷ l))
   d₀ = doing-is now s olds h o p I w wb (FlushFree (ρ ∷ l)) e
@@ -160,7 +150,7 @@ module _ (now : ℕ) (s : Store) (olds : List (List ℕ)) (h : List Call) (o : L
   unfolding cnt
   c-work = omega (arith, hit-same c, ap (inDoing c) e)
 
-  module _ (r : ℕ) (b : r < s .V') (cr : 0 < occurrences c (old x r)) where
+  module _ (r : ℕ) (b : r < s .site .V') (cr : 0 < occurrences c (old x r)) where
     abbrev olds′ : List (List ℕ)
     olds′ = set olds r (remove c (old x r))
 
@@ -214,7 +204,7 @@ module _ (now : ℕ) (s : Store) (olds : List (List ℕ)) (h : List Call) (o : L
         (λ u. subst (Sees sl′ a y) (sym (chain-other q (u .0))) (Sees-mono sl sl′ a y (chain x q) (λ i _. mono a i) g))
         (eq-cases q r)
 
-    ons : (a : ℕ) → (nth sl c .low ≤ a → a < nth sl c .high → ⊥) → (y : Reading) (q : ℕ) → q < s .V' → (i : ℕ) → On sl a i y (chain x q) → On sl′ a (cond (eqb i c) oc i) y (chain x′ q)
+    ons : (a : ℕ) → (nth sl c .low ≤ a → a < nth sl c .high → ⊥) → (y : Reading) (q : ℕ) → q < s .site .V' → (i : ℕ) → On sl a i y (chain x q) → On sl′ a (cond (eqb i c) oc i) y (chain x′ q)
     ons a nn y q d i g =
         ⊎-elim
         (λ u.
@@ -232,7 +222,7 @@ module _ (now : ℕ) (s : Store) (olds : List (List ℕ)) (h : List Call) (o : L
         (subst (On sl′ a i y) (sym (chain-other q (u .0))) (On-mono sl sl′ a i y (chain x q) (λ j _. mono a j) g)))
         (eq-cases q r)
 
-    linked : (q : ℕ) → q < s .V' → Linked sl′ absent (chain x′ q)
+    linked : (q : ℕ) → q < s .site .V' → Linked sl′ absent (chain x′ q)
     linked q d =
         ⊎-elim
         (λ u. subst (λ (j : ℕ). Linked sl′ absent (chain x′ j)) (sym (u .0))
@@ -257,7 +247,7 @@ module _ (now : ℕ) (s : Store) (olds : List (List ℕ)) (h : List Call) (o : L
         far : (i : ℕ) (m : List ℕ) (n : ℕ) → occurrences i (n ∷ m) ≡ 0 → 0 < occurrences i m → ⊥
         far i m n = unfold occurrences in (λ z k. omega (arith, z, k))
 
-    fine : (q : ℕ) → q < s .V' → Fine sl′ ck (p .registers q) (chain x′ q)
+    fine : (q : ℕ) → q < s .site .V' → Fine sl′ ck (p .registers q) (chain x′ q)
     fine q d =
         ⊎-elim
         (λ u. subst (λ (j : ℕ). Fine sl′ ck (p .registers j) (chain x′ j)) (sym (u .0))
@@ -269,7 +259,7 @@ module _ (now : ℕ) (s : Store) (olds : List (List ℕ)) (h : List Call) (o : L
         same : (y : Reading) (m : List ℕ) → Fine sl ck y m → Fine sl′ ck y m
         same y m = Fine-same sl sl′ ck y y m refl (λ i _. (lows i, highs i, values i))
 
-    len⁺ : length (set (s .workers) w y⁺) ≡ s .P
+    len⁺ : length (set (s .workers) w y⁺) ≡ s .site .P
     len⁺ = length-set (s .workers) w y⁺ ∙ I .workersLength
 
     at-own : workerAt freed-store w ≡ y⁺
@@ -278,12 +268,12 @@ module _ (now : ℕ) (s : Store) (olds : List (List ℕ)) (h : List Call) (o : L
         getD-map (workerOff c oc) (set (s .workers) w y⁺) w startWorker startWorker (omega (arith, len⁺))
         ∙ ap (workerOff c oc) (getD-set-same (s .workers) w y⁺ startWorker (omega (arith, I .workersLength)))
 
-    at-other : (v : ℕ) → v < s .P → v ≢ w → workerAt freed-store v ≡ workerOff c oc (workerAt s v)
+    at-other : (v : ℕ) → v < s .site .P → v ≢ w → workerAt freed-store v ≡ workerOff c oc (workerAt s v)
     at-other v vb z =
         getD-map (workerOff c oc) (set (s .workers) w y⁺) v startWorker startWorker (omega (arith, len⁺))
         ∙ ap (workerOff c oc) (getD-set-other (s .workers) w v y⁺ startWorker z)
 
-    still : (v : ℕ) → v < s .P → x′ .held v ≡ x .held v
+    still : (v : ℕ) → v < s .site .P → x′ .held v ≡ x .held v
     unfolding workerOff
     still v vb =
         ⊎-elim
@@ -291,7 +281,7 @@ module _ (now : ℕ) (s : Store) (olds : List (List ℕ)) (h : List Call) (o : L
         (λ u. ap (λ (z : Worker). z .announced) (at-other v vb (u .0)))
         (eq-cases v w)
 
-    other : (v : ℕ) → v < s .P → v ≢ w → Works x′ h o p v (workerOff c oc (workerAt s v))
+    other : (v : ℕ) → v < s .site .P → v ≢ w → Works x′ h o p v (workerOff c oc (workerAt s v))
     unfolding workerOff
     other v vb vw =
         record {
@@ -312,7 +302,7 @@ module _ (now : ℕ) (s : Store) (olds : List (List ℕ)) (h : List Call) (o : L
         apart : (i : ℕ) → 0 < inDoing i (workerAt s v .doing) → i ≢ c
         apart i z u =
             let k : 0 < pendW c (workerAt s v) = omega (arith, subst (λ (j : ℕ). 0 < inDoing j (workerAt s v .doing)) u z) in
-            omega (arith, k, c-work, sumBy-two (pendW c) (s .workers) v w startWorker (omega (arith, I .workersLength)) (omega (arith, I .workersLength)) vw, I .once c, below≤1 c (s .N))
+            omega (arith, k, c-work, sumBy-two (pendW c) (s .workers) v w startWorker (omega (arith, I .workersLength)) (omega (arith, I .workersLength)) vw, I .once c, below≤1 c (s .site .N))
 
         moves : NotStanding (workerAt s v .doing) → Moves x x′ (workerAt s v .announced) (workerAt s v .doing)
         moves ns =
@@ -412,6 +402,7 @@ module _ (now : ℕ) (s : Store) (olds : List (List ℕ)) (h : List Call) (o : L
                       ap (λ (i : Worker). i .doing) (at-other (a .0) (a .1) (λ m. apart (a .2) q (sym (a .3) ∙ ap (λ (j : ℕ). workerAt s j .doing) m ∙ e))) ∙ ap (moveOff c oc) (a .3),
                       highs (a .2) ∙ a .4,
                     );
+                outside = I .outside;
                 linear = lin-skip (I .linear);
               };
         }

@@ -18,7 +18,7 @@ use Rattle.model.proofs.Invariant.{Ctx, ctx, chain, pendW, pend, Good, 
 use Rattle.model.proofs.Transport.{Moves, doing-map, fits-map, current-map}
 use Rattle.model.proofs.History.{Hist}
 
-module _ (now : ℕ) (s : Store) (olds : List (List ℕ)) (h : List Call) (o : List ℕ) (p : Plain) (I : Inv now s olds h o p) (w : ℕ) (wb : w < s .P)
+module _ (now : ℕ) (s : Store) (olds : List (List ℕ)) (h : List Call) (o : List ℕ) (p : Plain) (I : Inv now s olds h o p) (w : ℕ) (wb : w < s .site .P)
     (y : Worker) (q : List (List Range)) where
   abbrev pub after : Store
   after = withQueue (withWorker s w y) q
@@ -77,6 +77,7 @@ module _ (now : ℕ) (s : Store) (olds : List (List ℕ)) (h : List Call) (o : L
                 ap (λ (z : Worker). z .doing) (at-other (a .0) (λ n. nc r (a .2) (ap (λ (i : ℕ). workerAt s i .doing) (sym n) ∙ a .3) (a .4))) ∙ a .3,
                 a .4,
               );
+          outside = λ v b. H .shut v (λ z. omega (arith, b, z, wb)) (I .outside v b);
           linear = H .linear;
         }
       where
@@ -96,7 +97,7 @@ module _ (now : ℕ) (s : Store) (olds : List (List ℕ)) (h : List Call) (o : L
               on = λ r i a z u e v. v;
             }
 
-        other : (v : ℕ) → v < s .P → v ≢ w → Works x′ h′ o′ p′ v (workerAt s v)
+        other : (v : ℕ) → v < s .site .P → v ≢ w → Works x′ h′ o′ p′ v (workerAt s v)
         other v vb n =
             record {
               pool = Z .pool;

@@ -6,6 +6,7 @@ use Prim.Native.Nat.{ℕ, zero, suc, _-_}
 use lib.Dec.{ltb, leb}
 use lib.ListN.{length, take, replicate}
 use Rattle.model.specs.Store.{absent, lastClock, reading₀, Slot, Doing, Idle, PutPublish, PutStamp, PutHandIn, FlushTake, FlushRead, FlushFree, OpenAnnounce, OpenPass, ReadEnter, ReadStand, CloseWithdraw, GetShow, startWorker, Store, Hub, blank, up, upFrom, workerAt, place}
+use Rattle.model.specs.Rules.{Rules, Ruled}
 use Rattle.model.specs.Answer.{Answer, Ok, No, Applied}
 use Rattle.model.specs.Versions.{alone}
 use Rattle.model.specs.Steps.{stepAt}
@@ -39,14 +40,12 @@ firstSlots (suc v) (z ∷ l) =
     record { value = reading₀; low = 0; high = absent; older = absent; newer = absent } ∷ firstSlots v l
 
 -- "At setup, whatever the lent memory held, every worker has its starting record, the queue is empty, and register r has the one version in
--- slot r, value 0, low 0, high open. Slots V to N−1 are free, V taken first, then V+1 and so on." The row beyond N is not in the store; that
--- it keeps its contents is said where memory is lent.
-unfoldable pub fresh : Sizes → List Slot → Store
-fresh z row =
+-- slot r, value 0, low 0, high open. Slots V to N−1 are free, V taken first, then V+1 and so on." The batch size is b. The row beyond N is not
+-- in the store; that it keeps its contents is said where memory is lent.
+unfoldable pub fresh : ℕ → Sizes → List Slot → Store
+fresh b z row =
     record {
-      P = z .P;
-      V' = z .V';
-      N = z .N;
+      site = record { P = z .P; V' = z .V'; N = z .N; B = b };
       clock = z .clock;
       slots = firstSlots (z .V') (take (z .N) row);
       newest = upFrom 0 (z .V');
@@ -56,10 +55,10 @@ fresh z row =
     }
 
 -- 9 setup when set up; 5 setup outside the ranges, or "a row too short for its N"
-unfoldable pub setUp : Hub → Sizes → Applied
-setUp (up s) z = refuse (up s) 9
-setUp (blank row) z =
-    let y : Applied = record { hub = up (fresh z row); answer = Ok } in
+unfoldable pub setUp : Rules → Hub → Sizes → Applied
+setUp rules (up s) z = refuse (up s) 9
+setUp rules (blank row) z =
+    let y : Applied = record { hub = up (fresh (rules .batch (z .P)) z row); answer = Ok } in
     unless (inRanges z && leb (z .N) (length row)) (blank row) 5 y
 
 ------------------------------------------------------------------------
@@ -122,8 +121,8 @@ unfoldable pub begin : Store → ℕ → Operation → Applied
 begin s w o =
     let has = ltb (workerAt s w .announced) absent in
     let begun : Applied = record { hub = up (place s w (firstPlace o)); answer = Ok } in
-    unless (ltb w (s .P)) (up s) 3
-    (unless (registerBelow (s .V') o) (up s) 4
+    unless (ltb w (s .site .P)) (up s) 3
+    (unless (registerBelow (s .site .V') o) (up s) 4
     (unless (isIdle (workerAt s w .doing)) (up s) 10
     (unless (mayOpen o has) (up s) 12
     (unless (mayUseTime o has) (up s) 13 begun))))
@@ -132,38 +131,51 @@ begin s w o =
 -- A step
 
 -- 3 worker not below P; else the worker's step, which is 11 where it is idle
-unfoldable pub step : (ℕ → ℕ) → Store → ℕ → Applied
-step batch s w =
-    let x = stepAt batch s w (workerAt s w .doing) in
-    unless (ltb w (s .P)) (up s) 3 (record { hub = up (x .store); answer = x .answer })
+unfoldable pub step : Store → ℕ → Applied
+step s w =
+    let x = stepAt s w (workerAt s w .doing) in
+    unless (ltb w (s .site .P)) (up s) 3 (record { hub = up (x .store); answer = x .answer })
+
+-- A step is taken: the hub is set up, and the record is a step of a worker below P that is not idle. "A record refused on reading begins nothing and
+-- takes no step." "A step that meets a refusal is a step taken."
+unfoldable pub takesStep : Hub → Decoded → Bool
+takesStep (blank row) d = false
+takesStep (up s) (Asks (SetUp z)) = false
+takesStep (up s) (Asks (Begin w o)) = false
+takesStep (up s) (Asks (Step w)) = ltb w (s .site .P) && not (isIdle (workerAt s w .doing))
+takesStep (up s) (Refuses k) = false
 
 ------------------------------------------------------------------------
 -- One record
 
 -- 8 not set up
-unfoldable pub obey : (ℕ → ℕ) → Hub → Command → Applied
-obey batch h (SetUp z) = setUp h z
-obey batch (blank row) (Begin w o) = refuse (blank row) 8
-obey batch (up s) (Begin w o) = begin s w o
-obey batch (blank row) (Step w) = refuse (blank row) 8
-obey batch (up s) (Step w) = step batch s w
+unfoldable pub obey : Rules → Hub → Command → Applied
+obey rules h (SetUp z) = setUp rules h z
+obey rules (blank row) (Begin w o) = refuse (blank row) 8
+obey rules (up s) (Begin w o) = begin s w o
+obey rules (blank row) (Step w) = refuse (blank row) 8
+obey rules (up s) (Step w) = step s w
 
-unfoldable pub applyDecoded : (ℕ → ℕ) → Hub → Decoded → Applied
-applyDecoded batch h (Asks c) = obey batch h c
-applyDecoded batch h (Refuses k) = refuse h k
+unfoldable pub applyDecoded : Rules → Hub → Decoded → Applied
+applyDecoded rules h (Asks c) = obey rules h c
+applyDecoded rules h (Refuses k) = refuse h k
 
--- One record, any bytes, any length, applied to the hub.
-unfoldable pub apply : (ℕ → ℕ) → Hub → List ℕ → Applied
-apply batch h b = applyDecoded batch h (decode b)
+-- One record, any bytes, any length, applied to the hub under the rules given.
+unfoldable pub apply : Rules → Hub → List ℕ → Applied
+apply rules h b = applyDecoded rules h (decode b)
+
+-- a record under its own rules
+abbrev pub applyRuled : Hub → Ruled → Applied
+applyRuled h b = apply (b .rules) h (b .bytes)
 
 -- the hub after a list of records, each meeting the hub as the last one left it
-unfoldable pub hubAfter : (ℕ → ℕ) → Hub → List (List ℕ) → Hub
-hubAfter batch h [] = h
-hubAfter batch h (b ∷ bs) = hubAfter batch (apply batch h b .hub) bs
+unfoldable pub hubAfter : Hub → List Ruled → Hub
+hubAfter h [] = h
+hubAfter h (b ∷ bs) = hubAfter (applyRuled h b .hub) bs
 
 -- and the answers to them
-unfoldable pub answersTo : (ℕ → ℕ) → Hub → List (List ℕ) → List Answer
-answersTo batch h [] = []
-answersTo batch h (b ∷ bs) =
-    let a = apply batch h b in
-    a .answer ∷ answersTo batch (a .hub) bs
+unfoldable pub answersTo : Hub → List Ruled → List Answer
+answersTo h [] = []
+answersTo h (b ∷ bs) =
+    let a = applyRuled h b in
+    a .answer ∷ answersTo (a .hub) bs

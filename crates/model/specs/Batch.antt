@@ -1,5 +1,4 @@
 -- B, the batch size (document 01's term): "the number of workers times its base-2 logarithm rounded up, and 1 for one worker".
--- Everything else takes the batch size as a parameter, a function of the number of workers.
 use mathlib.Core.Bool.{cond}
 use Prim.Native.Nat.{ℕ, zero, suc, _*_, _^_}
 use lib.Dec.{leb}

@@ -6,6 +6,7 @@ use Prim.Native.Nat.{ℕ}
 use lib.ListN.{length, replicate, getD, set}
 use Rattle.model.specs.Store.{absent, Range, Slot, slot₀, FlushRead, startWorker, Store, Hub, blank, up}
 use Rattle.model.specs.Batch.{batchOf}
+use Rattle.model.specs.Rules.{document01, Ruled, under}
 use Rattle.model.specs.Answer.{Answer, Ok, Going, At, Value, No}
 use Rattle.model.specs.Ranges.{needed, merge}
 use Rattle.model.specs.Steps.{flushSplit}
@@ -28,6 +29,10 @@ recordOf (Begin w (Get r)) = 5 ∷ w ∷ bytesOf 2 r ++ replicate 12 0
 recordOf (Begin w Collect) = 6 ∷ w ∷ replicate 14 0
 recordOf (Step w) = 7 ∷ w ∷ replicate 14 0
 
+-- a command's record, handed in under document 01's rules
+abbrev pub handed : Command → Ruled
+handed c = under document01 (recordOf c)
+
 abbrev pub setup : ℕ → ℕ → ℕ → ℕ → Command
 setup p v n t = SetUp (record { P = p; V' = v; N = n; clock = t })
 
@@ -40,13 +45,13 @@ rowOf n = blank (replicate n slot₀)
 
 -- the answers to a list of commands
 abbrev pub answers : ℕ → List Command → List Answer
-answers n l = answersTo batchOf (rowOf n) (map recordOf l)
+answers n l = answersTo (rowOf n) (map handed l)
 
 ------------------------------------------------------------------------
 -- What a list of commands leaves
 
 abbrev pub leaves : Hub → List Command → Hub
-leaves h l = hubAfter batchOf h (map recordOf l)
+leaves h l = hubAfter h (map handed l)
 
 unfoldable pub clockOf : Hub → ℕ
 clockOf (blank row) = 0
@@ -66,13 +71,11 @@ range c l h = record { slot = c; low = l; high = h }
 abbrev pub fourRanges : List Range
 fourRanges = range 0 3 5 ∷ range 1 5 5 ∷ range 2 5 6 ∷ range 3 2 9 ∷ []
 
--- a hub of two workers, so B is 2: the queue is empty, worker 1 has announced 1, and worker 0 has one range in its local pool
+-- a hub of two workers with B 2: the queue is empty, worker 1 has announced 1, and worker 0 has one range in its local pool
 abbrev pub splitting : Store
 splitting =
     record {
-      P = 2;
-      V' = 1;
-      N = 9;
+      site = record { P = 2; V' = 1; N = 9; B = 2 };
       clock = 4;
       slots = replicate 9 slot₀;
       newest = 0 ∷ [];
@@ -86,7 +89,7 @@ splitting =
 
 -- the lengths of the pools on its queue after worker 0 split so many ranges that the time 1 needs; its local pool is in the last
 abbrev pub poolsAfter : ℕ → List ℕ
-poolsAfter n = map length (flushSplit batchOf splitting 0 (replicate n (range 0 1 2)) (absent ∷ 1 ∷ []) .store .queue)
+poolsAfter n = map length (flushSplit splitting 0 (replicate n (range 0 1 2)) (absent ∷ 1 ∷ []) .store .queue)
 
 ------------------------------------------------------------------------
 -- The table
@@ -175,4 +178,4 @@ exampleText =
 
 -- over a row of two slots, the least that its setup needs
 abbrev pub Example : Type 0
-Example = logOf batchOf (replicate 2 slot₀) exampleFile ≡ exampleText
+Example = logOf document01 (replicate 2 slot₀) exampleFile ≡ exampleText

@@ -16,9 +16,10 @@ use Prim.Native.Nat.{ℕ, zero, suc, _+_, _≤_, _<_}
 use lib.Dec.{ltb, leb, eqb}
 use lib.ListN.{length, getD}
 use Rattle.model.specs.Store.{absent, Reading, Slot, Doing, Idle, PutPublish, PutStamp, PutHandIn, FlushTake, FlushRead, FlushFree, OpenAnnounce, OpenPass, ReadEnter, ReadStand, CloseWithdraw, GetShow, Store, Hub, blank, up, workerAt, slotAt, newestOf}
+use Rattle.model.specs.Rules.{Ruled}
 use Rattle.model.specs.Answer.{Answer, Ok, Going, Freed, At, Value, Done, No}
 use Rattle.model.specs.Record.{Operation, Put, Open, Read, Close, Get, Collect, SetUp, Begin, Step, Decoded, Asks, Refuses, decode}
-use Rattle.model.specs.Apply.{apply}
+use Rattle.model.specs.Apply.{takesStep, applyRuled}
 
 ------------------------------------------------------------------------
 -- "The list starts from the store that the accepted setup left. Each record is lent that memory as the last one left it."
@@ -30,12 +31,12 @@ pub record Event : Type 0 where
   pub answer : Answer
   pub after : Hub
 
--- the events of a list of records, of any bytes and any lengths, that starts with hub h
-unfoldable pub events : (ℕ → ℕ) → Hub → List (List ℕ) → List Event
-events batch h [] = []
-events batch h (b ∷ bs) =
-    let a = apply batch h b in
-    record { bytes = b; before = h; answer = a .answer; after = a .hub } ∷ events batch (a .hub) bs
+-- the events of a list of records, of any bytes and any lengths and each under its own rules, that starts with hub h
+unfoldable pub events : Hub → List Ruled → List Event
+events h [] = []
+events h (b ∷ bs) =
+    let a = applyRuled h b in
+    record { bytes = b .bytes; before = h; answer = a .answer; after = a .hub } ∷ events (a .hub) bs
 
 -- what is seen of an event from outside
 pub record Exchange : Type 0 where
@@ -64,6 +65,13 @@ pub record Call : Type 0 where
   pub begun : ℕ
   pub ending : Ending
 
+-- what stands where a history has no call
+abbrev pub call₀ : Call
+call₀ = record { operation = Collect; worker = 0; begun = 0; ending = Unfinished }
+
+abbrev pub callAt : List Call → ℕ → Call
+callAt h i = getD h i call₀
+
 unfoldable pub isOk : Answer → Bool
 isOk Ok = true
 isOk Going = false
@@ -73,8 +81,8 @@ isOk (Value x) = false
 isOk Done = false
 isOk (No k) = false
 
--- The answer to a step record ends the worker's operation: it is "neither `going` nor `freed S`". A refusal below 14 is given on reading: then no
--- step is taken. One met at the step is 14 or above, and "a step that meets a refusal is a step taken". This is asked of step records only.
+-- The answer to a step of the worker ends its operation: it is "neither `going` nor `freed S`". Only a step record of that worker between begin and
+-- end counts, and each of these takes a step: `StepsTaken` below.
 unfoldable pub ends : Answer → Bool
 ends Ok = true
 ends Going = false
@@ -82,7 +90,7 @@ ends (Freed c) = false
 ends (At t) = true
 ends (Value x) = true
 ends Done = true
-ends (No k) = leb 14 k
+ends (No k) = true
 
 -- the end, at record i with answer a
 unfoldable pub endAs : ℕ → Answer → Ending
@@ -123,6 +131,24 @@ observe i (Refuses k) a l = l
 unfoldable pub history : ℕ → List Exchange → List Call → List Call
 history i [] l = l
 history i (e ∷ es) l = history (i + 1) es (observe i (decode (e .bytes)) (e .answer) l)
+
+-- an operation of worker w is between its begin and its end
+abbrev pub Performs : List Call → ℕ → Type 0
+Performs h w = (i : ℕ) × (i < length h) × (callAt h i .worker ≡ w) × (callAt h i .ending ≡ Unfinished)
+
+-- a step record of such a worker takes a step
+abbrev pub StepTaken : List Call → Decoded → Hub → Type 0
+StepTaken h (Asks (SetUp z)) before = Unit {0}
+StepTaken h (Asks (Begin w o)) before = Unit {0}
+StepTaken h (Asks (Step w)) before = Performs h w → takesStep before (Asks (Step w)) ≡ true
+StepTaken h (Refuses k) before = Unit {0}
+
+-- "A record refused on reading .. takes no step": of the events given, the first of which has number i and finds the calls h, none that `history`
+-- takes for a step of an operation is refused on reading.
+unfoldable pub StepsTaken : ℕ → List Event → List Call → Type 0
+StepsTaken i [] h = Unit {0}
+StepsTaken i (e ∷ es) h =
+    StepTaken h (decode (e .bytes)) (e .before) × StepsTaken (i + 1) es (observe i (decode (e .bytes)) (e .answer) h)
 
 ------------------------------------------------------------------------
 -- "Plain registers are V values, 0 at first, and for each worker one copy of them all or none, none at first." Here they are a function of the
@@ -167,13 +193,6 @@ shows p w Collect = none
 -- The order: a list of indices in the history, by the calls' effects along the list of records. "Effect in the order: a put at the
 -- stamping of its version, an open when the clock passes its time, a get at its step and after a put stamped in it, a read, close or
 -- collect at its end."
-
--- what stands where a history has no call
-abbrev pub call₀ : Call
-call₀ = record { operation = Collect; worker = 0; begun = 0; ending = Unfinished }
-
-abbrev pub callAt : List Call → ℕ → Call
-callAt h i = getD h i call₀
 
 unfoldable pub isUnfinished : Ending → Bool
 isUnfinished Unfinished = true
@@ -221,7 +240,7 @@ filterBelow q (suc n) = filterBelow q n ++ cond (q n) (n ∷ []) []
 abbrev pub changeEffects : List Call → Store → Store → List ℕ
 changeEffects h s t =
     map (runningOf h)
-    (filterBelow (λ v. takesEffect (stampedOver s t) (passed s t) (workerAt s v .announced) (workerAt s v .doing)) (s .P))
+    (filterBelow (λ v. takesEffect (stampedOver s t) (passed s t) (workerAt s v .announced) (workerAt s v .doing)) (s .site .P))
 
 -- these take effect at their end
 unfoldable pub atEnd : Operation → Bool
@@ -340,7 +359,7 @@ abbrev pub FreesNothingNeeded : Hub → Answer → Type 0
 FreesNothingNeeded (blank row) a = Unit {0}
 FreesNothingNeeded (up s) a =
     (c : ℕ) → a ≡ Freed c
-    → (w : ℕ) → w < s .P → workerAt s w .announced < absent
+    → (w : ℕ) → w < s .site .P → workerAt s w .announced < absent
     → slotAt s c .low ≤ workerAt s w .announced → workerAt s w .announced < slotAt s c .high → ⊥
 
 -- a put's first step took slot c: it was the first free slot, and is then its register's newest version, with the put's value
@@ -377,14 +396,15 @@ FreedOnce es =
 -- Demand 3
 
 pub record Demand3 (es : List Event) : Type 0 where
+  -- what ends an operation is a step taken
+  pub stepsTaken : StepsTaken 0 es []
   -- there is one order of the operations: this one
   pub isOrder : IsOrder (history 0 (map exchange es) []) (order 0 es [])
   pub freesNothingNeeded : All (λ e. FreesNothingNeeded (e .before) (e .answer)) es
   pub freedOnce : FreedOnce es
 
--- For every lent row, every setup record that is answered `ok`, and every list of records after it, at any batch size: `batchOf` of
--- specs/Batch.antt is document 01's.
-abbrev pub Demand : (ℕ → ℕ) → Type 0
-Demand batch =
-    (row : List Slot) (setup : List ℕ) → apply batch (blank row) setup .answer ≡ Ok
-    → (records : List (List ℕ)) → Demand3 (events batch (apply batch (blank row) setup .hub) records)
+-- For every lent row, every setup record that is answered `ok`, and every list of records after it, whatever the rules of each.
+abbrev pub Demand : Type 0
+Demand =
+    (row : List Slot) (setup : Ruled) → applyRuled (blank row) setup .answer ≡ Ok
+    → (records : List Ruled) → Demand3 (events (applyRuled (blank row) setup .hub) records)

@@ -1,6 +1,7 @@
 -- Document 01 as definitions, in its order.
 pub mod Store
 pub mod Batch
+pub mod Rules
 pub mod Answer
 pub mod Versions
 pub mod Ranges

@@ -6,6 +6,7 @@ use Prim.Native.String.{String}
 use Prim.Native.Char.{code}
 use lib.Dec.{ltb}
 use Rattle.model.specs.Store.{Slot, blank}
+use Rattle.model.specs.Rules.{Rules, allUnder}
 use Rattle.model.specs.Answer.{Answer, Ok, Going, Freed, At, Value, Done, No}
 use Rattle.model.specs.Record.{recordsOf}
 use Rattle.model.specs.Apply.{answersTo}
@@ -43,6 +44,6 @@ unfoldable pub lines : ℕ → List Answer → List ℕ
 lines n [] = []
 lines n (a ∷ l) = line n a ++ lines (n + 1) l
 
--- what `hublog` prints for a file: the hub is not set up at first, and its row of slots is lent
-unfoldable pub logOf : (ℕ → ℕ) → List Slot → List ℕ → List ℕ
-logOf batch row file = lines 0 (answersTo batch (blank row) (recordsOf file))
+-- what `hublog` prints for a file under the rules given: the hub is not set up at first, and its row of slots is lent
+unfoldable pub logOf : Rules → List Slot → List ℕ → List ℕ
+logOf rules row file = lines 0 (answersTo (blank row) (allUnder rules (recordsOf file)))

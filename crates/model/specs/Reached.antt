@@ -8,10 +8,11 @@ use Prim.Native.Nat.{ℕ, zero, suc, _+_, _*_, _-_, _≤_, _<_}
 use lib.Dec.{ltb}
 use lib.ListN.{length}
 use Rattle.model.specs.Store.{lastClock, Reading, Slot, Doing, Idle, PutPublish, PutStamp, PutHandIn, FlushTake, FlushRead, FlushFree, OpenAnnounce, OpenPass, ReadEnter, ReadStand, CloseWithdraw, GetShow, Worker, Store, Hub, blank, up, workerAt, slotAt, newestOf}
+use Rattle.model.specs.Rules.{Rules, Allowed, Ruled}
 use Rattle.model.specs.Answer.{Ok, No}
 use Rattle.model.specs.Steps.{stepAt}
-use Rattle.model.specs.Apply.{apply}
-use Rattle.model.specs.Demand.{events, occurrences, All}
+use Rattle.model.specs.Apply.{applyRuled}
+use Rattle.model.specs.Demand.{Event, events, occurrences, All}
 
 -- the sum of f over a list
 unfoldable pub sumBy {ℓ} : {A : Type ℓ} → (A → ℕ) → List A → ℕ
@@ -41,23 +42,24 @@ inHand (GetShow r) = 0
 abbrev pub versionsHeld : Worker → ℕ
 versionsHeld x = inHand (x .doing) + length (x .pool)
 
--- of a store whose batch size is b
-pub record Bounds (b : ℕ) (s : Store) : Type 0 where
+pub record Bounds (s : Store) : Type 0 where
   -- "P workers (1 to 16), V registers (1 to 256), N slots (V to 2048), a 32-bit clock"
-  pub workers : (1 ≤ s .P) × (s .P ≤ 16) × (length (s .workers) ≡ s .P)
-  pub registers : (1 ≤ s .V') × (s .V' ≤ 256) × (length (s .newest) ≡ s .V')
-  pub slots : (s .V' ≤ s .N) × (s .N ≤ 2048) × (length (s .slots) ≡ s .N)
+  pub workers : (1 ≤ s .site .P) × (s .site .P ≤ 16) × (length (s .workers) ≡ s .site .P)
+  pub registers : (1 ≤ s .site .V') × (s .site .V' ≤ 256) × (length (s .newest) ≡ s .site .V')
+  pub slots : (s .site .V' ≤ s .site .N) × (s .site .N ≤ 2048) × (length (s .slots) ≡ s .site .N)
   pub clock : s .clock ≤ lastClock
-  -- a local pool holds at most B ranges
-  pub local : All (λ x. length (x .pool) ≤ b) (s .workers)
+  -- "A local pool is a count and at most 64 ranges": B is from 1 to 64,
+  pub batch : (1 ≤ s .site .B) × (s .site .B ≤ 64)
+  -- and a local pool holds at most B
+  pub local : All (λ x. length (x .pool) ≤ s .site .B) (s .workers)
   -- a merged list, and what is left of it to free, has at most 4B
-  pub merged : All (λ x. inHand (x .doing) ≤ 4 * b) (s .workers)
+  pub merged : All (λ x. inHand (x .doing) ≤ 4 * s .site .B) (s .workers)
   -- a queued pool has 1 to 2B
-  pub queued : All (λ l. (1 ≤ length l) × (length l ≤ 2 * b)) (s .queue)
+  pub queued : All (λ l. (1 ≤ length l) × (length l ≤ 2 * s .site .B)) (s .queue)
   -- the versions in pools, merged lists and puts, the free slots and the newest versions together are N
-  pub total : sumBy versionsHeld (s .workers) + sumBy length (s .queue) + (length (s .free) + s .V') ≡ s .N
+  pub total : sumBy versionsHeld (s .workers) + sumBy length (s .queue) + (length (s .free) + s .site .V') ≡ s .site .N
   -- so many pools at the most
-  pub pools : length (s .queue) ≤ s .N - s .V'
+  pub pools : length (s .queue) ≤ s .site .N - s .site .V'
 
 ------------------------------------------------------------------------
 -- Refusal 14
@@ -65,41 +67,43 @@ pub record Bounds (b : ℕ) (s : Store) : Type 0 where
 -- the slots from c on, each the older neighbour of the one before, n at the most
 unfoldable pub listFrom : Store → ℕ → ℕ → List ℕ
 listFrom s zero c = []
-listFrom s (suc n) c = cond (ltb c (s .N)) (c ∷ listFrom s n (slotAt s c .older)) []
+listFrom s (suc n) c = cond (ltb c (s .site .N)) (c ∷ listFrom s n (slotAt s c .older)) []
 
 -- register r's list, newest version first
 unfoldable pub registerList : Store → ℕ → List ℕ
-registerList s r = listFrom s (s .N) (newestOf s r)
+registerList s r = listFrom s (s .site .N) (newestOf s r)
 
 -- "every slot in some register's list"
 abbrev pub EverySlotListed : Store → Type 0
-EverySlotListed s = (c : ℕ) → c < s .N → (r : ℕ) × (r < s .V') × (0 < occurrences c (registerList s r))
+EverySlotListed s = (c : ℕ) → c < s .site .N → (r : ℕ) × (r < s .site .V') × (0 < occurrences c (registerList s r))
 
 -- 14: "put's first step, every slot in some register's list"
-abbrev pub Refuses14 : (ℕ → ℕ) → Store → Type 0
-Refuses14 batch s =
+abbrev pub Refuses14 : Store → Type 0
+Refuses14 s =
     (w r : ℕ) (x : Reading) → workerAt s w .doing ≡ PutPublish r x
-    → stepAt batch s w (PutPublish r x) .answer ≡ No 14 ↔ EverySlotListed s
+    → stepAt s w (PutPublish r x) .answer ≡ No 14 ↔ EverySlotListed s
 
 ------------------------------------------------------------------------
 -- The statement
 
-pub record SoundStore (batch : ℕ → ℕ) (s : Store) : Type 0 where
-  pub bounds : Bounds (batch (s .P)) s
-  pub refuses14 : Refuses14 batch s
+-- a store whose setup was handed in under the rules given
+pub record SoundStore (rules : Rules) (s : Store) : Type 0 where
+  -- B is what these rules give for its workers
+  pub batch : s .site .B ≡ rules .batch (s .site .P)
+  pub bounds : Bounds s
+  pub refuses14 : Refuses14 s
 
-abbrev pub SoundHub : (ℕ → ℕ) → Hub → Type 0
-SoundHub batch (blank row) = ⊥
-SoundHub batch (up s) = SoundStore batch s
+abbrev pub SoundHub : Rules → Hub → Type 0
+SoundHub rules (blank row) = ⊥
+SoundHub rules (up s) = SoundStore rules s
 
--- a batch size from 1 to 64 for every number of workers
-abbrev pub BatchSizes : (ℕ → ℕ) → Type 0
-BatchSizes batch = (p : ℕ) → 1 ≤ p → p ≤ 16 → (1 ≤ batch p) × (batch p ≤ 64)
+-- every record meets and leaves such a hub
+abbrev pub Throughout : (Hub → Type 0) → List Event → Type 0
+Throughout Q es = All (λ e. Q (e .before) × Q (e .after)) es
 
--- After every accepted setup, every record of every list meets and leaves a sound hub.
-abbrev pub Sound : (ℕ → ℕ) → Type 0
-Sound batch =
-    BatchSizes batch
-    → (row : List Slot) (setup : List ℕ) → apply batch (blank row) setup .answer ≡ Ok
-    → (records : List (List ℕ))
-    → All (λ e. SoundHub batch (e .before) × SoundHub batch (e .after)) (events batch (apply batch (blank row) setup .hub) records)
+-- After every accepted setup whose rules are allowed, every record of every list meets and leaves a sound hub, whatever the rules of the records:
+-- only a setup looks at the batch size.
+abbrev pub Sound : Type 0
+Sound =
+    (row : List Slot) (setup : Ruled) → Allowed (setup .rules) → applyRuled (blank row) setup .answer ≡ Ok
+    → (records : List Ruled) → Throughout (SoundHub (setup .rules)) (events (applyRuled (blank row) setup .hub) records)

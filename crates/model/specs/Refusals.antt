@@ -1,25 +1,41 @@
 -- Demand 1 of the definitions: a record of any bytes, handed to the hub in any state, ends in its answer or in one numbered refusal; a refusal on
--- reading changes nothing, one met during a step only sets that worker idle. Proved in proofs/Refusals.antt.
+-- reading changes nothing, one met at a step only sets that worker idle. `takesStep` tells the two apart, not the number. Proved in
+-- proofs/Refusals.antt.
 use mathlib.Core.Path.{_≡_}
-use mathlib.Core.Logic.{_≢_, _⊎_}
-use mathlib.Core.List.{List}
-use Prim.Native.Nat.{ℕ, _≤_, _<_}
-use Rattle.model.specs.Store.{Idle, Store, Hub, up, place}
+use mathlib.Core.Bool.{cond}
+use mathlib.Core.List.{List, [], _∷_}
+use Prim.Native.Nat.{ℕ, _<_}
+use Rattle.model.specs.Store.{Idle, Hub, blank, up, place}
+use Rattle.model.specs.Rules.{Rules}
 use Rattle.model.specs.Answer.{Answer, Ok, Going, Freed, At, Value, Done, No}
-use Rattle.model.specs.Record.{Decoded, Asks, Step, decode}
-use Rattle.model.specs.Apply.{apply}
+use Rattle.model.specs.Record.{SetUp, Begin, Step, Decoded, Asks, Refuses, decode}
+use Rattle.model.specs.Apply.{takesStep, apply}
+use Rattle.model.specs.Demand.{occurrences}
 
--- a refusal on reading, given for a hub h: its number is below 14 and the hub stays
-abbrev pub OnReading : Hub → ℕ → Hub → Type 0
-OnReading h k after = (k < 14) × (after ≡ h)
+-- the numbers of the refusals on reading; 7 is the row writer's
+abbrev pub onReading : List ℕ
+onReading = 1 ∷ 2 ∷ 3 ∷ 4 ∷ 5 ∷ 6 ∷ 8 ∷ 9 ∷ 10 ∷ 11 ∷ 12 ∷ 13 ∷ []
 
--- a refusal met during a step of worker w: 14 or 15, and only that worker's place changes
-abbrev pub InStep : Hub → Decoded → ℕ → Hub → Type 0
-InStep h d k after =
-    (14 ≤ k) × (s : Store) × (w : ℕ) × (h ≡ up s) × (d ≡ Asks (Step w)) × (after ≡ up (place s w Idle))
+-- and of those that a step meets
+abbrev pub atStep : List ℕ
+atStep = 14 ∷ 15 ∷ []
 
--- What is claimed of a hub h, a record that reads as d, its answer and the hub after it. The numbers of the hub's refusals are 1 to 15 without
--- 7, which is the row writer's.
+-- the hub with that worker idle of which the record is a step
+unfoldable pub idled : Hub → Decoded → Hub
+idled (blank row) d = blank row
+idled (up s) (Asks (SetUp z)) = up s
+idled (up s) (Asks (Begin w o)) = up s
+idled (up s) (Asks (Step w)) = up (place s w Idle)
+idled (up s) (Refuses k) = up s
+
+-- refusal k of a record that reads as d, at hub h, and the hub after it
+pub record Refused (h : Hub) (d : Decoded) (k : ℕ) (after : Hub) : Type 0 where
+  -- it is one of those that a step meets, or else of those on reading
+  pub number : 0 < occurrences k (cond (takesStep h d) atStep onReading)
+  -- "Each gives its number and leaves the store untouched; 14 and 15 set the worker idle and change nothing else."
+  pub leaves : after ≡ cond (takesStep h d) (idled h d) h
+
+-- What is claimed of a hub h, a record that reads as d, its answer and the hub after it.
 abbrev pub EndsWell : Hub → Decoded → Answer → Hub → Type 0
 EndsWell h d Ok after = Unit {0}
 EndsWell h d Going after = Unit {0}
@@ -27,7 +43,8 @@ EndsWell h d (Freed c) after = Unit {0}
 EndsWell h d (At t) after = Unit {0}
 EndsWell h d (Value x) after = Unit {0}
 EndsWell h d Done after = Unit {0}
-EndsWell h d (No k) after = (1 ≤ k) × (k ≤ 15) × (k ≢ 7) × (OnReading h k after ⊎ InStep h d k after)
+EndsWell h d (No k) after = Refused h d k after
 
-abbrev pub Demand1 : (ℕ → ℕ) → Type 0
-Demand1 batch = (h : Hub) (b : List ℕ) → EndsWell h (decode b) (apply batch h b .answer) (apply batch h b .hub)
+-- under the rules given, whatever they are
+abbrev pub Demand1 : Rules → Type 0
+Demand1 rules = (h : Hub) (b : List ℕ) → EndsWell h (decode b) (apply rules h b .answer) (apply rules h b .hub)

@@ -5,20 +5,20 @@ use mathlib.Core.List.{List, [], _∷_, _++_, map}
 use Prim.Native.Nat.{ℕ}
 use lib.ListN.{replicate}
 use Rattle.model.specs.Store.{slot₀}
-use Rattle.model.specs.Batch.{batchOf}
+use Rattle.model.specs.Rules.{document01}
 use Rattle.model.specs.Record.{Open, Read, Get, Collect, Command, Begin, Step}
-use Rattle.model.specs.Apply.{apply}
+use Rattle.model.specs.Apply.{applyRuled}
 use Rattle.model.specs.Log.{text, logOf}
 use Rattle.model.specs.Demand.{events, order}
-use Rattle.model.specs.Cases.{recordOf, setup, put, rowOf, joined}
+use Rattle.model.specs.Cases.{recordOf, handed, setup, put, rowOf, joined}
 
 -- the log of a list of commands, over a row of n slots
 abbrev pub logFor : ℕ → List Command → List ℕ
-logFor n l = logOf batchOf (replicate n slot₀) (joined (map recordOf l))
+logFor n l = logOf document01 (replicate n slot₀) (joined (map recordOf l))
 
 -- the order of the calls of the commands after a setup; call i is the i-th that began, from 0
 abbrev pub orderFor : ℕ → Command → List Command → List ℕ
-orderFor n first l = order 0 (events batchOf (apply batchOf (rowOf n) (recordOf first) .hub) (map recordOf l)) []
+orderFor n first l = order 0 (events (applyRuled (rowOf n) (handed first) .hub) (map handed l)) []
 
 abbrev pub steps : ℕ → ℕ → List Command
 steps n w = replicate n (Step w)

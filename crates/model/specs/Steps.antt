@@ -1,5 +1,4 @@
 -- The steps (document 01, "The steps"). Each takes the store, the worker that steps and what its place holds.
--- `batch` gives the batch size B of so many workers.
 use mathlib.Core.Bool.{cond}
 use mathlib.Core.List.{List, [], _∷_, _++_, map}
 use Prim.Native.Nat.{ℕ, _+_}
@@ -39,10 +38,10 @@ putStamp s w r c =
     }
 
 -- (3) "Append the covered version's range to the local pool. If that now holds B, flush; else the put is done."
-unfoldable pub putHandIn : (ℕ → ℕ) → Store → ℕ → ℕ → Stepped
-putHandIn batch s w c =
+unfoldable pub putHandIn : Store → ℕ → ℕ → Stepped
+putHandIn s w c =
     let p = workerAt s w .pool ++ (rangeOf s c ∷ []) in
-    let full = eqb (length p) (batch (s .P)) in
+    let full = eqb (length p) (s .site .B) in
     record {
       store =
           withWorker s w
@@ -68,9 +67,9 @@ readTimes s k = held s k ∷ []
 -- (3) "Split the merged list into needless and needed by the times read." The needed ones go on the queue, or else "merge into the local pool,
 -- local first on equal highs. Then queue the local pool if not empty, and empty it." The joined pool may hold 2B = 128 ranges; it is queued in
 -- the same step and never stands in a worker's record.
-unfoldable pub flushSplit : (ℕ → ℕ) → Store → ℕ → List Range → List ℕ → Stepped
-flushSplit batch s w m ts =
-    let b = batch (s .P) in
+unfoldable pub flushSplit : Store → ℕ → List Range → List ℕ → Stepped
+flushSplit s w m ts =
+    let b = s .site .B in
     let stay = neededOf ts m in
     record {
       store =
@@ -82,11 +81,11 @@ flushSplit batch s w m ts =
     }
 
 -- (2) "P steps: read the announced time of worker 0, then 1, and so on", then (3)
-unfoldable pub flushRead : (ℕ → ℕ) → Store → ℕ → List Range → List ℕ → Stepped
-flushRead batch s w m ts =
+unfoldable pub flushRead : Store → ℕ → List Range → List ℕ → Stepped
+flushRead s w m ts =
     let more : Stepped =
     record { store = place s w (FlushRead m (ts ++ readTimes s (length ts))); answer = Going } in
-    let last = flushSplit batch s w m ts in
+    let last = flushSplit s w m ts in
     cond (ltb (length ts) (holders s)) more last
 
 -- "A read standing on it moves to its older neighbour": from slot c to slot o
@@ -180,17 +179,17 @@ closeWithdraw s w =
 ------------------------------------------------------------------------
 -- One step of worker w, which is at the place given. An idle worker has none: refusal 11.
 
-unfoldable pub stepAt : (ℕ → ℕ) → Store → ℕ → Doing → Stepped
-stepAt batch s w Idle = record { store = s; answer = No 11 }
-stepAt batch s w (PutPublish r x) = putPublish s w r x (s .free)
-stepAt batch s w (PutStamp r c) = putStamp s w r c
-stepAt batch s w (PutHandIn r c) = putHandIn batch s w c
-stepAt batch s w FlushTake = flushTake s w
-stepAt batch s w (FlushRead m ts) = flushRead batch s w m ts
-stepAt batch s w (FlushFree m) = flushFree s w m
-stepAt batch s w OpenAnnounce = openAnnounce s w
-stepAt batch s w OpenPass = openPass s w
-stepAt batch s w (ReadEnter r) = readEnter s w r
-stepAt batch s w (ReadStand r c) = readStand s w r c
-stepAt batch s w CloseWithdraw = closeWithdraw s w
-stepAt batch s w (GetShow r) = getShow s w r
+unfoldable pub stepAt : Store → ℕ → Doing → Stepped
+stepAt s w Idle = record { store = s; answer = No 11 }
+stepAt s w (PutPublish r x) = putPublish s w r x (s .free)
+stepAt s w (PutStamp r c) = putStamp s w r c
+stepAt s w (PutHandIn r c) = putHandIn s w c
+stepAt s w FlushTake = flushTake s w
+stepAt s w (FlushRead m ts) = flushRead s w m ts
+stepAt s w (FlushFree m) = flushFree s w m
+stepAt s w OpenAnnounce = openAnnounce s w
+stepAt s w OpenPass = openPass s w
+stepAt s w (ReadEnter r) = readEnter s w r
+stepAt s w (ReadStand r c) = readStand s w r c
+stepAt s w CloseWithdraw = closeWithdraw s w
+stepAt s w (GetShow r) = getShow s w r

@@ -70,12 +70,21 @@ pub record Worker : Type 0 where
 abbrev pub startWorker : Worker
 startWorker = record { doing = Idle; announced = absent; pool = [] }
 
--- A hub that is set up. P workers, V' registers (document 01's V, which antt reserves), N slots. `newest` has the slot of each
--- register's newest version, `free` the free slots with the one that is taken first in front, `queue` the shared pools, first in first.
-pub record Store : Type 0 where
+-- What a setup fixes: no later record changes it.
+pub record Site : Type 0 where
+  -- how many workers
   pub P : ℕ
+  -- how many registers: document 01's V, which antt reserves
   pub V' : ℕ
+  -- how many slots
   pub N : ℕ
+  -- B, the batch size (document 01's term), taken at setup
+  pub B : ℕ
+
+-- A hub that is set up. `newest` has the slot of each register's newest version, `free` the free slots with the one that is taken first in
+-- front, `queue` the shared pools, first in first.
+pub record Store : Type 0 where
+  pub site : Site
   pub clock : ℕ
   pub slots : List Slot
   pub newest : List ℕ
@@ -112,7 +121,7 @@ newestOf s r = getD (s .newest) r absent
 
 -- Who holds a time: each worker, the one that it has announced. This is how many holders there are.
 abbrev pub holders : Store → ℕ
-holders s = s .P
+holders s = s .site .P
 
 -- The time that holder v holds, or none.
 abbrev pub held : Store → ℕ → ℕ
@@ -128,9 +137,7 @@ rangeOf s c = record { slot = c; low = slotAt s c .low; high = slotAt s c .high 
 abbrev pub withClock : Store → ℕ → Store
 withClock s t =
     record {
-      P = s .P;
-      V' = s .V';
-      N = s .N;
+      site = s .site;
       clock = t;
       slots = s .slots;
       newest = s .newest;
@@ -142,9 +149,7 @@ withClock s t =
 abbrev pub withSlots : Store → List Slot → Store
 withSlots s l =
     record {
-      P = s .P;
-      V' = s .V';
-      N = s .N;
+      site = s .site;
       clock = s .clock;
       slots = l;
       newest = s .newest;
@@ -156,9 +161,7 @@ withSlots s l =
 abbrev pub withNewest : Store → List ℕ → Store
 withNewest s l =
     record {
-      P = s .P;
-      V' = s .V';
-      N = s .N;
+      site = s .site;
       clock = s .clock;
       slots = s .slots;
       newest = l;
@@ -170,9 +173,7 @@ withNewest s l =
 abbrev pub withFree : Store → List ℕ → Store
 withFree s l =
     record {
-      P = s .P;
-      V' = s .V';
-      N = s .N;
+      site = s .site;
       clock = s .clock;
       slots = s .slots;
       newest = s .newest;
@@ -184,9 +185,7 @@ withFree s l =
 abbrev pub withQueue : Store → List (List Range) → Store
 withQueue s q =
     record {
-      P = s .P;
-      V' = s .V';
-      N = s .N;
+      site = s .site;
       clock = s .clock;
       slots = s .slots;
       newest = s .newest;
@@ -198,9 +197,7 @@ withQueue s q =
 abbrev pub withWorkers : Store → List Worker → Store
 withWorkers s l =
     record {
-      P = s .P;
-      V' = s .V';
-      N = s .N;
+      site = s .site;
       clock = s .clock;
       slots = s .slots;
       newest = s .newest;

@@ -1,9 +1,10 @@
 pub mod WordLaws
 pub mod MergeLaws
 pub mod Merging
+pub mod TimeLaws
+pub mod Inserting
+pub mod Sorting
+pub mod FingerLaws
 pub mod SplitLaws
 pub mod Splitting
 pub mod Reversing
-pub mod Distance
-pub mod TimeLaws
-pub mod Sorting

@@ -40,11 +40,14 @@ length-cond : (t : Bool) (x y : List Range) (n : ℕ) → length x ≡ n → len
 length-cond true x y n p q = p
 length-cond false x y n p q = q
 
-length-mergeInto : (a : Range) (rest : List Range → List Range) (n : ℕ) → ((cs : List Range) → length (rest cs) ≡ n + length cs) → (bs : List Range) → length (mergeInto a rest bs) ≡ suc n + length bs
+length-mergeInto : (a : Range) (rest : List Range → List Range) (n : ℕ) → ((cs : List Range) → length (rest cs) ≡ n + length cs)
+    → (bs : List Range) → length (mergeInto a rest bs) ≡ suc n + length bs
 unfolding mergeInto
 length-mergeInto a rest n h [] = omega (arith, h [])
 length-mergeInto a rest n h (b ∷ bs) =
-    length-cond (leb (a .high) (b .high)) (a ∷ rest (b ∷ bs)) (b ∷ mergeInto a rest bs) (suc n + length (b ∷ bs)) (omega (arith, h (b ∷ bs))) (omega (arith, length-mergeInto a rest n h bs))
+    length-cond (leb (a .high) (b .high)) (a ∷ rest (b ∷ bs)) (b ∷ mergeInto a rest bs) (suc n + length (b ∷ bs))
+    (omega (arith, h (b ∷ bs)))
+    (omega (arith, length-mergeInto a rest n h bs))
 
 pub length-merge : (l bs : List Range) → length (merge l bs) ≡ length l + length bs
 unfolding merge

@@ -1,26 +1,30 @@
--- Laws of *needed* and of the ranges that pass a test, one time and one range more at the end.
-use mathlib.Core.Path.{_≡_, refl, sym, _∙_}
-use mathlib.Core.Bool.{Bool, true, false, cond, not, _&&_, _||_, or-false, or-assoc}
+-- Laws of a split: what one range more at the end makes of it, how few ranges are needless, and that sorted times split alike.
+use mathlib.Core.Path.{_≡_, refl, sym, ap, _∙_, subst}
+use mathlib.Core.Bool.{Bool, true, false, cond, not}
 use mathlib.Core.List.{List, [], _∷_, _++_}
-use Prim.Native.Nat.{ℕ, suc, _+_, _≤_, _<_}
-use native.Mathlib.Numerals.{add-one}
+use Prim.Native.Nat.{ℕ, suc, _≤_}
 use native.Mathlib.Omega.{arith}
-use borrow.Author.Tests.{lt-ltb, ltb-true}
-use lib.Dec.{leb, ltb}
-use lib.ListN.{length, take, getD}
-use lib.Seq.{take-suc}
-use Rattle.model.specs.Store.{absent, Range}
-use Rattle.model.specs.Ranges.{needs, needed, filter, needlessOf}
+use lib.ListN.{length, take}
+use lib.Seq.{length-take-le}
+use Rattle.lists.specs.Over.{over}
+use Rattle.lists.proofs.Over.{take-over}
+use Rattle.model.specs.Store.{Range}
+use Rattle.model.specs.Ranges.{needed, filter, neededOf, needlessOf}
+use Rattle.model.specs.Figure.{sort, Rising}
+use Rattle.model.proofs.Figure.{sort-rising, needed-sort, filter-alike}
 use Rattle.ranges.specs.Words.{rangesAt}
 use Rattle.ranges.proofs.WordLaws.{length-rangesAt}
+use Rattle.ranges.proofs.TimeLaws.{length-sort}
 
-------------------------------------------------------------------------
--- The ranges that pass a test
+-- a range at the end of either side of a choice
+cond-snoc : (b : Bool) (k : List Range) (x ρ : Range) → cond b (x ∷ (k ++ (ρ ∷ []))) (k ++ (ρ ∷ [])) ≡ cond b (x ∷ k) k ++ (ρ ∷ [])
+cond-snoc true k x ρ = refl
+cond-snoc false k x ρ = refl
 
 pub filter-yes : (p : Range → Bool) (l : List Range) (ρ : Range) → p ρ ≡ true → filter p (l ++ (ρ ∷ [])) ≡ filter p l ++ (ρ ∷ [])
 unfolding filter
 filter-yes p [] ρ e = rw e
-filter-yes p (x ∷ l) ρ e = rw (filter-yes p l ρ e) (elim (p x) as (λ b. cond b (x ∷ (filter p l ++ (ρ ∷ []))) (filter p l ++ (ρ ∷ [])) ≡ cond b (x ∷ filter p l) (filter p l) ++ (ρ ∷ [])) [ true ↦ refl | false ↦ refl ])
+filter-yes p (x ∷ l) ρ e = rw (filter-yes p l ρ e) (cond-snoc (p x) (filter p l) x ρ)
 
 pub filter-no : (p : Range → Bool) (l : List Range) (ρ : Range) → p ρ ≡ false → filter p (l ++ (ρ ∷ [])) ≡ filter p l
 unfolding filter
@@ -37,32 +41,20 @@ length-filter p (x ∷ l) =
 pub needless-few : (ts s : List ℕ) (n : ℕ) → length (needlessOf ts (rangesAt s 0 n)) ≤ n
 needless-few ts s n = rw (length-rangesAt s 0 n) at (length-filter (λ ρ. not (needed ts ρ)) (rangesAt s 0 n))
 
-------------------------------------------------------------------------
--- Needed
+-- out holds the first t times, sorted
+module _ (ts : List ℕ) (t : ℕ) (out₀ out : List ℕ) (n : t ≤ length ts) (e : out ≡ over (sort (take t ts)) out₀) where
+  sorted-front : take t out ≡ sort (take t ts)
+  sorted-front = ap (take t) e ∙ take-over (sort (take t ts)) out₀ t (length-sort (take t ts) ∙ length-take-le t ts n)
 
--- a test that the last of two others implies
-implied : (x y z : Bool) → (z ≡ true → x ≡ true) → x && (y && z) ≡ y && z
-implied x y true h = rw (h refl)
-implied true y false h = refl
-implied false true false h = refl
-implied false false false h = refl
+  pub sorted-rising : Rising (take t out)
+  sorted-rising = subst Rising (sym sorted-front) (sort-rising (take t ts))
 
--- an absent time needs no range whose high is a time
-only-times : (ρ : Range) (a : ℕ) → ρ .high < absent → ltb a absent && needs ρ a ≡ leb (ρ .low) a && ltb a (ρ .high)
-unfolding needs
-only-times ρ a h = implied (ltb a absent) (leb (ρ .low) a) (ltb a (ρ .high)) (λ e. lt-ltb a absent (omega (arith, ltb-true a (ρ .high) e)))
+  -- the same ranges are needed
+  sorted-needed : (ρ : Range) → needed (take t out) ρ ≡ needed (take t ts) ρ
+  sorted-needed ρ = ap (λ (l : List ℕ). needed l ρ) sorted-front ∙ needed-sort ρ (take t ts)
 
-needed-snoc : (ts : List ℕ) (a : ℕ) (ρ : Range) → needed (ts ++ (a ∷ [])) ρ ≡ needed ts ρ || (ltb a absent && needs ρ a)
-unfolding needed
-needed-snoc [] a ρ = or-false (ltb a absent && needs ρ a)
-needed-snoc (t ∷ ts) a ρ = rw (needed-snoc ts a ρ) (sym (or-assoc (ltb t absent && needs ρ t) (needed ts ρ) (ltb a absent && needs ρ a)))
+  pub neededOf-sorted : (l : List Range) → neededOf (take t out) l ≡ neededOf (take t ts) l
+  neededOf-sorted l = filter-alike (needed (take t out)) (needed (take t ts)) sorted-needed l
 
--- one time more, at an index within the list
-pub needed-more : (ts : List ℕ) (i : ℕ) (ρ : Range) → ρ .high < absent → i < length ts → needed (take (i + 1) ts) ρ ≡ needed (take i ts) ρ || (leb (ρ .low) (getD ts i 0) && ltb (getD ts i 0) (ρ .high))
-needed-more ts i ρ b h = rw (add-one, take-suc ts i 0 h) (needed-snoc (take i ts) (getD ts i 0) ρ ∙ rw (only-times ρ (getD ts i 0) b))
-
--- the slot does not matter
-pub needed-slot : (ts : List ℕ) (ρ : Range) (c : ℕ) → needed ts (record { slot = c; low = ρ .low; high = ρ .high }) ≡ needed ts ρ
-unfolding needed needs
-needed-slot [] ρ c = refl
-needed-slot (a ∷ ts) ρ c = rw (needed-slot ts ρ c)
+  pub needlessOf-sorted : (l : List Range) → needlessOf (take t out) l ≡ needlessOf (take t ts) l
+  needlessOf-sorted l = filter-alike (λ ρ. not (needed (take t out) ρ)) (λ ρ. not (needed (take t ts) ρ)) (λ ρ. ap not (sorted-needed ρ)) l

@@ -5,7 +5,7 @@ use Prim.Native.Nat.{ℕ, zero, suc, _+_, _-_, _*_, _≤_, _<_}
 use native.Mathlib.Numerals.{add-one}
 use native.Mathlib.Omega.{arith}
 use lib.ListN.{length, take, drop, getD, length-append, length-set, take-append-drop}
-use lib.Seq.{drop-at, drop-cons, getD-drop, length-take-le}
+use lib.Seq.{drop-append-add, drop-cons, drop-drop, getD-drop, length-take-le}
 use Rattle.lists.specs.Over.{over}
 use Rattle.lists.proofs.Over.{over-push, getD-over-past}
 use Rattle.model.specs.Store.{Range}
@@ -23,7 +23,7 @@ rangesAt-cons s i n h =
     let e : n - i ≡ suc (n - (i + 1)) = omega arith in
     rw (e, add-one i)
 
-pub rangesAt-suc : (s : List ℕ) (i n : ℕ) → rangesAt s i (suc n) ≡ rangesAt s i n ++ (rangeAt s (i + n) ∷ [])
+rangesAt-suc : (s : List ℕ) (i n : ℕ) → rangesAt s i (suc n) ≡ rangesAt s i n ++ (rangeAt s (i + n) ∷ [])
 rangesAt-suc s i zero = let e : i + 0 ≡ i = omega arith in rw e
 rangesAt-suc s i (suc n) =
     let e : suc i + n ≡ i + suc n = omega arith in
@@ -68,7 +68,8 @@ pub length-putAt : (d : List ℕ) (k : ℕ) (ρ : Range) → length (putAt d k �
 length-putAt d k ρ = simp length-set
 
 -- one range more, after those of l
-pub over-put : (l : List Range) (d : List ℕ) (k : ℕ) (ρ : Range) → length l ≡ k → 3 * k + 2 < length d → putAt (over (flat l) d) k ρ ≡ over (flat (l ++ (ρ ∷ []))) d
+pub over-put : (l : List Range) (d : List ℕ) (k : ℕ) (ρ : Range) → length l ≡ k → 3 * k + 2 < length d
+    → putAt (over (flat l) d) k ρ ≡ over (flat (l ++ (ρ ∷ []))) d
 over-put l d k ρ e h =
     let p : List ℕ = flat l in
     let p1 : List ℕ = p ++ (ρ .slot ∷ []) in
@@ -76,7 +77,14 @@ over-put l d k ρ e h =
     let l0 : length p ≡ 3 * k = rw (length-flat l, e) in
     let l1 : length p1 ≡ 3 * k + 1 = length-append p (ρ .slot ∷ []) ∙ omega arith in
     let l2 : length p2 ≡ 3 * k + 2 = length-append p1 (ρ .low ∷ []) ∙ omega arith in
-    rw (over-push p d (3 * k) (ρ .slot) l0 (omega arith), over-push p1 d (3 * k + 1) (ρ .low) l1 (omega arith), over-push p2 d (3 * k + 2) (ρ .high) l2 (omega arith), flat-snoc, append-assoc, append-assoc)
+    rw (
+      over-push p d (3 * k) (ρ .slot) l0 (omega arith),
+      over-push p1 d (3 * k + 1) (ρ .low) l1 (omega arith),
+      over-push p2 d (3 * k + 2) (ρ .high) l2 (omega arith),
+      flat-snoc,
+      append-assoc,
+      append-assoc,
+    )
 
 -- a range past those of l is as it was
 pub range-past : (l : List Range) (d : List ℕ) (i : ℕ) → length l ≤ i → rangeAt (over (flat l) d) i ≡ rangeAt d i
@@ -110,17 +118,28 @@ put-in (y ∷ l) d x ρ r (suc k) e =
 pub rangesAt-flat : (l : List Range) (d : List ℕ) → rangesAt (flat l ++ d) 0 (length l) ≡ l
 rangesAt-flat [] d = refl
 rangesAt-flat (x ∷ l) d =
-    ap (λ (r : List Range). x ∷ r) (rangesAt-same (flat (x ∷ l) ++ d) (flat l ++ d) 1 0 (length l) (λ t h. let e : 3 * 1 + t ≡ suc (suc (suc (3 * 0 + t))) = omega arith in rw e) ∙ rangesAt-flat l d)
+    ap (λ (r : List Range). x ∷ r)
+    (rangesAt-same (flat (x ∷ l) ++ d) (flat l ++ d) 1 0 (length l) (λ t h. let e : 3 * 1 + t ≡ suc (suc (suc (3 * 0 + t))) = omega arith in rw e)
+    ∙ rangesAt-flat l d)
 
 -- the ranges read, written back
-pub flat-rangesAt : (s : List ℕ) (i n : ℕ) → 3 * (i + n) ≤ length s → flat (rangesAt s i n) ≡ take (3 * n) (drop (3 * i) s)
+flat-rangesAt : (s : List ℕ) (i n : ℕ) → 3 * (i + n) ≤ length s → flat (rangesAt s i n) ≡ take (3 * n) (drop (3 * i) s)
 flat-rangesAt s i zero h = refl
 flat-rangesAt s i (suc n) h =
     let a : 3 * suc n ≡ suc (suc (suc (3 * n))) = omega arith in
     let b : suc (suc (suc (3 * i))) ≡ 3 * suc i = omega arith in
     let c : 3 * i + 1 ≡ suc (3 * i) = omega arith in
     let d : 3 * i + 2 ≡ suc (suc (3 * i)) = omega arith in
-    rw (a, drop-cons s (3 * i) 0 (omega arith), drop-cons s (suc (3 * i)) 0 (omega arith), drop-cons s (suc (suc (3 * i))) 0 (omega arith), c, d, b, flat-rangesAt s (suc i) n (omega arith))
+    rw (
+      a,
+      drop-cons s (3 * i) 0 (omega arith),
+      drop-cons s (suc (3 * i)) 0 (omega arith),
+      drop-cons s (suc (suc (3 * i))) 0 (omega arith),
+      c,
+      d,
+      b,
+      flat-rangesAt s (suc i) n (omega arith),
+    )
 
 -- memory is as it was where its first ranges are written back
 pub over-rangesAt : (s : List ℕ) (n : ℕ) → 3 * n ≤ length s → over (flat (rangesAt s 0 n)) s ≡ s
@@ -129,7 +148,13 @@ over-rangesAt s n h =
     let e : flat (rangesAt s 0 n) ≡ take (3 * n) s = flat-rangesAt s 0 n (omega arith) in
     rw (e, length-take-le (3 * n) s h) (take-append-drop (3 * n) s)
 
--- of two replacements of equally many entries the second counts
-pub over-over : (p q d : List ℕ) → length p ≡ length q → over p (over q d) ≡ over p d
+-- of two replacements the longer counts, where it is the second
+pub over-longer : (p q d : List ℕ) → length q ≤ length p → over p (over q d) ≡ over p d
 unfolding over
-over-over p q d e = ap (λ (l : List ℕ). p ++ l) (drop-at q (drop (length q) d) (length p) (sym e) ∙ rw e)
+over-longer p q d h =
+    let e : length p ≡ length q + (length p - length q) = omega arith in
+    ap (λ (l : List ℕ). p ++ l)
+    (ap (λ (n : ℕ). drop n (q ++ drop (length q) d)) e
+    ∙ drop-append-add q (drop (length q) d) (length p - length q)
+    ∙ drop-drop (length p - length q) (length q) d
+    ∙ ap (λ (n : ℕ). drop n d) (sym e))

@@ -5,7 +5,5 @@ pub mod Flow
 pub mod Growth
 pub mod Loads
 pub mod Row
-pub mod Scans
-pub mod SetsUp
 pub mod Shared
 pub mod Stores

@@ -1,8 +1,7 @@
-// The version slots: one lent row of structs, reached through the functions of this crate, each of which loads or stores one slot or
-// goes over the row slot by slot.
+// The version slots: one lent row of structs, of which one slot is loaded or stored, and what the test of memory and a setup make of a slot.
 ghost use mathlib.Core.Path.{_≡_};
 ghost use lib.ListN.{set, getD};
-ghost use Rattle.slots.specs.Slots.{vacantSlot, linkedAnd, linkedTo, madeSlot, madeTo};
+ghost use Rattle.slots.specs.Slots.{vacantSlot, linkedAnd, madeSlot};
 use values::Reading;
 
 // "value, low and high time, older and newer neighbour". An unset low, an open high and an absent neighbour are 4294967296.
@@ -54,20 +53,6 @@ pub fn linked_and(ok: bool, s: Slot, n: usize) -> bool
     ok & ((s.older < n) | (s.older == 4294967296)) & ((s.newer < n) | (s.newer == 4294967296))
 }
 
-// Whether the neighbours of the first n slots are slots below n or absent.
-pub fn all_linked(slots: &[Slot], n: usize) -> bool
-    ensures { λ r. ⌜ r ≡ linkedTo (now (slots .entry)) n n ⌝ }
-{
-    let mut ok = true;
-    let mut i = 0;
-    while i < n {
-        let s = load(slots, i);
-        ok = linked_and(ok, s, n);
-        i = i + 1;
-    }
-    ok
-}
-
 // The slot that a setup of v registers makes of slot i.
 pub fn made(i: usize, v: usize, s: Slot) -> Slot
     ensures { λ r. ⌜ r ≡ madeSlot i v s ⌝ }
@@ -85,18 +70,5 @@ pub fn made(i: usize, v: usize, s: Slot) -> Slot
         older: 4294967296,
         newer: 4294967296,
         ..s
-    }
-}
-
-// The first n slots as a setup of v registers leaves them.
-pub fn set_up(slots: &mut [Slot], v: usize, n: usize)
-    ensures { λ _. ⌜ now (slots .exit) ≡ madeTo (now (slots .entry)) v n ⌝ }
-{
-    let mut i = 0;
-    while i < n {
-        let s = load(slots, i);
-        let t = made(i, v, s);
-        store(slots, i, t);
-        i = i + 1;
     }
 }

@@ -1,12 +1,11 @@
 -- The hub by value: what setup makes of it, a worker's record taken and replaced.
-use mathlib.Core.Bool.{cond}
 use mathlib.Core.List.{List, []}
 use Prim.Native.Nat.{ℕ, _-_}
-use lib.Dec.{ltb}
 use lib.ListN.{getD, set, replicate}
 use Rattle.model.specs.Store.{startWorker}
 use Rattle.worker.specs.Rep.{workerRep}
 use Rattle.worker.specs.declared.Worker.{Worker}
+use Rattle.worker.specs.declared.Doing.{Doing}
 use Rattle.worker.specs.declared.Doing.the-variants.{Idle}
 use Rattle.worker.specs.declared.Announced.the-variants.{Nothing}
 use Rattle.state.specs.declared.Hub.{Hub}
@@ -29,13 +28,19 @@ freshHub p v n t =
 abbrev pub nobody : Worker
 nobody = record { doing = Idle; announced = Nothing; pool = record { slots = []; lows = []; highs = []; len = 0 }; times = [] }
 
--- a worker's record; the starting record where there is none
+-- worker w's record
 abbrev pub workerIn : Hub → ℕ → Worker
-workerIn h w = cond (ltb w 16) (getD (h .workers) w nobody) (workerRep startWorker)
+workerIn h w = getD (h .workers) w nobody
 
--- a worker's record replaced; where there is none, nothing changes
-abbrev pub withWorkerIn : Hub → ℕ → Worker → Hub
-withWorkerIn h w x =
+-- a worker at another place
+abbrev pub atPlace : Worker → Doing → Worker
+atPlace x d = record { doing = d; announced = x .announced; pool = x .pool; times = x .times }
+
+------------------------------------------------------------------------
+-- A hub with one part replaced
+
+abbrev pub withWorkersIn : Hub → List Worker → Hub
+withWorkersIn h l =
     record {
       p = h .p;
       v = h .v;
@@ -44,5 +49,48 @@ withWorkerIn h w x =
       free = h .free;
       pools = h .pools;
       queued = h .queued;
-      workers = cond (ltb w 16) (set (h .workers) w x) (h .workers);
+      workers = l;
+    }
+
+-- worker w's record; where there is no worker w, nothing changes
+abbrev pub withWorkerIn : Hub → ℕ → Worker → Hub
+withWorkerIn h w x = withWorkersIn h (set (h .workers) w x)
+
+abbrev pub withClockIn : Hub → ℕ → Hub
+withClockIn h k =
+    record {
+      p = h .p;
+      v = h .v;
+      n = h .n;
+      clock = k;
+      free = h .free;
+      pools = h .pools;
+      queued = h .queued;
+      workers = h .workers;
+    }
+
+abbrev pub withFreeIn : Hub → ℕ → Hub
+withFreeIn h k =
+    record {
+      p = h .p;
+      v = h .v;
+      n = h .n;
+      clock = h .clock;
+      free = k;
+      pools = h .pools;
+      queued = h .queued;
+      workers = h .workers;
+    }
+
+abbrev pub withCounts : Hub → ℕ → ℕ → Hub
+withCounts h pools queued =
+    record {
+      p = h .p;
+      v = h .v;
+      n = h .n;
+      clock = h .clock;
+      free = h .free;
+      pools = pools;
+      queued = queued;
+      workers = h .workers;
     }

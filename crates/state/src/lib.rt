@@ -1,6 +1,6 @@
 // The hub by value: its sizes, clock and counts, and up to sixteen workers side by side, each with its own record.
 ghost use mathlib.Core.Path.{_≡_};
-ghost use Rattle.state.specs.State.{freshHub, workerIn, withWorkerIn};
+ghost use Rattle.state.specs.State.{freshHub};
 use worker::Worker;
 
 // P, V and N of document 01, the clock, how many slots are free, how many pools are queued and how many ranges they have together.
@@ -35,28 +35,5 @@ impl Hub {
             queued: 0,
             workers: [x; 16],
         }
-    }
-
-    // Worker w's record; the starting record where there is no worker w.
-    pub fn worker(self, w: usize) -> Worker
-        ensures { λ r. ⌜ r ≡ workerIn self w ⌝ }
-    {
-        if 16 <= w {
-            return Worker::start();
-        }
-        let hub = self;
-        hub.workers[w]
-    }
-
-    // The hub with worker w's record replaced; where there is no worker w, nothing changes.
-    pub fn with_worker(self, w: usize, x: Worker) -> Hub
-        ensures { λ r. ⌜ r ≡ withWorkerIn self w x ⌝ }
-    {
-        let mut hub = self;
-        if w < 16 {
-            hub.workers[w] = x;
-            return hub;
-        }
-        hub
     }
 }

@@ -47,6 +47,11 @@ poolRep l =
 abbrev pub announcedRep : ℕ → Announced
 announcedRep t = cond (ltb t absent) (At t) Nothing
 
+-- the time of it, absent where there is none
+abbrev pub timeOf : Announced → ℕ
+timeOf Nothing = absent
+timeOf (At a) = a
+
 abbrev pub readingRep : Model.Reading → Reading
 readingRep x = record { count = x .count }
 

@@ -1,10 +1,9 @@
-// A worker's record by value, and the sixteen records side by side.
+// A worker's record by value.
 ghost use mathlib.Core.Path.{_≡_};
 ghost use mathlib.Core.List.{[], _∷_, _++_};
 ghost use Prim.Native.Nat.{_<_};
-ghost use lib.ListN.{set};
 ghost use Rattle.model.specs.Store.{startWorker};
-ghost use Rattle.worker.specs.Rep.{workerRep};
+ghost use Rattle.worker.specs.Rep.{timeOf, workerRep};
 ghost use Rattle.worker.specs.Pool.{appended, rangesIn};
 use values::Reading;
 
@@ -89,14 +88,12 @@ impl Pool {
     }
 }
 
-// The records with the i-th replaced; where there is no i-th, nothing changes.
-pub fn replace(workers: [Worker; 16], i: usize, w: Worker) -> [Worker; 16]
-    ensures { λ r. ⌜ r ≡ set workers i w ⌝ }
+// An announced time; 4294967296 where there is none.
+pub fn time_of(t: Announced) -> u64
+    ensures { λ r. ⌜ r ≡ timeOf t ⌝ }
 {
-    if 16 <= i {
-        return workers;
+    match t {
+        Announced::Nothing => 4294967296,
+        Announced::At(a) => a as u64,
     }
-    let mut all = workers;
-    all[i] = w;
-    all
 }

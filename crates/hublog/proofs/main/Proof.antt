@@ -1,19 +1,19 @@
--- `main` is safe and ends: what is read fits its buffer, the text of a block fits its own, and the turns that are left fall.
+-- `main` is safe and ends: what is read fits its buffer, and the turns that are left fall.
 use native.Mathlib.Omega.{arith}
 use borrow.Author.Needs.{needs}
 use Rattle.hublog.proofs.main.Statement.{statement}
 use Rattle.hublog.proofs.main.Tie as tie
 
 abbrev Inv-loop : tie.InvT-loop
-Inv-loop input₀ text₀ kinds₀ numbers₀ newest₀ free₀ queue₀ lens₀ merged₀ slots₀ hub₀ first₀ turns₀ t25 t26 input text kinds numbers newest free queue lens merged slots hub first turns =
+Inv-loop block₀ text₀ kinds₀ numbers₀ newest₀ free₀ queue₀ lens₀ merged₀ slots₀ hub₀ first₀ turns₀ t24 t25 block text kinds numbers newest free queue lens merged slots hub first turns =
     Unit {0}
 
 abbrev μ-loop : tie.MeasureT-loop
-μ-loop input₀ text₀ kinds₀ numbers₀ newest₀ free₀ queue₀ lens₀ merged₀ slots₀ hub₀ first₀ turns₀ t25 t26 input text kinds numbers newest free queue lens merged slots hub first turns =
+μ-loop block₀ text₀ kinds₀ numbers₀ newest₀ free₀ queue₀ lens₀ merged₀ slots₀ hub₀ first₀ turns₀ t24 t25 block text kinds numbers newest free queue lens merged slots hub first turns =
     turns
 
-slice-aggregate-input : tie.Need-slice-aggregate-input Inv-loop μ-loop
-slice-aggregate-input c = search needs
+slice-aggregate-block : tie.Need-slice-aggregate-block Inv-loop μ-loop
+slice-aggregate-block c = search needs
 
 slice-aggregate-text : tie.Need-slice-aggregate-text Inv-loop μ-loop
 slice-aggregate-text c = search needs
@@ -39,32 +39,20 @@ sub-turns c = search needs
 fill-requires : tie.Need-fill-requires Inv-loop μ-loop
 fill-requires c κs = search needs
 
-sub-apply-all : tie.Need-sub-apply-all Inv-loop μ-loop
-sub-apply-all c = search needs
+sub-apply-owned : tie.Need-sub-apply-owned Inv-loop μ-loop
+sub-apply-owned c = search needs
 
-part-apply-all-start : tie.Need-part-apply-all-start Inv-loop μ-loop
-part-apply-all-start c = search needs
+part-apply-owned-start : tie.Need-part-apply-owned-start Inv-loop μ-loop
+part-apply-owned-start c = search needs
 
-part-apply-all-end : tie.Need-part-apply-all-end Inv-loop μ-loop
-part-apply-all-end c = search needs
+part-apply-owned-end : tie.Need-part-apply-owned-end Inv-loop μ-loop
+part-apply-owned-end c = search needs
 
-apply-all-requires : tie.Need-apply-all-requires Inv-loop μ-loop
-apply-all-requires c κs = search needs
+apply-owned-requires : tie.Need-apply-owned-requires Inv-loop μ-loop
+apply-owned-requires c κs = search needs
 
-write-block-requires : tie.Need-write-block-requires Inv-loop μ-loop
-write-block-requires c κs = search needs
-
-sub-write-all : tie.Need-sub-write-all Inv-loop μ-loop
-sub-write-all c = search needs
-
-part-write-all-start : tie.Need-part-write-all-start Inv-loop μ-loop
-part-write-all-start c = search needs
-
-part-write-all-end : tie.Need-part-write-all-end Inv-loop μ-loop
-part-write-all-end c = search needs
-
-write-all-requires : tie.Need-write-all-requires Inv-loop μ-loop
-write-all-requires c κs = search needs
+write-log-requires : tie.Need-write-log-requires Inv-loop μ-loop
+write-log-requires c κs = search needs
 
 slice-aggregate-say : tie.Need-slice-aggregate-say Inv-loop μ-loop
 slice-aggregate-say c = search needs
@@ -91,7 +79,10 @@ wrapping-add-u64-requires : tie.Need-wrapping-add-u64-requires Inv-loop μ-loop
 wrapping-add-u64-requires c κs = search needs
 
 loop-less : tie.Need-loop-less Inv-loop μ-loop
-loop-less c = omega (arith, c .before .before .before .before .before .before .before .before .before .before .before .before .before .before .before .before .before .before .before .before .before .before .before .before .before .before .before .before .before .before .before .before .before .loop-test .taken)
+loop-less c =
+    let t0 = c .before .before .before .before .before .before .before .before .before .before .before .before .before .before .before .before in
+    let t1 = t0 .before .before .before .before .before .before .before .before .before .before .before .before .before .before in
+    omega (arith, t1 .loop-test .taken)
 
 loop-again : tie.Need-loop-again Inv-loop μ-loop
 loop-again c = search needs
@@ -105,7 +96,7 @@ main-spec =
     (tie.spec
     Inv-loop
     μ-loop
-    slice-aggregate-input
+    slice-aggregate-block
     slice-aggregate-text
     slice-aggregate-kinds
     slice-aggregate-numbers
@@ -114,15 +105,11 @@ main-spec =
     loop-holds
     sub-turns
     fill-requires
-    sub-apply-all
-    part-apply-all-start
-    part-apply-all-end
-    apply-all-requires
-    write-block-requires
-    sub-write-all
-    part-write-all-start
-    part-write-all-end
-    write-all-requires
+    sub-apply-owned
+    part-apply-owned-start
+    part-apply-owned-end
+    apply-owned-requires
+    write-log-requires
     slice-aggregate-say
     say-requires
     returns

@@ -1,11 +1,10 @@
 -- `workers_fit` meets its contract. The loop's invariant: `ok` is the answer for the first w workers, of which the definition takes the next
 -- as the turn does.
 use mathlib.Core.Path.{_≡_, refl}
-use Prim.Native.Nat.{_-_, _<_, _≤_}
+use Prim.Native.Nat.{_-_, _≤_}
 use native.Mathlib.Numerals.{add-one}
 use native.Mathlib.Omega.{arith}
 use borrow.Author.Needs.{needs}
-use borrow.Author.Tests.{lt-ltb}
 use Rattle.ready.specs.Ready.{workersFit}
 use Rattle.ready.proofs.workers_fit.Statement.{statement}
 use Rattle.ready.proofs.workers_fit.Tie as tie
@@ -46,11 +45,7 @@ loop-less c = omega arith
 
 loop-again : tie.Need-loop-again Inv-loop μ-loop
 unfolding workersFit
-loop-again c =
-    let h : c .before .before .before .loop .w < 16 = omega arith in (
-      omega arith,
-      rw (add-one, ← c .before .before .before .loop .inv .1, lt-ltb _ _ h, ← c .worker-fits .ensures),
-    )
+loop-again c = (omega arith, rw (add-one, ← c .before .before .before .loop .inv .1, ← c .worker-fits .ensures))
 
 returns : tie.Need-returns Inv-loop μ-loop
 returns c = let e : c .before .loop .w ≡ c .before .before .args .t1 .p = omega arith in rw e at (c .before .loop .inv .1)

@@ -1,0 +1,6 @@
+pub mod Cutting
+pub mod Named
+pub mod Tested
+pub mod Moving
+pub mod Lengths
+pub mod Loop

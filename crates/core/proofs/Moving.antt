@@ -1,0 +1,47 @@
+-- The inner loop, which moves the reads that stand on a freed slot: one worker more.
+use mathlib.Core.Path.{_≡_, refl, sym, ap, _∙_}
+use mathlib.Core.Bool.{false}
+use mathlib.Core.List.{List}
+use Prim.Native.Nat.{ℕ, _<_, _+_}
+use native.Mathlib.Numerals.{add-one}
+use lib.ListN.{length, getD, set}
+use lib.Seq.{set-getD}
+use Rattle.worker.specs.declared.Doing.{Doing}
+use Rattle.worker.specs.declared.Doing.the-variants.{Idle, PutPublish, PutStamp, PutHandIn, FlushTake, FlushRead, FlushFree, OpenAnnounce, OpenPass, ReadEnter, ReadStand, CloseWithdraw, GetShow}
+use Rattle.worker.specs.declared.Worker.{Worker}
+use Rattle.state.specs.declared.Hub.{Hub}
+use Rattle.state.specs.State.{nobody, atPlace, withWorkersIn}
+use Rattle.flush.specs.Flush.{offDoing, standsOn}
+use Rattle.simulation.specs.Shell.{offWorker}
+use Rattle.lists.proofs.Mapped.{mapped, mapped-more}
+
+-- a read that stands elsewhere stays
+stays : (c o : ℕ) (d : Doing) → standsOn d c ≡ false → offDoing c o d ≡ d
+stays c o Idle e = refl
+stays c o (PutPublish r x) e = refl
+stays c o (PutStamp r v) e = refl
+stays c o (PutHandIn r v) e = refl
+stays c o FlushTake e = refl
+stays c o (FlushRead m k) e = refl
+stays c o (FlushFree m) e = refl
+stays c o OpenAnnounce e = refl
+stays c o OpenPass e = refl
+stays c o (ReadEnter r) e = refl
+stays c o (ReadStand r v) e = rw e
+stays c o CloseWithdraw e = refl
+stays c o (GetShow r) e = refl
+
+module _ (c o : ℕ) (h₀ h : Hub) (j : ℕ) (e : h ≡ withWorkersIn h₀ (mapped (offWorker c o) j (h₀ .workers))) (sixteen : length (h₀ .workers) ≡ 16) (inside : j < 16) where
+  -- worker j's record
+  abbrev y : Worker
+  y = getD (h .workers) j nobody
+
+  pub move-one : (d : Doing) → d ≡ offDoing c o (y .doing)
+      → withWorkersIn h (set (h .workers) j (atPlace y d)) ≡ withWorkersIn h₀ (mapped (offWorker c o) (j + 1) (h₀ .workers))
+  move-one d f =
+      rw (f, e, add-one j) (ap (withWorkersIn h₀) (mapped-more (offWorker c o) nobody (h₀ .workers) j (rw sixteen inside)))
+
+  pub move-none : standsOn (y .doing) c ≡ false → h ≡ withWorkersIn h₀ (mapped (offWorker c o) (j + 1) (h₀ .workers))
+  move-none f =
+      let same : withWorkersIn h (set (h .workers) j (atPlace y (y .doing))) ≡ h = ap (withWorkersIn h) (set-getD (h .workers) j nobody) in
+      sym same ∙ move-one (y .doing) (sym (stays c o (y .doing) f))

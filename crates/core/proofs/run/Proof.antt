@@ -1,0 +1,695 @@
+-- `run` meets its contract. The invariant is `Running` (Loop.antt): the records so far have done what the definition says. Each arm of the loop is
+-- a law there. The inner loop moves the reads of the first j workers.
+use mathlib.Core.Path.{_≡_, refl, sym, ap, _∙_}
+use Prim.Native.Nat.{ℕ, _≤_, _<_, _-_, _%_}
+use native.Mathlib.Omega.{arith}
+use lib.ListN.{length, length-set}
+use borrow.Author.Needs.{needs}
+use Rattle.model.specs.Record as Model
+use Rattle.state.specs.declared.Hub.{Hub}
+use Rattle.state.specs.State.{withWorkersIn}
+use Rattle.simulation.specs.Shell.{offWorker}
+use Rattle.simulation.specs.Buffer.{after}
+use Rattle.lists.proofs.Mapped.{mapped, length-mapped}
+use Rattle.core.proofs.Moving.{move-one, move-none}
+use Rattle.core.proofs.Tested.{ready-few}
+use Rattle.core.proofs.Loop.{stateOf, Running, words-long, deciding, make-few, below, workers, told, on-refuse, on-make, on-start, on-taken, on-hand-in, on-take, on-read, on-split, on-free, ready-is, finished}
+use Rattle.core.proofs.run.Statement.{statement}
+use Rattle.core.proofs.run.Tie as tie
+
+abbrev Inv-loop2 : tie.InvT-loop2
+Inv-loop2 row bytes count kinds numbers newest free queue lens merged linked up hub₀ needed local joined k w left f j₀ hub j =
+    (j ≤ 16) × (hub ≡ withWorkersIn hub₀ (mapped (offWorker (f .slot) (f .older)) j (hub₀ .workers))) × (length (hub₀ .workers) ≡ 16)
+
+abbrev μ-loop2 : tie.MeasureT-loop2
+μ-loop2 row bytes count kinds numbers newest free queue lens merged linked up hub₀ needed local joined k w left f j₀ hub j =
+    16 - j
+
+abbrev Inv-loop : tie.InvT-loop
+Inv-loop row₀ bytes count kinds₀ numbers₀ newest₀ free₀ queue₀ lens₀ merged₀ linked up₀ hub₀ last₀ needed₀ local₀ joined₀ k₀ row kinds numbers newest free queue lens merged up hub last needed local joined k =
+    Running (stateOf up₀ hub₀ row₀ newest₀ free₀ queue₀ lens₀ merged₀ kinds₀ numbers₀ last₀) bytes count k
+    (stateOf up hub row newest free queue lens merged kinds numbers last)
+
+abbrev μ-loop : tie.MeasureT-loop
+μ-loop row₀ bytes count kinds₀ numbers₀ newest₀ free₀ queue₀ lens₀ merged₀ linked up₀ hub₀ last₀ needed₀ local₀ joined₀ k₀ row kinds numbers newest free queue lens merged up hub last needed local joined k =
+    count - k
+
+-- the length of the array of workers
+workers-long : (c : tie.Start Inv-loop2 μ-loop2 Inv-loop μ-loop) → length (c .args .start .workers) ≡ 16
+workers-long c = search (needs, length-mapped)
+
+all-linked-requires : tie.Need-all-linked-requires Inv-loop2 μ-loop2 Inv-loop μ-loop
+all-linked-requires c κs = tt
+
+ready-requires : tie.Need-ready-requires Inv-loop2 μ-loop2 Inv-loop μ-loop
+ready-requires c κs = tt
+
+loop-holds : tie.Need-loop-holds Inv-loop2 μ-loop2 Inv-loop μ-loop
+unfolding after
+loop-holds c =
+    let A = c .before .before .before .before .before .before .before .before .before .before .before in
+    record {
+      inside = omega arith;
+      state = refl;
+      few = λ u. ready-few _ _ _ _ _ _ _ _ (sym (c .ready .ensures) ∙ u);
+      row = refl;
+      sixteen = workers-long A;
+      kinds-long = refl;
+      numbers-long = refl;
+    }
+
+record-at-requires : tie.Need-record-at-requires Inv-loop2 μ-loop2 Inv-loop μ-loop
+record-at-requires c κs = tt
+
+decode-requires : tie.Need-decode-requires Inv-loop2 μ-loop2 Inv-loop μ-loop
+decode-requires c κs = tt
+
+who-requires : tie.Need-who-requires Inv-loop2 μ-loop2 Inv-loop μ-loop
+who-requires c κs = tt
+
+mul-x : tie.Need-mul-x Inv-loop2 μ-loop2 Inv-loop μ-loop
+mul-x c = omega arith
+
+element-copy-out-x : tie.Need-element-copy-out-x Inv-loop2 μ-loop2 Inv-loop μ-loop
+element-copy-out-x c = omega arith
+
+gate-for-requires : tie.Need-gate-for-requires Inv-loop2 μ-loop2 Inv-loop μ-loop
+gate-for-requires c κs = tt
+
+enum-known-g : tie.Need-enum-known-g Inv-loop2 μ-loop2 Inv-loop μ-loop
+enum-known-g c = search needs
+
+put-answer-requires : tie.Need-put-answer-requires Inv-loop2 μ-loop2 Inv-loop μ-loop
+put-answer-requires c κs = tt
+
+add-k : tie.Need-add-k Inv-loop2 μ-loop2 Inv-loop μ-loop
+add-k c =
+    let I = c .before .before .before .before .before .before .before .before .before .before .before .before .before .before .before in
+    let A = I .before .before .before .before .before .before .before .before .before .before .before .before .before in
+    omega (arith, I .loop-test .taken, A .fits)
+
+loop-less : tie.Need-loop-less Inv-loop2 μ-loop2 Inv-loop μ-loop
+loop-less c =
+    let I = c .before .before .before .before .before .before .before .before .before .before .before .before .before .before .before in
+    omega (arith, I .loop-test .taken)
+
+loop-again : tie.Need-loop-again Inv-loop2 μ-loop2 Inv-loop μ-loop
+loop-again c =
+    let P = c .before .before .before .before in
+    let K = P .before .before .before .before in
+    let G = K .before .before in
+    on-refuse (deciding (G .before .before .before .before .before .before .loop .row) (G .before .before .before .before .before .before .loop .inv) (G .before .before .before .before .before .loop-test .taken)
+    (G .before .before .before .decode .ensures ∙ ap Model.decode (G .before .before .before .before .record-at .ensures))
+    (ap (λ (z : ℕ). z % 16) (G .before .before .who .ensures .0)) (G .gate-for .ensures))
+    _ _ _ _ (K .g .given .1) (P .put-answer .ensures)
+
+enum-known-g-2 : tie.Need-enum-known-g-2 Inv-loop2 μ-loop2 Inv-loop μ-loop
+enum-known-g-2 c = search needs
+
+cast-fresh : tie.Need-cast-fresh Inv-loop2 μ-loop2 Inv-loop μ-loop
+cast-fresh c = omega arith
+
+cast-fresh-2 : tie.Need-cast-fresh-2 Inv-loop2 μ-loop2 Inv-loop μ-loop
+cast-fresh-2 c = omega arith
+
+cast-fresh-3 : tie.Need-cast-fresh-3 Inv-loop2 μ-loop2 Inv-loop μ-loop
+cast-fresh-3 c = omega arith
+
+fresh-requires : tie.Need-fresh-requires Inv-loop2 μ-loop2 Inv-loop μ-loop
+fresh-requires c κs = tt
+
+cast-fill-newest : tie.Need-cast-fill-newest Inv-loop2 μ-loop2 Inv-loop μ-loop
+cast-fill-newest c = omega arith
+
+fill-newest-requires : tie.Need-fill-newest-requires Inv-loop2 μ-loop2 Inv-loop μ-loop
+fill-newest-requires c κs = tt
+
+cast-fill-free : tie.Need-cast-fill-free Inv-loop2 μ-loop2 Inv-loop μ-loop
+cast-fill-free c = omega arith
+
+fill-free-requires : tie.Need-fill-free-requires Inv-loop2 μ-loop2 Inv-loop μ-loop
+fill-free-requires c κs =
+    let H = c .before .before .before in
+    omega (arith, ap (λ (z : Hub). z .free) (H .fresh .ensures))
+
+cast-set-up : tie.Need-cast-set-up Inv-loop2 μ-loop2 Inv-loop μ-loop
+cast-set-up c = omega arith
+
+cast-set-up-2 : tie.Need-cast-set-up-2 Inv-loop2 μ-loop2 Inv-loop μ-loop
+cast-set-up-2 c = omega arith
+
+set-up-requires : tie.Need-set-up-requires Inv-loop2 μ-loop2 Inv-loop μ-loop
+set-up-requires c κs = tt
+
+put-answer-requires-2 : tie.Need-put-answer-requires-2 Inv-loop2 μ-loop2 Inv-loop μ-loop
+put-answer-requires-2 c κs = tt
+
+add-k-2 : tie.Need-add-k-2 Inv-loop2 μ-loop2 Inv-loop μ-loop
+add-k-2 c =
+    let I = c .before .before .before .before .before .before .before .before .before .before .before .before .before .before .before .before .before .before .before .before .before .before .before in
+    let A = I .before .before .before .before .before .before .before .before .before .before .before .before .before in
+    omega (arith, I .loop-test .taken, A .fits)
+
+loop-less-2 : tie.Need-loop-less-2 Inv-loop2 μ-loop2 Inv-loop μ-loop
+loop-less-2 c =
+    let I = c .before .before .before .before .before .before .before .before .before .before .before .before .before .before .before .before .before .before .before .before .before .before .before in
+    omega (arith, I .loop-test .taken)
+
+loop-again-2 : tie.Need-loop-again-2 Inv-loop2 μ-loop2 Inv-loop μ-loop
+loop-again-2 c =
+    let P = c .before .before .before .before in
+    let W = P .before .before .before .before in
+    let F = W .before .before in
+    let N = F .before .before in
+    let H = N .before .before in
+    let K = H .before .before in
+    let G = K .before .before in
+    on-make (deciding (G .before .before .before .before .before .before .loop .row) (G .before .before .before .before .before .before .loop .inv) (G .before .before .before .before .before .loop-test .taken)
+    (G .before .before .before .decode .ensures ∙ ap Model.decode (G .before .before .before .before .record-at .ensures))
+    (ap (λ (z : ℕ). z % 16) (G .before .before .who .ensures .0)) (G .gate-for .ensures))
+    _ _ _ _ _ _ _ _ _ _ _ (K .g2 .given .1) (H .fresh .ensures) (W .set-up .ensures) (N .fill-newest .ensures) (F .fill-free .ensures)
+    (P .put-answer2 .ensures)
+
+enum-known-g-3 : tie.Need-enum-known-g-3 Inv-loop2 μ-loop2 Inv-loop μ-loop
+enum-known-g-3 c = search needs
+
+mul-t104 : tie.Need-mul-t104 Inv-loop2 μ-loop2 Inv-loop μ-loop
+mul-t104 c = omega arith
+
+element-set-from-hub : tie.Need-element-set-from-hub Inv-loop2 μ-loop2 Inv-loop μ-loop
+element-set-from-hub c = omega arith
+
+put-answer-requires-3 : tie.Need-put-answer-requires-3 Inv-loop2 μ-loop2 Inv-loop μ-loop
+put-answer-requires-3 c κs = tt
+
+add-k-3 : tie.Need-add-k-3 Inv-loop2 μ-loop2 Inv-loop μ-loop
+add-k-3 c =
+    let I = c .before .before .before .before .before .before .before .before .before .before .before .before .before .before .before .before .before in
+    let A = I .before .before .before .before .before .before .before .before .before .before .before .before .before in
+    omega (arith, I .loop-test .taken, A .fits)
+
+loop-less-3 : tie.Need-loop-less-3 Inv-loop2 μ-loop2 Inv-loop μ-loop
+loop-less-3 c =
+    let I = c .before .before .before .before .before .before .before .before .before .before .before .before .before .before .before .before .before in
+    omega (arith, I .loop-test .taken)
+
+loop-again-3 : tie.Need-loop-again-3 Inv-loop2 μ-loop2 Inv-loop μ-loop
+loop-again-3 c =
+    let P = c .before .before .before .before in
+    let K = P .before .before .before .before .before .before in
+    let G = K .before .before in
+    on-start (deciding (G .before .before .before .before .before .before .loop .row) (G .before .before .before .before .before .before .loop .inv) (G .before .before .before .before .before .loop-test .taken)
+    (G .before .before .before .decode .ensures ∙ ap Model.decode (G .before .before .before .before .record-at .ensures))
+    (ap (λ (z : ℕ). z % 16) (G .before .before .who .ensures .0)) (G .gate-for .ensures))
+    _ _ _ _ _ (K .g3 .given .1) (P .put-answer3 .ensures)
+
+enum-told : tie.Need-enum-told Inv-loop2 μ-loop2 Inv-loop μ-loop
+enum-told c = search needs
+
+step-requires : tie.Need-step-requires Inv-loop2 μ-loop2 Inv-loop μ-loop
+step-requires c κs = tt
+
+enum-known-s : tie.Need-enum-known-s Inv-loop2 μ-loop2 Inv-loop μ-loop
+enum-known-s c = search needs
+
+mul-t122 : tie.Need-mul-t122 Inv-loop2 μ-loop2 Inv-loop μ-loop
+mul-t122 c = omega arith
+
+element-set-from-hub-2 : tie.Need-element-set-from-hub-2 Inv-loop2 μ-loop2 Inv-loop μ-loop
+element-set-from-hub-2 c = omega arith
+
+put-answer-requires-4 : tie.Need-put-answer-requires-4 Inv-loop2 μ-loop2 Inv-loop μ-loop
+put-answer-requires-4 c κs = tt
+
+add-k-4 : tie.Need-add-k-4 Inv-loop2 μ-loop2 Inv-loop μ-loop
+add-k-4 c =
+    let I = c .before .before .before .before .before .before .before .before .before .before .before .before .before .before .before .before .before .before .before .before .before .before .before .before in
+    let A = I .before .before .before .before .before .before .before .before .before .before .before .before .before in
+    omega (arith, I .loop-test .taken, A .fits)
+
+loop-less-4 : tie.Need-loop-less-4 Inv-loop2 μ-loop2 Inv-loop μ-loop
+loop-less-4 c =
+    let I = c .before .before .before .before .before .before .before .before .before .before .before .before .before .before .before .before .before .before .before .before .before .before .before .before in
+    omega (arith, I .loop-test .taken)
+
+loop-again-4 : tie.Need-loop-again-4 Inv-loop2 μ-loop2 Inv-loop μ-loop
+loop-again-4 c =
+    let P = c .before .before .before .before in
+    let K = P .before .before .before .before .before .before in
+    let T = K .before .before .before in
+    let E = T .before .before .before .before in
+    let G = E .before .before in
+    on-taken (deciding (G .before .before .before .before .before .before .loop .row) (G .before .before .before .before .before .before .loop .inv) (G .before .before .before .before .before .loop-test .taken)
+    (G .before .before .before .decode .ensures ∙ ap Model.decode (G .before .before .before .before .record-at .ensures))
+    (ap (λ (z : ℕ). z % 16) (G .before .before .who .ensures .0)) (G .gate-for .ensures))
+    _ (E .enum-told .given .1) _ _ _ (T .step .ensures)
+    _ _ _ _ (K .s .given .1) (P .put-answer4 .ensures)
+
+enum-known-s-2 : tie.Need-enum-known-s-2 Inv-loop2 μ-loop2 Inv-loop μ-loop
+enum-known-s-2 c = search needs
+
+put-hand-in-requires : tie.Need-put-hand-in-requires Inv-loop2 μ-loop2 Inv-loop μ-loop
+put-hand-in-requires c κs = tt
+
+mul-t131 : tie.Need-mul-t131 Inv-loop2 μ-loop2 Inv-loop μ-loop
+mul-t131 c = omega arith
+
+element-set-from-hub-3 : tie.Need-element-set-from-hub-3 Inv-loop2 μ-loop2 Inv-loop μ-loop
+element-set-from-hub-3 c = omega arith
+
+put-answer-requires-5 : tie.Need-put-answer-requires-5 Inv-loop2 μ-loop2 Inv-loop μ-loop
+put-answer-requires-5 c κs = tt
+
+add-k-5 : tie.Need-add-k-5 Inv-loop2 μ-loop2 Inv-loop μ-loop
+add-k-5 c =
+    let I = c .before .before .before .before .before .before .before .before .before .before .before .before .before .before .before .before .before .before .before .before .before .before .before .before .before .before .before in
+    let A = I .before .before .before .before .before .before .before .before .before .before .before .before .before in
+    omega (arith, I .loop-test .taken, A .fits)
+
+loop-less-5 : tie.Need-loop-less-5 Inv-loop2 μ-loop2 Inv-loop μ-loop
+loop-less-5 c =
+    let I = c .before .before .before .before .before .before .before .before .before .before .before .before .before .before .before .before .before .before .before .before .before .before .before .before .before .before .before in
+    omega (arith, I .loop-test .taken)
+
+loop-again-5 : tie.Need-loop-again-5 Inv-loop2 μ-loop2 Inv-loop μ-loop
+loop-again-5 c =
+    let P = c .before .before .before .before in
+    let H = P .before .before .before .before .before in
+    let K = H .before .before .before .before in
+    let T = K .before .before .before in
+    let E = T .before .before .before .before in
+    let G = E .before .before in
+    on-hand-in (deciding (G .before .before .before .before .before .before .loop .row) (G .before .before .before .before .before .before .loop .inv) (G .before .before .before .before .before .loop-test .taken)
+    (G .before .before .before .decode .ensures ∙ ap Model.decode (G .before .before .before .before .record-at .ensures))
+    (ap (λ (z : ℕ). z % 16) (G .before .before .who .ensures .0)) (G .gate-for .ensures))
+    _ (E .enum-told .given .1) _ _ _ (T .step .ensures)
+    _ _ _ _ _ (K .s2 .given .1) (H .put-hand-in .ensures) (P .put-answer5 .ensures)
+
+enum-told-2 : tie.Need-enum-told-2 Inv-loop2 μ-loop2 Inv-loop μ-loop
+enum-told-2 c = search needs
+
+flush-take-requires : tie.Need-flush-take-requires Inv-loop2 μ-loop2 Inv-loop μ-loop
+flush-take-requires c κs =
+    let T = c .before .before .before .before .before .before in
+    let E = T .before .before .before .before in
+    let G = E .before .before in
+    below (deciding (G .before .before .before .before .before .before .loop .row) (G .before .before .before .before .before .before .loop .inv) (G .before .before .before .before .before .loop-test .taken)
+    (G .before .before .before .decode .ensures ∙ ap Model.decode (G .before .before .before .before .record-at .ensures))
+    (ap (λ (z : ℕ). z % 16) (G .before .before .who .ensures .0)) (G .gate-for .ensures))
+    _ (E .enum-told .given .1) _ _ _ (T .step .ensures)
+
+cast-t146 : tie.Need-cast-t146 Inv-loop2 μ-loop2 Inv-loop μ-loop
+cast-t146 c = omega arith
+
+mul-t142 : tie.Need-mul-t142 Inv-loop2 μ-loop2 Inv-loop μ-loop
+mul-t142 c = omega arith
+
+element-set-from-hub-4 : tie.Need-element-set-from-hub-4 Inv-loop2 μ-loop2 Inv-loop μ-loop
+element-set-from-hub-4 c = omega arith
+
+put-answer-requires-6 : tie.Need-put-answer-requires-6 Inv-loop2 μ-loop2 Inv-loop μ-loop
+put-answer-requires-6 c κs = tt
+
+add-k-6 : tie.Need-add-k-6 Inv-loop2 μ-loop2 Inv-loop μ-loop
+add-k-6 c =
+    let I = c .before .before .before .before .before .before .before .before .before .before .before .before .before .before .before .before .before .before .before .before .before .before .before .before .before .before .before .before in
+    let A = I .before .before .before .before .before .before .before .before .before .before .before .before .before in
+    omega (arith, I .loop-test .taken, A .fits)
+
+loop-less-6 : tie.Need-loop-less-6 Inv-loop2 μ-loop2 Inv-loop μ-loop
+loop-less-6 c =
+    let I = c .before .before .before .before .before .before .before .before .before .before .before .before .before .before .before .before .before .before .before .before .before .before .before .before .before .before .before .before in
+    omega (arith, I .loop-test .taken)
+
+loop-again-6 : tie.Need-loop-again-6 Inv-loop2 μ-loop2 Inv-loop μ-loop
+loop-again-6 c =
+    let P = c .before .before .before .before in
+    let H = P .before .before .before .before .before .before in
+    let K = H .before .before .before .before in
+    let T = K .before .before .before in
+    let E = T .before .before .before .before in
+    let G = E .before .before in
+    on-take (deciding (G .before .before .before .before .before .before .loop .row) (G .before .before .before .before .before .before .loop .inv) (G .before .before .before .before .before .loop-test .taken)
+    (G .before .before .before .decode .ensures ∙ ap Model.decode (G .before .before .before .before .record-at .ensures))
+    (ap (λ (z : ℕ). z % 16) (G .before .before .who .ensures .0)) (G .gate-for .ensures))
+    _ (E .enum-told .given .1) _ _ _ (T .step .ensures)
+    _ _ _ _ _ _ _ (K .enum-told2 .given .1) (H .flush-take .ensures) (P .put-answer6 .ensures)
+
+enum-known-s-3 : tie.Need-enum-known-s-3 Inv-loop2 μ-loop2 Inv-loop μ-loop
+enum-known-s-3 c = search needs
+
+cast-j : tie.Need-cast-j Inv-loop2 μ-loop2 Inv-loop μ-loop
+cast-j c = omega arith
+
+mul-z : tie.Need-mul-z Inv-loop2 μ-loop2 Inv-loop μ-loop
+mul-z c = omega arith
+
+element-copy-out-z : tie.Need-element-copy-out-z Inv-loop2 μ-loop2 Inv-loop μ-loop
+element-copy-out-z c = omega arith
+
+flush-read-requires : tie.Need-flush-read-requires Inv-loop2 μ-loop2 Inv-loop μ-loop
+flush-read-requires c κs = tt
+
+add-t159 : tie.Need-add-t159 Inv-loop2 μ-loop2 Inv-loop μ-loop
+add-t159 c =
+    let K = c .before .before .before .before in
+    let T = K .before .before .before in
+    let E = T .before .before .before .before in
+    let G = E .before .before in
+    let D = (deciding (G .before .before .before .before .before .before .loop .row) (G .before .before .before .before .before .before .loop .inv) (G .before .before .before .before .before .loop-test .taken)
+    (G .before .before .before .decode .ensures ∙ ap Model.decode (G .before .before .before .before .record-at .ensures))
+    (ap (λ (z : ℕ). z % 16) (G .before .before .who .ensures .0)) (G .gate-for .ensures)) in
+    let l = told D _ (E .enum-told .given .1) _ _ _ (T .step .ensures) _ (K .s3 .given .1) in
+    let p = workers D _ (E .enum-told .given .1) _ _ _ (T .step .ensures) in
+    omega (arith, l, p)
+
+mul-t160 : tie.Need-mul-t160 Inv-loop2 μ-loop2 Inv-loop μ-loop
+mul-t160 c = omega arith
+
+element-set-from-hub-5 : tie.Need-element-set-from-hub-5 Inv-loop2 μ-loop2 Inv-loop μ-loop
+element-set-from-hub-5 c = omega arith
+
+put-answer-requires-7 : tie.Need-put-answer-requires-7 Inv-loop2 μ-loop2 Inv-loop μ-loop
+put-answer-requires-7 c κs = tt
+
+add-k-7 : tie.Need-add-k-7 Inv-loop2 μ-loop2 Inv-loop μ-loop
+add-k-7 c =
+    let I = c .before .before .before .before .before .before .before .before .before .before .before .before .before .before .before .before .before .before .before .before .before .before .before .before .before .before in
+    let A = I .before .before .before .before .before .before .before .before .before .before .before .before .before in
+    omega (arith, I .loop-test .taken, A .fits)
+
+loop-less-7 : tie.Need-loop-less-7 Inv-loop2 μ-loop2 Inv-loop μ-loop
+loop-less-7 c =
+    let I = c .before .before .before .before .before .before .before .before .before .before .before .before .before .before .before .before .before .before .before .before .before .before .before .before .before .before in
+    omega (arith, I .loop-test .taken)
+
+loop-again-7 : tie.Need-loop-again-7 Inv-loop2 μ-loop2 Inv-loop μ-loop
+loop-again-7 c =
+    let P = c .before .before .before .before in
+    let H = P .before .before .before .before in
+    let K = H .before .before .before .before in
+    let T = K .before .before .before in
+    let E = T .before .before .before .before in
+    let G = E .before .before in
+    on-read (deciding (G .before .before .before .before .before .before .loop .row) (G .before .before .before .before .before .before .loop .inv) (G .before .before .before .before .before .loop-test .taken)
+    (G .before .before .before .decode .ensures ∙ ap Model.decode (G .before .before .before .before .record-at .ensures))
+    (ap (λ (z : ℕ). z % 16) (G .before .before .who .ensures .0)) (G .gate-for .ensures))
+    _ (E .enum-told .given .1) _ _ _ (T .step .ensures)
+    _ _ _ _ _ _ (K .s3 .given .1) (H .flush-read .ensures) (P .put-answer7 .ensures)
+
+enum-known-s-4 : tie.Need-enum-known-s-4 Inv-loop2 μ-loop2 Inv-loop μ-loop
+enum-known-s-4 c = search needs
+
+flush-split-requires : tie.Need-flush-split-requires Inv-loop2 μ-loop2 Inv-loop μ-loop
+flush-split-requires c κs = tt
+
+mul-t175 : tie.Need-mul-t175 Inv-loop2 μ-loop2 Inv-loop μ-loop
+mul-t175 c = omega arith
+
+element-set-from-hub-6 : tie.Need-element-set-from-hub-6 Inv-loop2 μ-loop2 Inv-loop μ-loop
+element-set-from-hub-6 c = omega arith
+
+put-answer-requires-8 : tie.Need-put-answer-requires-8 Inv-loop2 μ-loop2 Inv-loop μ-loop
+put-answer-requires-8 c κs = tt
+
+add-k-8 : tie.Need-add-k-8 Inv-loop2 μ-loop2 Inv-loop μ-loop
+add-k-8 c =
+    let I = c .before .before .before .before .before .before .before .before .before .before .before .before .before .before .before .before .before .before .before .before .before .before .before .before .before .before .before .before .before .before .before .before .before in
+    let A = I .before .before .before .before .before .before .before .before .before .before .before .before .before in
+    omega (arith, I .loop-test .taken, A .fits)
+
+loop-less-8 : tie.Need-loop-less-8 Inv-loop2 μ-loop2 Inv-loop μ-loop
+loop-less-8 c =
+    let I = c .before .before .before .before .before .before .before .before .before .before .before .before .before .before .before .before .before .before .before .before .before .before .before .before .before .before .before .before .before .before .before .before .before in
+    omega (arith, I .loop-test .taken)
+
+loop-again-8 : tie.Need-loop-again-8 Inv-loop2 μ-loop2 Inv-loop μ-loop
+loop-again-8 c =
+    let P = c .before .before .before .before in
+    let H = P .before .before .before .before in
+    let K = H .before .before .before .before .before .before .before .before .before .before .before in
+    let T = K .before .before .before in
+    let E = T .before .before .before .before in
+    let G = E .before .before in
+    on-split (deciding (G .before .before .before .before .before .before .loop .row) (G .before .before .before .before .before .before .loop .inv) (G .before .before .before .before .before .loop-test .taken)
+    (G .before .before .before .decode .ensures ∙ ap Model.decode (G .before .before .before .before .record-at .ensures))
+    (ap (λ (z : ℕ). z % 16) (G .before .before .who .ensures .0)) (G .gate-for .ensures))
+    _ (E .enum-told .given .1) _ _ _ (T .step .ensures)
+    _ _ _ _ _ _ _ _ (K .s4 .given .1) (H .flush-split .ensures .0) (H .flush-split .ensures .1 .0) (H .flush-split .ensures .1 .1 .0)
+    (P .put-answer8 .ensures)
+
+enum-known-s-5 : tie.Need-enum-known-s-5 Inv-loop2 μ-loop2 Inv-loop μ-loop
+enum-known-s-5 c = search needs
+
+flush-free-requires : tie.Need-flush-free-requires Inv-loop2 μ-loop2 Inv-loop μ-loop
+flush-free-requires c κs =
+    let K = c .before .before .before .before in
+    let T = K .before .before .before in
+    let E = T .before .before .before .before in
+    let G = E .before .before in
+    let D = (deciding (G .before .before .before .before .before .before .loop .row) (G .before .before .before .before .before .before .loop .inv) (G .before .before .before .before .before .loop-test .taken)
+    (G .before .before .before .decode .ensures ∙ ap Model.decode (G .before .before .before .before .record-at .ensures))
+    (ap (λ (z : ℕ). z % 16) (G .before .before .who .ensures .0)) (G .gate-for .ensures)) in
+    (below D _ (E .enum-told .given .1) _ _ _ (T .step .ensures), told D _ (E .enum-told .given .1) _ _ _ (T .step .ensures) _ (K .s5 .given .1))
+
+sub-t203 : tie.Need-sub-t203 Inv-loop2 μ-loop2 Inv-loop μ-loop
+sub-t203 c =
+    let K = c .before .before .before .before .before .before in
+    let T = K .before .before .before in
+    let E = T .before .before .before .before in
+    let G = E .before .before in
+    let l = told (deciding (G .before .before .before .before .before .before .loop .row) (G .before .before .before .before .before .before .loop .inv) (G .before .before .before .before .before .loop-test .taken)
+    (G .before .before .before .decode .ensures ∙ ap Model.decode (G .before .before .before .before .record-at .ensures))
+    (ap (λ (z : ℕ). z % 16) (G .before .before .who .ensures .0)) (G .gate-for .ensures))
+    _ (E .enum-told .given .1) _ _ _ (T .step .ensures) _ (K .s5 .given .1) in
+    omega (arith, l)
+
+mul-t202 : tie.Need-mul-t202 Inv-loop2 μ-loop2 Inv-loop μ-loop
+mul-t202 c = omega arith
+
+element-set-from-hub-7 : tie.Need-element-set-from-hub-7 Inv-loop2 μ-loop2 Inv-loop μ-loop
+element-set-from-hub-7 c = omega arith
+
+loop2-holds : tie.Need-loop2-holds Inv-loop2 μ-loop2 Inv-loop μ-loop
+loop2-holds c =
+    let W = c .before .before .before .before .before .before .before .before .before .before .before .before .before .before .before .before .before .before .before in
+    let I = W .before .before .before .before in
+    (omega arith, refl, length-set (I .loop .hub .workers) (W .who .result % 16) _ ∙ I .loop .inv .sixteen)
+
+mul-z-2 : tie.Need-mul-z-2 Inv-loop2 μ-loop2 Inv-loop μ-loop
+mul-z-2 c = omega arith
+
+element-copy-out-z-2 : tie.Need-element-copy-out-z-2 Inv-loop2 μ-loop2 Inv-loop μ-loop
+element-copy-out-z-2 c = omega arith
+
+stands-on-requires : tie.Need-stands-on-requires Inv-loop2 μ-loop2 Inv-loop μ-loop
+stands-on-requires c κs = tt
+
+off-requires : tie.Need-off-requires Inv-loop2 μ-loop2 Inv-loop μ-loop
+off-requires c κs = tt
+
+mul-t221 : tie.Need-mul-t221 Inv-loop2 μ-loop2 Inv-loop μ-loop
+mul-t221 c = omega arith
+
+element-set-from-hub-8 : tie.Need-element-set-from-hub-8 Inv-loop2 μ-loop2 Inv-loop μ-loop
+element-set-from-hub-8 c = omega arith
+
+add-j : tie.Need-add-j Inv-loop2 μ-loop2 Inv-loop μ-loop
+add-j c = omega arith
+
+loop2-less : tie.Need-loop2-less Inv-loop2 μ-loop2 Inv-loop μ-loop
+loop2-less c =
+    let I = c .before .before .before .before .before .before in
+    omega (arith, I .loop2-test .taken)
+
+loop2-again : tie.Need-loop2-again Inv-loop2 μ-loop2 Inv-loop μ-loop
+loop2-again c =
+    let O = c .before .before in
+    let I = O .before .before .before .before in
+    let J = I .before in
+    (omega (arith, I .loop2-test .taken), move-one _ _ _ _ _ (J .loop2 .inv .1) (J .loop2 .inv .2) (I .loop2-test .taken) _ (O .off .ensures), J .loop2 .inv .2)
+
+add-j-2 : tie.Need-add-j-2 Inv-loop2 μ-loop2 Inv-loop μ-loop
+add-j-2 c = omega arith
+
+loop2-less-2 : tie.Need-loop2-less-2 Inv-loop2 μ-loop2 Inv-loop μ-loop
+loop2-less-2 c =
+    let I = c .before .before .before in
+    omega (arith, I .loop2-test .taken)
+
+loop2-again-2 : tie.Need-loop2-again-2 Inv-loop2 μ-loop2 Inv-loop μ-loop
+loop2-again-2 c =
+    let S = c .before in
+    let I = S .before .before in
+    let J = I .before in
+    (omega (arith, I .loop2-test .taken), move-none _ _ _ _ _ (J .loop2 .inv .1) (J .loop2 .inv .2) (I .loop2-test .taken) (sym (S .stands-on .ensures) ∙ c .if1 .left), J .loop2 .inv .2)
+
+put-answer-requires-9 : tie.Need-put-answer-requires-9 Inv-loop2 μ-loop2 Inv-loop μ-loop
+put-answer-requires-9 c κs = tt
+
+add-k-9 : tie.Need-add-k-9 Inv-loop2 μ-loop2 Inv-loop μ-loop
+add-k-9 c =
+    let I = c .before .before .before .before .before .before .before .before .before .before .before .before .before .before .before .before .before .before .before .before .before .before .before .before .before .before .before .before .before .before .before in
+    let A = I .before .before .before .before .before .before .before .before .before .before .before .before .before in
+    omega (arith, I .loop-test .taken, A .fits)
+
+loop-less-9 : tie.Need-loop-less-9 Inv-loop2 μ-loop2 Inv-loop μ-loop
+loop-less-9 c =
+    let I = c .before .before .before .before .before .before .before .before .before .before .before .before .before .before .before .before .before .before .before .before .before .before .before .before .before .before .before .before .before .before .before in
+    omega (arith, I .loop-test .taken)
+
+loop-again-9 : tie.Need-loop-again-9 Inv-loop2 μ-loop2 Inv-loop μ-loop
+loop-again-9 c =
+    let P = c .before .before .before .before in
+    let X = P .before .before .before in
+    let J = X .before in
+    let H = J .before .before .before .before in
+    let K = H .before .before .before .before .before in
+    let T = K .before .before .before in
+    let E = T .before .before .before .before in
+    let G = E .before .before in
+    on-free (deciding (G .before .before .before .before .before .before .loop .row) (G .before .before .before .before .before .before .loop .inv) (G .before .before .before .before .before .loop-test .taken)
+    (G .before .before .before .decode .ensures ∙ ap Model.decode (G .before .before .before .before .record-at .ensures))
+    (ap (λ (z : ℕ). z % 16) (G .before .before .who .ensures .0)) (G .gate-for .ensures))
+    _ (E .enum-told .given .1) _ _ _ (T .step .ensures)
+    _ _ _ _ _ _ _ _ _ (K .s5 .given .1) (H .flush-free .ensures .0) (H .flush-free .ensures .1 .0) (H .flush-free .ensures .1 .1)
+    (J .loop2 .inv .0) (X .loop2-test .left) (J .loop2 .inv .1) (P .put-answer9 .ensures)
+
+same-length : tie.Need-same-length Inv-loop2 μ-loop2 Inv-loop μ-loop
+same-length c =
+    let L = c .before in
+    let A = L .before .before .before .before .before .before .before .before .before .before .before .before in
+    words-long (L .loop .row) (A .args .row .now) (L .loop .inv .row)
+
+same-length-2 : tie.Need-same-length-2 Inv-loop2 μ-loop2 Inv-loop μ-loop
+same-length-2 c = c .before .loop .inv .kinds-long
+
+same-length-3 : tie.Need-same-length-3 Inv-loop2 μ-loop2 Inv-loop μ-loop
+same-length-3 c = c .before .loop .inv .numbers-long
+
+returns : tie.Need-returns Inv-loop2 μ-loop2 Inv-loop μ-loop
+returns c =
+    let L = c .before in
+    let Q = L .before in
+    let B = Q .before .before .before .before .before .before in
+    let A = B .before .before .before .before .before in
+    finished _ _ _ _ _ _ _ _ (L .loop .inv) (c .loop-test .left)
+    (ready-is _ (A .args .row .now) _ _ _ _ _ _ _ (B .all-linked .ensures) (Q .ready .ensures))
+
+pub run-spec : {M : Type 1} → statement M
+run-spec =
+    tie.close
+    (tie.spec
+    Inv-loop2
+    μ-loop2
+    Inv-loop
+    μ-loop
+    all-linked-requires
+    ready-requires
+    loop-holds
+    record-at-requires
+    decode-requires
+    who-requires
+    mul-x
+    element-copy-out-x
+    gate-for-requires
+    enum-known-g
+    put-answer-requires
+    add-k
+    loop-less
+    loop-again
+    enum-known-g-2
+    cast-fresh
+    cast-fresh-2
+    cast-fresh-3
+    fresh-requires
+    cast-fill-newest
+    fill-newest-requires
+    cast-fill-free
+    fill-free-requires
+    cast-set-up
+    cast-set-up-2
+    set-up-requires
+    put-answer-requires-2
+    add-k-2
+    loop-less-2
+    loop-again-2
+    enum-known-g-3
+    mul-t104
+    element-set-from-hub
+    put-answer-requires-3
+    add-k-3
+    loop-less-3
+    loop-again-3
+    enum-told
+    step-requires
+    enum-known-s
+    mul-t122
+    element-set-from-hub-2
+    put-answer-requires-4
+    add-k-4
+    loop-less-4
+    loop-again-4
+    enum-known-s-2
+    put-hand-in-requires
+    mul-t131
+    element-set-from-hub-3
+    put-answer-requires-5
+    add-k-5
+    loop-less-5
+    loop-again-5
+    enum-told-2
+    flush-take-requires
+    cast-t146
+    mul-t142
+    element-set-from-hub-4
+    put-answer-requires-6
+    add-k-6
+    loop-less-6
+    loop-again-6
+    enum-known-s-3
+    cast-j
+    mul-z
+    element-copy-out-z
+    flush-read-requires
+    add-t159
+    mul-t160
+    element-set-from-hub-5
+    put-answer-requires-7
+    add-k-7
+    loop-less-7
+    loop-again-7
+    enum-known-s-4
+    flush-split-requires
+    mul-t175
+    element-set-from-hub-6
+    put-answer-requires-8
+    add-k-8
+    loop-less-8
+    loop-again-8
+    enum-known-s-5
+    flush-free-requires
+    sub-t203
+    mul-t202
+    element-set-from-hub-7
+    loop2-holds
+    mul-z-2
+    element-copy-out-z-2
+    stands-on-requires
+    off-requires
+    mul-t221
+    element-set-from-hub-8
+    add-j
+    loop2-less
+    loop2-again
+    add-j-2
+    loop2-less-2
+    loop2-again-2
+    put-answer-requires-9
+    add-k-9
+    loop-less-9
+    loop-again-9
+    same-length
+    same-length-2
+    same-length-3
+    returns)

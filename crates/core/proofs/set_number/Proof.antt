@@ -1,0 +1,27 @@
+use mathlib.Core.Path.{sym}
+use native.Mathlib.Omega.{arith}
+use lib.Seq.{set-out}
+use borrow.Author.Needs.{needs}
+use Rattle.core.proofs.set_number.Statement.{statement}
+use Rattle.core.proofs.set_number.Tie as tie
+use Rattle.core.proofs.set_number.Reads as reads
+use Rattle.core.proofs.set_number.Lts as lts
+
+mul-numbers : tie.Need-mul-numbers
+mul-numbers c = search needs
+
+slice-write-numbers : tie.Need-slice-write-numbers
+slice-write-numbers c = search needs
+
+same-length : tie.Need-same-length
+same-length c = search needs
+
+returns : tie.Need-returns
+returns c = search needs
+
+returns-2 : tie.Need-returns-2
+returns-2 c = sym (set-out _ _ _ (omega arith))
+
+pub set-number-spec : {M : Type 1} → statement M
+set-number-spec =
+    tie.close (tie.spec mul-numbers slice-write-numbers same-length returns returns-2)

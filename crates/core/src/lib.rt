@@ -1,0 +1,255 @@
+// The loop over the records. It owns the hub while it runs, so that a record moves only what its step names; everything else is lent. The
+// slots are a lent row of words. Every public call goes through it.
+ghost use mathlib.Core.Path.{_≡_};
+ghost use lib.ListN.{set};
+ghost use Rattle.answers.specs.Numbers.{kindOf, numberOf};
+ghost use Rattle.versions.specs.Versions.{rowOf};
+ghost use Rattle.simulation.specs.Memory.{memory};
+ghost use Rattle.simulation.specs.Buffer.{recordAt, Ran};
+use gate::Gate;
+use queue::Counts;
+use state::Hub;
+use step::Next;
+use values::Answer;
+use worker::Doing;
+use worker::Worker;
+
+// Record k of the bytes: sixteen from byte 16 k on, or as many as are left there.
+fn record_at(bytes: &[u8], k: usize) -> &[u8]
+    ensures { λ r. ⌜ now r ≡ recordAt (now (bytes .entry)) k ⌝ }
+{
+    let most = bytes.len();
+    if most / 16 < k {
+        return &bytes[most..most];
+    }
+    let from = 16 * k;
+    if most - from < 16 {
+        return &bytes[from..most];
+    }
+    let end = from + 16;
+    &bytes[from..end]
+}
+
+// The answer to record k: its kind and its number at k. Past the end of a row nothing is written.
+fn set_kind(kinds: &mut [u8], k: usize, x: u8)
+    ensures { λ _. ⌜ now (kinds .exit) ≡ set (now (kinds .entry)) k x ⌝ }
+{
+    if k < kinds.len() {
+        kinds[k] = x;
+    }
+}
+
+fn set_number(numbers: &mut [u64], k: usize, x: u64)
+    ensures { λ _. ⌜ now (numbers .exit) ≡ set (now (numbers .entry)) k x ⌝ }
+{
+    if k < numbers.len() {
+        numbers[k] = x;
+    }
+}
+
+fn put_answer(kinds: &mut [u8], numbers: &mut [u64], k: usize, y: Answer) -> Answer
+    ensures { λ r. ⌜ r ≡ y ⌝ }
+    ensures { λ _. ⌜ now (kinds .exit) ≡ set (now (kinds .entry)) k (kindOf y) ⌝ }
+    ensures { λ _. ⌜ now (numbers .exit) ≡ set (now (numbers .entry)) k (numberOf y) ⌝ }
+{
+    set_kind(kinds, k, answers::kind(y));
+    set_number(numbers, k, answers::number(y));
+    y
+}
+
+// What is left of the hub by value, and the answer to the last record; `Ok` where there was none.
+pub struct Ended {
+    pub hub: Hub,
+    pub last: Answer,
+}
+
+// Applies the first `count` records of the bytes: the kind and the number of answer k stand at k.
+pub fn run(
+    row: &mut [[u64; 5]],
+    start: Hub,
+    bytes: &[u8],
+    count: usize,
+    kinds: &mut [u8],
+    numbers: &mut [u64],
+    newest: &mut [u16; 256],
+    free: &mut [u16; 2048],
+    queue: &mut [u32; 6144],
+    lens: &mut [u32; 2048],
+    merged: &mut [u32; 12288],
+) -> Ended
+    ensures { λ r. ⌜
+        Ran
+        (memory start (rowOf (now (row .entry))) (now (newest .entry)) (now (free .entry)) (now (queue .entry)) (now (lens .entry)) (now (merged .entry)))
+        (now (bytes .entry)) (now (kinds .entry)) (now (numbers .entry)) count
+        (memory (r .hub) (rowOf (now (row .exit))) (now (newest .exit)) (now (free .exit)) (now (queue .exit)) (now (lens .exit)) (now (merged .exit)))
+        (now (kinds .exit)) (now (numbers .exit)) (r .last)
+        ⌝ }
+{
+    let linked = versions::all_linked(row, start.n);
+    let mut up = ready::ready(start, newest, free, queue, lens, merged, linked, row.len());
+    let mut hub = start;
+    let mut last = Answer::Ok;
+    // Space that a flush's split works in, cleared once.
+    let mut needed = [0u32; 768];
+    let mut local = [0u32; 192];
+    let mut joined = [0u32; 960];
+    let mut k: usize = 0;
+    while k < count {
+        let rec = record_at(bytes, k);
+        let r = record::decode(rec);
+        // The record that is looked at is the worker's own where there are more than w workers; elsewhere it does not matter.
+        let w = gate::who(r) % 16;
+        let x = hub.workers[w];
+        let d = x.doing;
+        let t = x.announced;
+        let g = gate::gate_for(r, up, hub.p, hub.v, row.len(), d, t);
+        match g {
+            Gate::Refuse(refusal) => {
+                last = put_answer(kinds, numbers, k, Answer::No(refusal));
+                k += 1;
+            }
+            Gate::Make { p, v, n, clock } => {
+                hub = Hub::fresh(p as usize, v as usize, n as usize, clock);
+                arrays::fill_newest(newest, v as usize);
+                arrays::fill_free(free, n as usize, hub.free);
+                versions::set_up(row, v as usize, n as usize);
+                up = true;
+                last = put_answer(kinds, numbers, k, Answer::Ok);
+                k += 1;
+            }
+            Gate::Start { worker: _, doing } => {
+                hub.workers[w] = Worker { doing, ..x };
+                last = put_answer(kinds, numbers, k, Answer::Ok);
+                k += 1;
+            }
+            // A step of worker w.
+            Gate::Go { worker: _ } => {
+                let s = step::step(row, newest, free, d, t, hub.clock, hub.free, hub.p);
+                match s {
+                    Next::Taken(o) => {
+                        let doing = o.doing;
+                        let announced = o.announced;
+                        hub.workers[w] = Worker {
+                            doing,
+                            announced,
+                            ..x
+                        };
+                        hub.clock = o.clock;
+                        hub.free = o.free;
+                        let answer = o.answer;
+                        last = put_answer(kinds, numbers, k, answer);
+                        k += 1;
+                    }
+                    // Put (3).
+                    Next::HandIn { covered } => {
+                        let q = x.pool;
+                        let h = flush::put_hand_in(row, q, covered, hub.p);
+                        let doing = h.doing;
+                        let pool = h.pool;
+                        hub.workers[w] = Worker { doing, pool, ..x };
+                        let answer = h.answer;
+                        last = put_answer(kinds, numbers, k, answer);
+                        k += 1;
+                    }
+                    // Flush (1).
+                    Next::Take => {
+                        let counts = Counts {
+                            pools: hub.pools,
+                            queued: hub.queued,
+                        };
+                        let f = flush::flush_take(queue, lens, counts, merged, w);
+                        let n = f.counts;
+                        hub.workers[w] = Worker {
+                            doing: Doing::FlushRead {
+                                merged: (f.count % 65536) as u16,
+                                read: 0,
+                            },
+                            times: [0u64; 16],
+                            ..x
+                        };
+                        hub.pools = n.pools;
+                        hub.queued = n.queued;
+                        last = put_answer(kinds, numbers, k, Answer::Going);
+                        k += 1;
+                    }
+                    // Flush (2).
+                    Next::Read { merged: m, read } => {
+                        let j = (read % 16) as usize;
+                        let z = hub.workers[j];
+                        let a = z.announced;
+                        let before = x.times;
+                        let times = flush::flush_read(before, read, a);
+                        hub.workers[w] = Worker {
+                            doing: Doing::FlushRead {
+                                merged: m,
+                                read: read + 1,
+                            },
+                            times,
+                            ..x
+                        };
+                        last = put_answer(kinds, numbers, k, Answer::Going);
+                        k += 1;
+                    }
+                    // Flush (3).
+                    Next::Split { merged: m } => {
+                        let q = x.pool;
+                        let times = x.times;
+                        let counts = Counts {
+                            pools: hub.pools,
+                            queued: hub.queued,
+                        };
+                        let f = flush::flush_split(
+                            queue,
+                            lens,
+                            counts,
+                            merged,
+                            w,
+                            m,
+                            &times,
+                            hub.p,
+                            q,
+                            &mut needed,
+                            &mut local,
+                            &mut joined,
+                        );
+                        let n = f.counts;
+                        hub.workers[w] = Worker {
+                            doing: Doing::FlushFree { left: f.left },
+                            pool: worker::EMPTY,
+                            times: [0u64; 16],
+                            ..x
+                        };
+                        hub.pools = n.pools;
+                        hub.queued = n.queued;
+                        last = put_answer(kinds, numbers, k, Answer::Going);
+                        k += 1;
+                    }
+                    // Flush (4). "A read standing on it moves to its older neighbour."
+                    Next::Free { left } => {
+                        let f = flush::flush_free(row, free, merged, w, left, hub.free);
+                        hub.workers[w] = Worker {
+                            doing: Doing::FlushFree { left: left - 1 },
+                            ..x
+                        };
+                        hub.free = f.free;
+                        let mut j: usize = 0;
+                        while j < 16 {
+                            let z = hub.workers[j];
+                            let e = z.doing;
+                            if flush::stands_on(e, f.slot) {
+                                let doing = flush::off(e, f.slot, f.older);
+                                hub.workers[j] = Worker { doing, ..z };
+                                j += 1;
+                            } else {
+                                j += 1;
+                            }
+                        }
+                        last = put_answer(kinds, numbers, k, Answer::Freed(f.slot));
+                        k += 1;
+                    }
+                }
+            }
+        }
+    }
+    Ended { hub, last }
+}

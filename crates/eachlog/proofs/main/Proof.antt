@@ -1,0 +1,115 @@
+-- `main` is safe and ends: what is read fits its buffer, and the turns that are left fall.
+use native.Mathlib.Omega.{arith}
+use borrow.Author.Needs.{needs}
+use Rattle.eachlog.proofs.main.Statement.{statement}
+use Rattle.eachlog.proofs.main.Tie as tie
+
+abbrev Inv-loop : tie.InvT-loop
+Inv-loop long at later rec₀ newest₀ free₀ queue₀ lens₀ merged₀ slots₀ hub₀ k₀ lent₀ turns₀ t23 rec newest free queue lens merged slots hub k lent turns =
+    Unit {0}
+
+abbrev μ-loop : tie.MeasureT-loop
+μ-loop long at later rec₀ newest₀ free₀ queue₀ lens₀ merged₀ slots₀ hub₀ k₀ lent₀ turns₀ t23 rec newest free queue lens merged slots hub k lent turns =
+    turns
+
+argument-requires : tie.Need-argument-requires Inv-loop μ-loop
+argument-requires c κs = search needs
+
+argument-requires-2 : tie.Need-argument-requires-2 Inv-loop μ-loop
+argument-requires-2 c κs = search needs
+
+argument-requires-3 : tie.Need-argument-requires-3 Inv-loop μ-loop
+argument-requires-3 c κs = search needs
+
+slice-aggregate-rec : tie.Need-slice-aggregate-rec Inv-loop μ-loop
+slice-aggregate-rec c = search needs
+
+vacant-requires : tie.Need-vacant-requires Inv-loop μ-loop
+vacant-requires c κs = search needs
+
+fresh-requires : tie.Need-fresh-requires Inv-loop μ-loop
+fresh-requires c κs = search needs
+
+loop-holds : tie.Need-loop-holds Inv-loop μ-loop
+loop-holds c = search needs
+
+sub-turns : tie.Need-sub-turns Inv-loop μ-loop
+sub-turns c = search needs
+
+fill-requires : tie.Need-fill-requires Inv-loop μ-loop
+fill-requires c κs = search needs
+
+returns : tie.Need-returns Inv-loop μ-loop
+returns c = search needs
+
+sub-apply-row : tie.Need-sub-apply-row Inv-loop μ-loop
+sub-apply-row c = search needs
+
+part-apply-row-start : tie.Need-part-apply-row-start Inv-loop μ-loop
+part-apply-row-start c = search needs
+
+part-apply-row-end : tie.Need-part-apply-row-end Inv-loop μ-loop
+part-apply-row-end c = search needs
+
+apply-row-requires : tie.Need-apply-row-requires Inv-loop μ-loop
+apply-row-requires c κs = search needs
+
+write-answer-requires : tie.Need-write-answer-requires Inv-loop μ-loop
+write-answer-requires c κs = search needs
+
+slice-aggregate-say : tie.Need-slice-aggregate-say Inv-loop μ-loop
+slice-aggregate-say c = search needs
+
+say-requires : tie.Need-say-requires Inv-loop μ-loop
+say-requires c κs = search needs
+
+returns-2 : tie.Need-returns-2 Inv-loop μ-loop
+returns-2 c = search needs
+
+returns-3 : tie.Need-returns-3 Inv-loop μ-loop
+returns-3 c = search needs
+
+wrapping-add-u64-requires : tie.Need-wrapping-add-u64-requires Inv-loop μ-loop
+wrapping-add-u64-requires c κs = search needs
+
+loop-less : tie.Need-loop-less Inv-loop μ-loop
+loop-less c =
+    let t0 = c .before .before .before .before .before .before .before .before .before .before .before .before .before .before .before .before in
+    let t1 = t0 .before .before .before .before in
+    omega (arith, t1 .loop-test .taken)
+
+loop-again : tie.Need-loop-again Inv-loop μ-loop
+loop-again c = search needs
+
+returns-4 : tie.Need-returns-4 Inv-loop μ-loop
+returns-4 c = search needs
+
+pub main-spec : {M : Type 1} → statement M
+main-spec =
+    tie.close
+    (tie.spec
+    Inv-loop
+    μ-loop
+    argument-requires
+    argument-requires-2
+    argument-requires-3
+    slice-aggregate-rec
+    vacant-requires
+    fresh-requires
+    loop-holds
+    sub-turns
+    fill-requires
+    returns
+    sub-apply-row
+    part-apply-row-start
+    part-apply-row-end
+    apply-row-requires
+    write-answer-requires
+    slice-aggregate-say
+    say-requires
+    returns-2
+    returns-3
+    wrapping-add-u64-requires
+    loop-less
+    loop-again
+    returns-4)

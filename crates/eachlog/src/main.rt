@@ -1,0 +1,125 @@
+// The log of the records on standard input, as `hublog` writes it, with one call of `hub::apply` for each record. The arguments say how many
+// slots the lent row has (2048 without one), and from which record on it has another number of them: eachlog [SLOTS [RECORD SLOTS]].
+ghost use Prim.Native.Nat.{_≤_};
+ghost use lib.ListN.{length};
+use state::Hub;
+use values::Answer;
+
+// The number with one decimal digit more, at most 100000000; other bytes change nothing.
+fn with_digit(x: usize, b: u8) -> usize
+    ensures { λ r. ⌜ r ≤ 100000000 ⌝ }
+{
+    if 10000000 <= x {
+        return 100000000;
+    }
+    if b < 48 {
+        return x;
+    }
+    if 57 < b {
+        return x;
+    }
+    10 * x + ((b - 48) as usize)
+}
+
+// The number of the first n bytes.
+fn number(buf: &[u8], n: usize) -> usize
+    requires { ⌜ n ≤ length (now buf) ⌝ }
+{
+    let mut x: usize = 0;
+    for i in 0..n {
+        x = with_digit(x, buf[i]);
+    }
+    x
+}
+
+// Argument i as a number; `other` where there is none.
+fn argument(i: usize, other: usize) -> usize {
+    let mut space = [0u8; 20];
+    let buf: &mut [u8] = &mut space;
+    let n = os::arg(i, buf);
+    if n == 0 {
+        return other;
+    }
+    number(buf, n)
+}
+
+// Says on standard error what went wrong. Where that cannot be written either, nothing is left to do.
+fn say(text: &[u8]) {
+    if io::write_all(libc::STDERR_FILENO, text) {
+        return;
+    }
+}
+
+// Writes the line of record k with this answer to standard output; answers whether it was written.
+fn write_answer(k: u64, answer: Answer) -> bool {
+    let mut kind_space = [0u8; 1];
+    let kinds: &mut [u8] = &mut kind_space;
+    let mut number_space = [0u64; 1];
+    let numbers: &mut [u64] = &mut number_space;
+    kinds[0] = answers::kind(answer);
+    numbers[0] = answers::number(answer);
+    let mut text_space = [0u8; 48];
+    let text: &mut [u8] = &mut text_space;
+    let used = lines::write_lines(text, k, kinds, numbers, 1);
+    let line = &text[..];
+    if used <= line.len() {
+        return io::write_all(libc::STDOUT_FILENO, &line[0..used]);
+    }
+    false
+}
+
+fn main() {
+    let long = argument(1, 2048);
+    let at = argument(2, 100000000);
+    let later = argument(3, 2048);
+    let mut space = [0u8; 16];
+    let rec: &mut [u8] = &mut space;
+    let mut newest = [0u16; 256];
+    let mut free = [0u16; 2048];
+    let mut queue = [0u32; 6144];
+    let mut lens = [0u32; 2048];
+    let mut merged = [0u32; 12288];
+    let none = slots::vacant();
+    let mut slots = [none; 2048];
+    // No worker, no register, no slot: memory that counts as not set up.
+    let mut hub = Hub::fresh(0, 0, 0, 0);
+    let mut k: u64 = 0;
+    let mut lent = long;
+    // Nothing says that the input ends, so the turns are counted, from a number that no run uses up.
+    let mut turns = u64::MAX;
+    while turns > 0 {
+        turns -= 1;
+        let got = input::fill(rec);
+        let n = got.n;
+        if n == 0 {
+            return;
+        }
+        if k == at as u64 {
+            lent = later;
+        }
+        let done = hub::apply_row(
+            slots,
+            lent,
+            hub,
+            &rec[0..n],
+            &mut newest,
+            &mut free,
+            &mut queue,
+            &mut lens,
+            &mut merged,
+        );
+        let s = done.slots;
+        let h = done.hub;
+        slots = s;
+        hub = h;
+        let answer = done.answer;
+        if !write_answer(k, answer) {
+            say(b"eachlog: cannot write standard output\n");
+            return;
+        }
+        if n < 16 {
+            return;
+        }
+        k = std::num::wrapping_add_u64(k, 1);
+    }
+}

@@ -1,0 +1,5 @@
+pub mod PoolLaws
+pub mod PartLaws
+pub mod RequeueLaws
+pub mod SplitLaws
+pub mod Standing

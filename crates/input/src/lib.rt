@@ -1,0 +1,30 @@
+// Standard input, in parts that are full but for the last.
+ghost use Prim.Native.Nat.{_≤_};
+ghost use lib.ListN.{length};
+
+// What was read: how many bytes, and whether a read failed.
+pub struct Input {
+    pub n: usize,
+    pub failed: bool,
+}
+
+// Reads from standard input until buf is full, the input ends or a read fails. Pieces of any size are put together, so that records are
+// cut at the same places whatever the reads bring.
+pub fn fill(buf: &mut [u8]) -> Input
+    ensures { λ r. ⌜ r .n ≤ length (now (buf .exit)) ⌝ }
+{
+    let mut n: usize = 0;
+    while n < buf.len() {
+        let part = &mut buf[n..];
+        let got = libc::read(libc::STDIN_FILENO, part);
+        if got < 0 {
+            return Input { n, failed: true };
+        }
+        let more = io::count(got, part);
+        if more == 0 {
+            return Input { n, failed: false };
+        }
+        n += more;
+    }
+    Input { n, failed: false }
+}

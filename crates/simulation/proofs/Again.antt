@@ -1,0 +1,146 @@
+-- A store written over memory lies in it, and the memory's arrays keep their lengths: each of the store's lists fits its array. So memory over
+-- which the store after a setup or after one record more was written is memory that records left.
+use mathlib.Core.Path.{_≡_, refl, sym, ap, _∙_, subst}
+use mathlib.Core.List.{List, [], _∷_, _++_, map, reverse}
+use Prim.Native.Nat.{ℕ, suc, _*_, _≤_, _<_}
+use native.Mathlib.Omega.{arith}
+use lib.ListN.{length, getD, take, drop, replicate, length-append, length-drop, length-map, length-reverse, length-replicate}
+use lib.Seq.{length-take-le, take-at, drop-at}
+use Rattle.lists.specs.Over.{over}
+use Rattle.lists.proofs.Over.{length-over}
+use Rattle.model.specs.Store as Model
+use Rattle.model.specs.Store.{Store, blank, up, startWorker, workerAt}
+use Rattle.model.specs.Batch.{batchOf}
+use Rattle.model.specs.Rules.{document01}
+use Rattle.model.specs.Answer.{Ok}
+use Rattle.model.specs.Apply.{fresh, apply, hubAfter}
+use Rattle.model.specs.Demand.{All}
+use Rattle.model.proofs.Setup.{accepts}
+use Rattle.worker.specs.Rep.{workerRep}
+use Rattle.slots.specs.Slots.{slotRep}
+use Rattle.ranges.specs.Words.{flat}
+use Rattle.ranges.proofs.WordLaws.{length-flat}
+use Rattle.queue.specs.Rep.{joinedRanges}
+use Rattle.queue.proofs.MemoryLaws.{over-again}
+use Rattle.simulation.specs.Memory.{Memory, inHandWords, mergedOver, write, writeHub}
+use Rattle.simulation.specs.Left.{LeftByRecords, Left, Sized}
+use Rattle.simulation.proofs.Sound.{Sound, sound, left-next}
+use Rattle.simulation.proofs.Ready.{hand-short, length-joined}
+use Rattle.simulation.proofs.Laid.{memory-path}
+
+------------------------------------------------------------------------
+-- The lists in hand
+
+-- each list fits its worker's part
+abbrev HandsFit : List Model.Worker → Type 0
+HandsFit ws = All (λ x. length (inHandWords (x .doing)) ≤ 768) ws
+
+front-length : (p d : List ℕ) → length p ≤ 768 → 768 ≤ length d → length (over p (take 768 d)) ≡ 768
+front-length p d h k =
+    let e : length (take 768 d) ≡ 768 = length-take-le 768 d k in
+    length-over p (take 768 d) (omega arith) ∙ e
+
+merged-length : (ws : List Model.Worker) (d : List ℕ) → 768 * length ws ≤ length d → HandsFit ws → length (mergedOver ws d) ≡ length d
+unfolding mergedOver
+merged-length [] d h t = refl
+merged-length (x ∷ ws) d h t =
+    omega (
+      arith,
+      length-append (over (inHandWords (x .doing)) (take 768 d)) (mergedOver ws (drop 768 d)),
+      front-length (inHandWords (x .doing)) d (t .0) (omega arith),
+      merged-length ws (drop 768 d) (omega (arith, length-drop 768 d)) (t .1),
+      length-drop 768 d,
+    )
+
+merged-again : (ws : List Model.Worker) (d : List ℕ) → 768 * length ws ≤ length d → HandsFit ws → mergedOver ws d ≡ mergedOver ws (mergedOver ws d)
+unfolding mergedOver
+merged-again [] d h t = refl
+merged-again (x ∷ ws) d h t =
+    let p : List ℕ = inHandWords (x .doing) in
+    let a : List ℕ = over p (take 768 d) in
+    let b : List ℕ = mergedOver ws (drop 768 d) in
+    let n : length a ≡ 768 = front-length p d (t .0) (omega arith) in
+    ap (λ (l : List ℕ). l ++ b) (sym (over-again p (take 768 d)))
+    ∙ ap (λ (l : List ℕ). over p a ++ l) (merged-again ws (drop 768 d) (omega (arith, length-drop 768 d)) (t .1))
+    ∙ ap (λ (l : List ℕ). over p l ++ mergedOver ws b) (sym (take-at a b 768 n))
+    ∙ ap (λ (l : List ℕ). over p (take 768 (a ++ b)) ++ mergedOver ws l) (sym (drop-at a b 768 n))
+
+all-from : {A : Type 0} (Q : A → Type 0) (l : List A) (z : A) → ((i : ℕ) → i < length l → Q (getD l i z)) → All Q l
+all-from Q [] z f = tt
+all-from Q (x ∷ l) z f = (f 0 (omega arith), all-from Q l z (λ i h. f (suc i) (omega arith)))
+
+------------------------------------------------------------------------
+-- A sound store
+
+module _ (s : Store) (S : Sound s) (m : Memory) (Z : Sized m) where
+  hands : HandsFit (s .workers)
+  hands =
+      all-from (λ x. length (inHandWords (x .doing)) ≤ 768) (s .workers) startWorker
+      (λ w h. hand-short s (workerAt s w .announced) (workerAt s w .doing) (S .places w (omega (arith, h, S .bounds .workers .2))))
+
+  room : 768 * length (s .workers) ≤ length (m .merged)
+  room = omega (arith, Z .merged, S .bounds .workers .1, S .bounds .workers .2)
+
+  -- the store lies in the memory that it was written over
+  written-lies : write s m ≡ write s (write s m)
+  written-lies =
+      memory-path refl
+      (sym (over-again (map slotRep (s .slots)) (m .slots)))
+      (sym (over-again (s .newest) (m .newest)))
+      (sym (over-again (reverse (s .free)) (m .free)))
+      (sym (over-again (flat (joinedRanges (s .queue))) (m .queue)))
+      (sym (over-again (map length (s .queue)) (m .lens)))
+      (merged-again (s .workers) (m .merged) room hands)
+
+  -- and the arrays keep their lengths
+  written-sized : Sized (write s m)
+  written-sized =
+      record {
+        workers =
+            length-over (map workerRep (s .workers)) (replicate 16 (workerRep startWorker))
+            (omega (arith, length-map (s .workers) workerRep, length-replicate 16 (workerRep startWorker), S .bounds .workers .1, S .bounds .workers .2))
+            ∙ length-replicate 16 (workerRep startWorker);
+        newest = length-over (s .newest) (m .newest) (omega (arith, Z .newest, S .bounds .registers .1, S .bounds .registers .2)) ∙ Z .newest;
+        free =
+            length-over (reverse (s .free)) (m .free)
+            (omega (arith, Z .free, length-reverse (s .free), S .bounds .total, S .bounds .slots .1))
+            ∙ Z .free;
+        queue =
+            length-over (flat (joinedRanges (s .queue))) (m .queue)
+            (omega (arith, Z .queue, length-flat (joinedRanges (s .queue)), length-joined (s .queue), S .bounds .total, S .bounds .slots .1))
+            ∙ Z .queue;
+        lens =
+            length-over (map length (s .queue)) (m .lens)
+            (omega (arith, Z .lens, length-map (s .queue) length, S .bounds .pools, S .bounds .slots .1))
+            ∙ Z .lens;
+        merged = merged-length (s .workers) (m .merged) room hands ∙ Z .merged;
+      }
+
+------------------------------------------------------------------------
+-- Memory that records left
+
+-- the model's hub h is set up, and records left its store in the memory m
+abbrev pub LeftAs : Model.Hub → Memory → Type 0
+LeftAs h m = (t : Store) × (h ≡ up t) × Left t m × Sized m
+
+module _ (m m′ : Memory) (b : List ℕ) (Z : Sized m) where
+  -- over m the hub h with such a store was written
+  written : (h : Model.Hub) (t : Store) → h ≡ up t → LeftByRecords t → m′ ≡ writeHub h m → LeftAs h m′
+  written h t e L is =
+      subst (LeftAs h) (sym (is ∙ ap (λ (k : Model.Hub). writeHub k m) e))
+      (t, e, record { store = L; laid = written-lies t (sound L) m Z }, written-sized t (sound L) m Z)
+
+  -- an accepted setup
+  pub setup-written : (row : List Model.Slot) → apply document01 (blank row) b .answer ≡ Ok
+      → m′ ≡ writeHub (apply document01 (blank row) b .hub) m → LeftAs (apply document01 (blank row) b .hub) m′
+  unfolding hubAfter
+  setup-written row ok is =
+      let A = accepts document01 row b ok in
+      written (apply document01 (blank row) b .hub) (fresh (batchOf (A .sizes .P)) (A .sizes) (A .row)) (A .is)
+      (record { row = row; setup = b; accepted = ok; records = []; left = A .is }) is
+
+  -- one record more
+  pub record-written : (s : Store) → LeftByRecords s → m′ ≡ writeHub (apply document01 (up s) b .hub) m → LeftAs (apply document01 (up s) b .hub) m′
+  record-written s L is =
+      let N = left-next L b in
+      written (apply document01 (up s) b .hub) (N .0) (N .1) (N .2) is

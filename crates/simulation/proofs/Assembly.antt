@@ -1,0 +1,144 @@
+-- The code does with each record what the model does: the decision on a record is the model's, and so is what follows a refusal, a begin, a
+-- step or a setup. That a step is the model's is a parameter here, with what is known where a step is taken.
+use mathlib.Core.Path.{_≡_, refl, sym, ap, _∙_, subst}
+use mathlib.Core.Bool.{Bool, true, false}
+use mathlib.Core.List.{List, map}
+use Prim.Native.Nat.{ℕ, _<_}
+use lib.ListN.{length}
+use Rattle.model.specs.Store as Model
+use Rattle.model.specs.Store.{Store, blank, up, workerAt}
+use Rattle.model.specs.Rules.{document01}
+use Rattle.model.specs.Answer.{Ok, Applied}
+use Rattle.model.specs.Record.{decode}
+use Rattle.model.specs.Steps.{stepAt}
+use Rattle.model.specs.Apply.{apply}
+use Rattle.values.specs.Meaning.{answerOf}
+use Rattle.worker.specs.declared.Worker.{Worker}
+use Rattle.worker.specs.Rep.{doingRep}
+use Rattle.slots.specs.Slots.{slotOf}
+use Rattle.state.specs.declared.Hub.{Hub}
+use Rattle.state.specs.State.{workerIn}
+use Rattle.gate.specs.declared.Gate.{Gate}
+use Rattle.gate.specs.declared.Gate.the-variants.{Refuse, Make, Start, Go}
+use Rattle.gate.specs.Gate.{decodedIn}
+use Rattle.simulation.specs.Memory.{Memory, hubRep, write, writeHub}
+use Rattle.simulation.specs.Left.{LeftByRecords, Left, Sized, ready}
+use Rattle.simulation.specs.Shell.{Result, goIn, obeyIn, gateIn, doneAs, doneOf}
+use Rattle.simulation.specs.Public.{Does}
+use Rattle.simulation.specs.Demands.{Bytes}
+use Rattle.simulation.proofs.Sound.{Sound, sound, left-next}
+use Rattle.simulation.proofs.Ready.{ready-left}
+use Rattle.simulation.proofs.Simulates.{Simulates, stepIn}
+use Rattle.simulation.proofs.Laid.{hub-is, worker-at}
+use Rattle.simulation.proofs.Gates.{gateBy, Means, Stepping, gate-left}
+use Rattle.simulation.proofs.Refuse.{Follows, refused}
+use Rattle.simulation.proofs.Begin.{begun}
+use Rattle.simulation.proofs.Setup.{clock-fits, follows-blank}
+use Rattle.simulation.proofs.Ends.{setup-nine, ends-well}
+use Rattle.simulation.proofs.Again.{LeftAs, setup-written, record-written}
+
+-- each step of the code is the model's step, in a store that records left
+abbrev pub StepsSimulate : Type 0
+StepsSimulate =
+    (s : Store) (m : Memory) (w : ℕ) (d : Model.Doing) → LeftByRecords s → Sound s → Sized m → m ≡ write s m → w < s .site .P
+    → workerAt s w .doing ≡ d → Sound (stepAt s w d .store) → Simulates s m w d
+
+-- what the code leaves and answers on the bytes b is what the model makes of the record, a
+abbrev pub DoneAs : Memory → List ℕ → Applied → Type 0
+DoneAs m b a = (doneOf m b .memory ≡ writeHub (a .hub) m) × (answerOf (doneOf m b .answer) ≡ a .answer)
+
+-- enough: the decision, and that what follows it is the model's
+done-by : (m : Memory) (b : List ℕ) (a : Applied) (g : Gate) → gateIn (ready m) m b ≡ g → Follows m g a → DoneAs m b a
+unfolding doneOf doneAs
+done-by m b a g e F =
+    let does : obeyIn m (gateIn (ready m) m b) ≡ obeyIn m g = ap (obeyIn m) e in
+    (ap (λ (r : Result). r .memory) does ∙ F .memory, ap (λ (r : Result). answerOf (r .answer)) does ∙ F .answer)
+
+------------------------------------------------------------------------
+-- Memory that does not count as set up
+
+module _ (m : Memory) (b : List ℕ) (Z : Sized m) (bytes : Bytes b) (e : ready m ≡ false) where
+  -- the code does what the model's hub does that is not set up and whose row is lent
+  pub done-blank : DoneAs m b (apply document01 (blank (map slotOf (m .slots))) b)
+  unfolding apply
+  done-blank =
+      done-by m b (apply document01 (blank (map slotOf (m .slots))) b) _ (ap (λ (t : Bool). gateIn t m b) e)
+      (follows-blank m Z (decode b) (clock-fits b bytes))
+
+  -- an accepted setup leaves its store in the memory
+  pub setup-left : answerOf (doneOf m b .answer) ≡ Ok → LeftAs (apply document01 (blank (map slotOf (m .slots))) b .hub) (doneOf m b .memory)
+  setup-left ok = setup-written m (doneOf m b .memory) b Z (map slotOf (m .slots)) (sym (done-blank .1) ∙ ok) (done-blank .0)
+
+------------------------------------------------------------------------
+-- Memory that records left
+
+-- it counts as set up
+pub left-ready : {s : Store} (m : Memory) → Left s m → Sized m → ready m ≡ true
+left-ready m L Z = ready-left m (sound (L .store)) Z (L .laid)
+
+module _ (steps : StepsSimulate) where
+  module _ (s : Store) (m : Memory) (b : List ℕ) (L : Left s m) (Z : Sized m) where
+    abbrev laid : m ≡ write s m
+    laid = L .laid
+
+    S : Sound s
+    S = sound (L .store)
+
+    -- what the model makes of the record
+    abbrev a : Applied
+    a = apply document01 (up s) b
+
+    -- the record's decision, for the store and for the memory
+    gate-is : gateIn (ready m) m b ≡ gateBy (decodedIn b) true (length (m .slots)) (hubRep s)
+    gate-is = λ i. gateBy (decodedIn b) (left-ready m L Z i) (length (m .slots)) (hub-is s m laid i)
+
+    -- the next store is sound
+    next-sound : (t : Store) → a .hub ≡ up t → Sound t
+    next-sound t e =
+        let N = left-next (L .store) b in
+        let same : N .0 ≡ t = cc in
+        subst Sound same (sound (N .2))
+
+    -- a step
+    stepped : (w : ℕ) → Stepping s w a → Follows m (Go w) a
+    unfolding obeyIn
+    stepped w T =
+        let d : Model.Doing = workerAt s w .doing in
+        let at : workerIn (m .hub) w .doing ≡ doingRep d =
+        ap (λ (h : Hub). workerIn h w .doing) (hub-is s m laid) ∙ ap (λ (x : Worker). x .doing) (worker-at s S w (T .inside) d refl) in
+        let does : obeyIn m (Go w) ≡ stepIn m w d = ap (goIn m w (workerIn (m .hub) w)) at in
+        let M : Simulates s m w d =
+        steps s m w d (L .store) S Z laid (T .inside) refl (next-sound (stepAt s w d .store) (ap (λ (x : Applied). x .hub) (T .is))) in
+        record {
+          memory = ap (λ (r : Result). r .memory) does ∙ M .memory ∙ ap (λ (x : Applied). writeHub (x .hub) m) (sym (T .is));
+          answer = ap (λ (r : Result). answerOf (r .answer)) does ∙ M .answer ∙ ap (λ (x : Applied). x .answer) (sym (T .is));
+        }
+
+    -- by the decision
+    by-gate : (g : Gate) → Means s g a → Follows m g a
+    by-gate (Refuse k) t = subst (Follows m (Refuse k)) (sym t) (refused (up s) m k laid)
+    by-gate (Make p v n k) t = absurd t
+    by-gate (Start w d) t =
+        let B = t .2 in
+        subst (Follows m (Start w d)) (sym (B .is))
+        (rw (t .1) (begun s m S Z laid w (B .inside) (B .idle) (t .0)))
+    by-gate (Go w) t = stepped w t
+
+    -- on memory that records left the code does what the model does
+    pub done-left : DoneAs m b (apply document01 (up s) b)
+    unfolding apply
+    done-left = done-by m b a _ gate-is (by-gate _ (gate-left s S (decode b) (length (m .slots))))
+
+    -- and the memory that it leaves is left by records again
+    pub left-again : LeftAs (apply document01 (up s) b .hub) (doneOf m b .memory)
+    left-again = record-written m (doneOf m b .memory) b Z s (L .store) (done-left .0)
+
+  -- the public function's contract
+  pub does : (m : Memory) (b : List ℕ) → Sized m → Bytes b → Does m b (doneOf m b .answer) (doneOf m b .memory)
+  does m b Z bytes =
+      record {
+        left = λ s L. done-left s m b L Z;
+        blank = λ e. done-blank m b Z bytes e;
+        nine = λ e z d. setup-nine m b e z d;
+        ends = ends-well m b;
+      }

@@ -1,0 +1,229 @@
+-- A row of slots of any length may be lent, and only its first 2048 matter: a hub has no more. What a record does to memory with that part
+-- of the row alone it does to the memory, the rest of the row as it was.
+use mathlib.Core.Path.{_≡_, refl, sym, ap, _∙_, subst}
+use mathlib.Core.Bool.{Bool, true, false, cond, _&&_, and-false}
+use mathlib.Core.Logic.{⊎-elim}
+use mathlib.Core.List.{List, map}
+use Prim.Native.Nat.{ℕ, zero, suc, _≤_, _<_}
+use native.Mathlib.Omega.{arith}
+use lib.Dec.{leb}
+use lib.ListN.{length, take, drop, length-take, length-map}
+use lib.Seq.{getD-take, take-take}
+use borrow.Author.Tests.{le-leb, lt-leb}
+use Rattle.model.specs.Store as Model
+use Rattle.model.specs.Store.{Store, blank, up}
+use Rattle.model.specs.Rules.{document01}
+use Rattle.model.specs.Answer.{Applied}
+use Rattle.model.specs.Record.{Sizes, SetUp, Begin, Step, Decoded, Asks, Refuses, decode}
+use Rattle.model.specs.Apply.{refuse, inRanges, fresh, setUp, obey, applyDecoded, apply}
+use Rattle.model.proofs.Basic.{le-cases, and-both}
+use Rattle.model.proofs.Setup.{in-ranges}
+use Rattle.values.specs.declared.Answer.{Answer}
+use Rattle.values.specs.declared.Answer.the-variants.{Ok, Going, Freed, At, Value, Done, No}
+use Rattle.slots.specs.declared.Slot.{Slot}
+use Rattle.slots.specs.Slots.{slotRep, slotOf, vacantSlot, linkedAnd, linkedTo}
+use Rattle.state.specs.declared.Hub.{Hub}
+use Rattle.ready.specs.Ready.{sizesFit, readyOf}
+use Rattle.simulation.specs.Memory.{Memory, cut, write, writeHub}
+use Rattle.simulation.specs.Left.{LeftByRecords, Left, Sized, ready}
+use Rattle.simulation.specs.Shell.{doneOf}
+use Rattle.simulation.specs.Public.{takesStepIn, idledIn, EndsWell, Does}
+use Rattle.simulation.specs.Demands.{Bytes}
+use Rattle.simulation.proofs.Laws.{over-take, over-drop, both-parts, map-take}
+use Rattle.simulation.proofs.Sound.{sound, left-next}
+use Rattle.simulation.proofs.Laid.{memory-path}
+use Rattle.simulation.proofs.Gates.{both}
+use Rattle.simulation.proofs.Fresh.{first-length}
+use Rattle.simulation.proofs.Main.{does}
+
+------------------------------------------------------------------------
+-- Tests of the row's length
+
+and-same : (t u v : Bool) → (t ≡ true → u ≡ v) → t && u ≡ t && v
+and-same true u v f = f refl
+and-same false u v f = refl
+
+-- a row is long enough for n slots, 2048 at the most, if its first 2048 slots are
+long-cut : {A : Type 0} (n : ℕ) (l : List A) → n ≤ 2048 → leb n (length (take 2048 l)) ≡ leb n (length l)
+long-cut n l h =
+    ⊎-elim
+    (λ u. le-leb n (length (take 2048 l)) (omega (arith, h, u .0, length-take 2048 l)) ∙ sym (u .1))
+    (λ u. lt-leb n (length (take 2048 l)) (omega (arith, u .0, length-take 2048 l)) ∙ sym (u .1))
+    (le-cases n (length l))
+
+------------------------------------------------------------------------
+-- Memory counts as set up if it does with the first 2048 slots
+
+linked-cut : (l : List Slot) (n k : ℕ) → k ≤ 2048 → linkedTo (take 2048 l) n k ≡ linkedTo l n k
+unfolding linkedTo
+linked-cut l n zero h = refl
+linked-cut l n (suc k) h =
+    λ i. linkedAnd (linked-cut l n k (omega arith) i) (getD-take 2048 l k vacantSlot (omega arith) i) n
+
+-- a hub by value with more slots does not fit
+too-many : (h : Hub) (long : ℕ) → 2048 < h .n → sizesFit h long ≡ false
+unfolding sizesFit
+too-many h long u = simp (lt-leb (h .n) 2048 u, and-false)
+
+ready-cut : (m : Memory) → ready (cut m) ≡ ready m
+unfolding ready readyOf sizesFit
+ready-cut m =
+    ⊎-elim
+    (λ u. rw (long-cut (m .hub .n) (m .slots) (u .0), linked-cut (m .slots) (m .hub .n) (m .hub .n) (u .0)))
+    (λ u. rw (too-many (m .hub) (length (take 2048 (m .slots))) (u .0), too-many (m .hub) (length (m .slots)) (u .0)))
+    (le-cases (m .hub .n) 2048)
+
+------------------------------------------------------------------------
+-- A store of at most 2048 slots in memory
+
+abbrev Few : Store → Type 0
+Few s = length (s .slots) ≤ 2048
+
+-- a hub that is not set up has no store
+abbrev FewIn : Model.Hub → Type 0
+FewIn (blank row) = Unit {0}
+FewIn (up s) = Few s
+
+module _ (s : Store) (few : Few s) (m : Memory) where
+  few-in : length (map slotRep (s .slots)) ≤ 2048
+  few-in = rw (length-map (s .slots) slotRep) few
+
+  write-cut : cut (write s m) ≡ write s (cut m)
+  write-cut = memory-path refl (over-take 2048 (map slotRep (s .slots)) (m .slots) few-in) refl refl refl refl refl
+
+  write-rest : drop 2048 (write s m .slots) ≡ drop 2048 (m .slots)
+  write-rest = over-drop 2048 (map slotRep (s .slots)) (m .slots) few-in
+
+-- a store that records left has few
+left-few : {s : Store} → LeftByRecords s → Few s
+left-few L =
+    let B = sound L .bounds .slots in
+    omega (arith, B .1, B .2)
+
+left-cut : {s : Store} (m : Memory) → Left s m → Left s (cut m)
+left-cut {s} m L = record { store = L .store; laid = ap cut (L .laid) ∙ write-cut s (left-few (L .store)) m }
+
+------------------------------------------------------------------------
+-- A hub that is not set up, whose row is lent
+
+-- what the model makes of a record in two ways: the same is written over memory m and answered, and the slots are few
+record Alike (m : Memory) (a a′ : Applied) : Type 0 where
+  memory : writeHub (a .hub) m ≡ writeHub (a′ .hub) m
+  answer : a .answer ≡ a′ .answer
+  few : FewIn (a′ .hub)
+
+module _ (m : Memory) (l : List Slot) where
+  abbrev row : List Model.Slot
+  row = map slotOf l
+
+  abbrev row′ : List Model.Slot
+  row′ = map slotOf (take 2048 l)
+
+  refused-cut : (k : ℕ) → Alike m (refuse (blank row′) k) (refuse (blank row) k)
+  refused-cut k = record { memory = refl; answer = refl; few = tt }
+
+  -- the slots that a setup takes
+  made-cut : (z : Sizes) → z .N ≤ 2048 → take (z .N) row′ ≡ take (z .N) row
+  made-cut z h = ap (take (z .N)) (map-take slotOf 2048 l) ∙ take-take (z .N) 2048 row h
+
+  set-up-cut : (z : Sizes) → Alike m (setUp document01 (blank row′) z) (setUp document01 (blank row) z)
+  unfolding setUp fresh
+  set-up-cut z =
+      both (Alike m) (inRanges z && leb (z .N) (length row′)) (inRanges z && leb (z .N) (length row)) _ _ _ _
+      (and-same (inRanges z) _ _ (λ e. rw (map-take slotOf 2048 l) (long-cut (z .N) row (in-ranges z e .N≤2048))))
+      (λ e. let h : z .N ≤ 2048 = in-ranges z (and-both (inRanges z) (leb (z .N) (length row)) e .0) .N≤2048 in
+      record {
+        memory = rw (made-cut z h);
+        answer = refl;
+        few = omega (arith, first-length (z .V') (take (z .N) row), length-take (z .N) row);
+      })
+      (λ e. refused-cut 5)
+
+  decoded-cut : (r : Decoded) → Alike m (applyDecoded document01 (blank row′) r) (applyDecoded document01 (blank row) r)
+  unfolding applyDecoded obey
+  decoded-cut (Asks (SetUp z)) = set-up-cut z
+  decoded-cut (Asks (Begin w o)) = refused-cut 8
+  decoded-cut (Asks (Step w)) = refused-cut 8
+  decoded-cut (Refuses k) = refused-cut k
+
+  apply-cut : (b : List ℕ) → Alike m (apply document01 (blank row′) b) (apply document01 (blank row) b)
+  unfolding apply
+  apply-cut b = decoded-cut (decode b)
+
+------------------------------------------------------------------------
+-- The contract
+
+-- the rest of the row is as it was
+module _ (m m′ : Memory) (rest : drop 2048 (m′ .slots) ≡ drop 2048 (m .slots)) where
+  -- the memory that is left is x
+  whole : (x : Memory) → drop 2048 (x .slots) ≡ drop 2048 (m .slots) → cut m′ ≡ cut x → m′ ≡ x
+  whole x r e =
+      memory-path (ap (λ (z : Memory). z .hub) e) (both-parts 2048 (m′ .slots) (x .slots) (ap (λ (z : Memory). z .slots) e) (rest ∙ sym r))
+      (ap (λ (z : Memory). z .newest) e) (ap (λ (z : Memory). z .free) e) (ap (λ (z : Memory). z .queue) e) (ap (λ (z : Memory). z .lens) e)
+      (ap (λ (z : Memory). z .merged) e)
+
+  written : (h : Model.Hub) → FewIn h → cut m′ ≡ writeHub h (cut m) → m′ ≡ writeHub h m
+  written (blank row) f e = whole m refl e
+  written (up s) f e = whole (write s m) (write-rest s f m) (e ∙ sym (write-cut s f m))
+
+  takes-cut : (d : Decoded) → takesStepIn (cut m) d ≡ takesStepIn m d
+  unfolding takesStepIn
+  takes-cut (Asks (SetUp z)) = refl
+  takes-cut (Asks (Begin w o)) = refl
+  takes-cut (Asks (Step w)) = rw (ready-cut m)
+  takes-cut (Refuses k) = refl
+
+  idled-cut : (d : Decoded) → idledIn (cut m) d ≡ cut (idledIn m d)
+  unfolding idledIn
+  idled-cut (Asks (SetUp z)) = refl
+  idled-cut (Asks (Begin w o)) = refl
+  idled-cut (Asks (Step w)) = refl
+  idled-cut (Refuses k) = refl
+
+  idled-rest : (d : Decoded) → drop 2048 (idledIn m d .slots) ≡ drop 2048 (m .slots)
+  unfolding idledIn
+  idled-rest (Asks (SetUp z)) = refl
+  idled-rest (Asks (Begin w o)) = refl
+  idled-rest (Asks (Step w)) = refl
+  idled-rest (Refuses k) = refl
+
+  ends-cut : (d : Decoded) (y : Answer) → EndsWell (cut m) d y (cut m′) → EndsWell m d y m′
+  ends-cut d Ok t = tt
+  ends-cut d Going t = tt
+  ends-cut d (Freed c) t = tt
+  ends-cut d (At c) t = tt
+  ends-cut d (Value x) t = tt
+  ends-cut d Done t = tt
+  ends-cut d (No k) t =
+      let same = takes-cut d in
+      record { number = rw (← same) (t .number); leaves = by (takesStepIn m d) (t .leaves ∙ rw same) }
+    where
+      by : (b : Bool) → cut m′ ≡ cond b (idledIn (cut m) d) (cut m) → m′ ≡ cond b (idledIn m d) m
+      by true e = whole (idledIn m d) (idled-rest d) (e ∙ idled-cut d)
+      by false e = whole m refl e
+
+-- the contract with the first 2048 slots is the contract with the whole row, where the rest of the row is as it was
+pub does-cut : (m m′ : Memory) (b : List ℕ) (y : Answer) → Does (cut m) b y (cut m′) → drop 2048 (m′ .slots) ≡ drop 2048 (m .slots) → Does m b y m′
+does-cut m m′ b y D rest =
+    record {
+      left = λ s L.
+          let d = D .left s (left-cut m L) in
+          let N = left-next (L .store) b in
+          let f : FewIn (apply document01 (up s) b .hub) = subst FewIn (sym (N .1)) (left-few (N .2)) in
+          (written m m′ rest (apply document01 (up s) b .hub) f (d .0), d .1);
+      blank = λ e.
+          let d = D .blank (ready-cut m ∙ e) in
+          let A = apply-cut (cut m) (m .slots) b in
+          (written m m′ rest (apply document01 (blank (map slotOf (m .slots))) b .hub) (A .few) (d .0 ∙ A .memory), d .1 ∙ A .answer);
+      nine = λ e. D .nine (ready-cut m ∙ e);
+      ends = ends-cut m m′ rest (decode b) y (D .ends);
+    }
+
+sized-cut : (m : Memory) → Sized m → Sized (cut m)
+sized-cut m Z = record { workers = Z .workers; newest = Z .newest; free = Z .free; queue = Z .queue; lens = Z .lens; merged = Z .merged }
+
+-- so what the code answers and leaves with the first 2048 slots is right for the whole row
+pub does-whole : (m m′ : Memory) (b : List ℕ) (y : Answer) → Sized m → Bytes b
+    → y ≡ doneOf (cut m) b .answer → cut m′ ≡ doneOf (cut m) b .memory → drop 2048 (m′ .slots) ≡ drop 2048 (m .slots) → Does m b y m′
+does-whole m m′ b y Z bytes a l rest =
+    does-cut m m′ b y (rw (a, l) (does (cut m) b (sized-cut m Z) bytes)) rest

@@ -1,0 +1,236 @@
+-- What holds on any memory: a setup on memory that counts as set up gets 9, and a refusal changes nothing or, met at a step, sets one worker
+-- idle. By cases on the decision and on the worker's place.
+use mathlib.Core.Path.{_≡_, refl, sym, ap, _∙_}
+use mathlib.Core.Bool.{Bool, true, false, not, _&&_}
+use mathlib.Core.List.{List}
+use Prim.Native.Nat.{ℕ, _%_, _<_}
+use native.Mathlib.Omega.{arith}
+use lib.Dec.{ltb, leb, eqb}
+use lib.ListN.{length, getD, set}
+use lib.Seq.{set-getD}
+use Rattle.model.specs.Store.{lastClock}
+use Rattle.model.specs.Batch.{batchOf}
+use Rattle.model.specs.Record as Record
+use Rattle.model.specs.Record.{Sizes, SetUp, Asks, commandOf, unusedZero, decode}
+use Rattle.model.specs.Demand.{occurrences}
+use Rattle.model.specs.Refusals.{onReading, atStep}
+use Rattle.model.specs.Answer as Model·Answer
+use Rattle.model.proofs.Basic.{cond-both}
+use Rattle.values.specs.Meaning.{answerOf}
+use Rattle.values.specs.declared.Answer.{Answer}
+use Rattle.values.specs.declared.Answer.the-variants.{Going, Done, No}
+use Rattle.versions.specs.Versions.{slotAtIn}
+use Rattle.worker.specs.Rep.{timeOf}
+use Rattle.worker.specs.declared.Announced.{Announced}
+use Rattle.worker.specs.declared.Announced.the-variants.{Nothing, At}
+use Rattle.worker.specs.declared.Doing.{Doing}
+use Rattle.worker.specs.declared.Doing.the-variants.{Idle, PutPublish, PutStamp, PutHandIn, FlushTake, FlushRead, FlushFree}
+use Rattle.worker.specs.declared.Doing.the-variants.{OpenAnnounce, OpenPass, ReadEnter, ReadStand, CloseWithdraw, GetShow}
+use Rattle.worker.specs.declared.Pool.{Pool}
+use Rattle.worker.specs.declared.Worker.{Worker}
+use Rattle.state.specs.State.{nobody, workerIn, withWorkersIn, atPlace}
+use Rattle.gate.specs.declared.Gate.{Gate}
+use Rattle.gate.specs.declared.Gate.the-variants.{Refuse, Make, Start, Go}
+use Rattle.gate.specs.Gate.{operationRep, decodedRep, decodedIn, idleOf, registerOk, openOk, timeOk, beginGate, sizesOk, gateOf, whoOf}
+use Rattle.step.specs.declared.Outcome.{Outcome}
+use Rattle.step.specs.declared.Next.{Next}
+use Rattle.step.specs.declared.Next.the-variants.{Taken}
+use Rattle.step.specs.Step.{Stepped, outcomeOf, readOrSplit, freeOrDone, stepOf}
+use Rattle.step.specs.Step.{putPublishStep, putStampStep, openAnnounceStep, openPassStep, readEnterStep, readStandStep, getShowStep, closeWithdrawStep}
+use Rattle.flush.specs.Flush.{handedPool, putHandInStep}
+use Rattle.simulation.specs.Memory.{Memory}
+use Rattle.simulation.specs.Left.{ready}
+use Rattle.simulation.specs.Shell.{Result, withHub, takenIn, handedIn, tookIn, readIn, splitIn, freedIn, nextIn, finishIn, goIn}
+use Rattle.simulation.specs.Shell.{obeyIn, gateIn, doneAs, doneOf}
+use Rattle.simulation.specs.Public.{idleIn, takesStepIn, idledIn, EndsWell}
+use Rattle.simulation.proofs.Gates.{gateBy}
+
+------------------------------------------------------------------------
+-- Memory that counts as set up
+
+pub setup-nine : (m : Memory) (b : List ℕ) → ready m ≡ true → (z : Sizes) → decode b ≡ Asks (SetUp z) → answerOf (doneOf m b .answer) ≡ Model·Answer.No 9
+unfolding doneOf doneAs gateOf obeyIn
+setup-nine m b e z d =
+    let said : Record.Decoded → Bool → Model·Answer.Answer =
+    λ r t. answerOf (obeyIn m (gateBy (decodedRep r) t (length (m .slots)) (m .hub)) .answer) in
+    λ i. said (d i) (e i)
+
+------------------------------------------------------------------------
+-- The refusals that are given on reading
+
+-- one of their numbers
+abbrev Numbered : ℕ → Type 0
+Numbered k = 0 < occurrences k onReading
+
+-- the number with which a record is refused before it is a command
+abbrev ReadNumbered : Record.Decoded → Type 0
+ReadNumbered (Asks c) = Unit {0}
+ReadNumbered (Record.Refuses k) = Numbered k
+
+-- whether a record that reads as r takes a step, where `up` says that the memory counts as set up, of p workers, the worker being at the place d
+abbrev Steps : Record.Decoded → Bool → ℕ → Doing → Bool
+Steps (Asks (SetUp z)) up p d = false
+Steps (Asks (Record.Begin w o)) up p d = false
+Steps (Asks (Record.Step w)) up p d = up && (ltb w p && not (idleOf d))
+Steps (Record.Refuses k) up p d = false
+
+-- the number with which the gate refuses a record that reads as r, which takes no step then, and the worker that it lets step
+abbrev GateNumbered : Record.Decoded → Bool → ℕ → Doing → Gate → Type 0
+GateNumbered r up p d (Refuse k) = Numbered k × (Steps r up p d ≡ false)
+GateNumbered r up p d (Make x v n k) = Unit {0}
+GateNumbered r up p d (Start w e) = Unit {0}
+GateNumbered r up p d (Go w) = (r ≡ Asks (Record.Step w)) × (up ≡ true) × (ltb w p ≡ true)
+
+-- 6, 1 and 2
+read-numbered : (b : List ℕ) → ReadNumbered (decode b)
+unfolding decode occurrences
+read-numbered b =
+    cond-both ReadNumbered (ltb (length b) 16) _ _ (λ e. omega arith)
+    (λ e. cond-both ReadNumbered (ltb 7 (getD b 0 0)) _ _ (λ f. omega arith)
+    (λ f. cond-both ReadNumbered (unusedZero b (commandOf b (getD b 0 0))) _ _ (λ g. tt) (λ g. omega arith)))
+
+-- 3, 4, 10, 12 and 13
+begin-numbered : (up : Bool) (p v w u : ℕ) (o : Record.Operation) (d : Doing) (t : Announced)
+    → GateNumbered (Asks (Record.Begin u o)) up p d (beginGate p v w (operationRep o) d t)
+unfolding beginGate occurrences
+begin-numbered up p v w u o d t =
+    let N : Gate → Type 0 = GateNumbered (Asks (Record.Begin u o)) up p d in
+    cond-both N (ltb w p) _ _
+    (λ e. cond-both N (registerOk (operationRep o) v) _ _
+    (λ f. cond-both N (idleOf d) _ _
+    (λ g. cond-both N (openOk (operationRep o) t) _ _
+    (λ h. cond-both N (timeOk (operationRep o) t) _ _ (λ n. tt) (λ n. (omega arith, refl)))
+    (λ n. (omega arith, refl)))
+    (λ n. (omega arith, refl)))
+    (λ n. (omega arith, refl)))
+    (λ n. (omega arith, refl))
+
+-- 9 and 5 of a setup, 8, and 3 of a step
+gate-numbered : (r : Record.Decoded) → ReadNumbered r → (up : Bool) (p v long : ℕ) (d : Doing) (t : Announced)
+    → GateNumbered r up p d (gateOf (decodedRep r) up p v long d t)
+unfolding gateOf occurrences
+gate-numbered (Record.Refuses k) n up p v long d t = (n, refl)
+gate-numbered (Asks (SetUp z)) n up p v long d t =
+    let N : Gate → Type 0 = GateNumbered (Asks (SetUp z)) up p d in
+    cond-both N up _ _ (λ e. (omega arith, refl))
+    (λ e. cond-both N (sizesOk (z .P) (z .V') (z .N) (z .clock) long) _ _ (λ f. tt) (λ f. (omega arith, refl)))
+gate-numbered (Asks (Record.Begin w o)) n up p v long d t =
+    cond-both (GateNumbered (Asks (Record.Begin w o)) up p d) up _ _ (λ e. begin-numbered up p v w w o d t) (λ e. (omega arith, refl))
+gate-numbered (Asks (Record.Step w)) n up p v long d t =
+    let N : Gate → Type 0 = GateNumbered (Asks (Record.Step w)) up p d in
+    cond-both N up _ _
+    (λ e. cond-both N (ltb w p) _ _ (λ f. (refl, e, f)) (λ f. (omega arith, rw (e, f))))
+    (λ e. (omega arith, rw e))
+
+------------------------------------------------------------------------
+-- A step of worker w
+
+module _ (m : Memory) (r : Record.Decoded) where
+  -- what the record leaves and is answered ends well
+  abbrev Ends : Result → Type 0
+  Ends z = EndsWell m r (z .answer) (z .memory)
+
+  module _ (w : ℕ) (s : r ≡ Asks (Record.Step w)) (set-up : ready m ≡ true) (below : ltb w (m .hub .p) ≡ true) where
+    abbrev x : Worker
+    x = workerIn (m .hub) w
+
+    abbrev StepEnds : Stepped → Type 0
+    StepEnds z = Ends (finishIn m w x z)
+
+    -- a step that leaves the row and the newest versions as they were
+    abbrev NextEnds : Next → Type 0
+    NextEnds z = Ends (nextIn m w x z)
+
+    abbrev StillEnds : Outcome → Type 0
+    StillEnds o = NextEnds (Taken o)
+
+    abbrev refusedAt : ℕ → Outcome
+    refusedAt k = outcomeOf Idle (x .announced) (m .hub .clock) (m .hub .free) (No k)
+
+    -- a step is taken where the worker is not idle
+    takes : (d : Doing) → x .doing ≡ d → takesStepIn m r ≡ not (idleOf d)
+    unfolding takesStepIn
+    takes d e = rw (s, set-up, below, e)
+
+    -- 11: the worker was idle, and its record is put back as it was
+    idle-ends : x .doing ≡ Idle → StillEnds (refusedAt 11)
+    unfolding nextIn takenIn occurrences
+    idle-ends e =
+        let kept : idleIn m w ≡ m =
+        ap (λ (d : Doing). withHub m (withWorkersIn (m .hub) (set (m .hub .workers) w (atPlace x d)))) (sym e)
+        ∙ ap (λ (l : List Worker). withHub m (withWorkersIn (m .hub) l)) (set-getD (m .hub .workers) w nobody) in
+        record { number = rw (takes Idle e) (omega arith); leaves = rw (takes Idle e) kept }
+
+    -- 14 and 15 set the worker idle
+    sets-idle : (k : ℕ) → takesStepIn m r ≡ true → 0 < occurrences k atStep → StillEnds (refusedAt k)
+    unfolding nextIn takenIn idledIn
+    sets-idle k e n = record { number = rw e n; leaves = rw (e, s) }
+
+    -- put (3)
+    hand-in-ends : (c : ℕ) → Ends (handedIn m w x c)
+    unfolding handedIn putHandInStep
+    hand-in-ends c =
+        let q : Pool = handedPool (x .pool) c (slotAtIn (m .slots) c) in
+        cond-both (λ (y : Answer). EndsWell m r y (handedIn m w x c .memory)) (eqb (q .len) (batchOf (m .hub .p % 256))) Going Done (λ f. tt) (λ f. tt)
+
+    -- flush (2) and (3)
+    read-ends : (n k : ℕ) → NextEnds (readOrSplit n k (m .hub .p))
+    unfolding nextIn readIn splitIn
+    read-ends n k = cond-both NextEnds (ltb k (m .hub .p)) _ _ (λ f. tt) (λ f. tt)
+
+    -- flush (4) and (5)
+    free-ends : (n : ℕ) → NextEnds (freeOrDone n (x .announced) (m .hub .clock) (m .hub .free))
+    unfolding nextIn takenIn freedIn
+    free-ends n = cond-both NextEnds (eqb n 0) _ _ (λ f. tt) (λ f. tt)
+
+    -- open (2)
+    pass-ends : (t : Announced) → StillEnds (openPassStep t (m .hub .clock) (m .hub .free))
+    unfolding nextIn takenIn openPassStep
+    pass-ends Nothing = tt
+    pass-ends (At t) = tt
+
+    -- by the worker's place
+    step-ends : (d : Doing) → x .doing ≡ d → Ends (goIn m w x d)
+    unfolding goIn nextIn takenIn tookIn stepOf putPublishStep putStampStep openAnnounceStep readEnterStep readStandStep getShowStep closeWithdrawStep occurrences
+    step-ends Idle e = idle-ends e
+    step-ends (PutPublish i v) e =
+        cond-both StepEnds (eqb (m .hub .free) 0) _ _ (λ f. sets-idle 14 (takes (PutPublish i v) e) (omega arith)) (λ f. tt)
+    step-ends (PutStamp i v) e = tt
+    step-ends (PutHandIn i v) e = hand-in-ends v
+    step-ends FlushTake e = tt
+    step-ends (FlushRead n k) e = read-ends n k
+    step-ends (FlushFree n) e = free-ends n
+    step-ends OpenAnnounce e = cond-both StillEnds (eqb (m .hub .clock) lastClock) _ _ (λ f. sets-idle 15 (takes OpenAnnounce e) (omega arith)) (λ f. tt)
+    step-ends OpenPass e = pass-ends (x .announced)
+    step-ends (ReadEnter i) e = tt
+    step-ends (ReadStand i v) e =
+        cond-both StillEnds (leb (slotAtIn (m .slots) v .low) (timeOf (x .announced))) _ _ (λ f. tt) (λ f. tt)
+    step-ends CloseWithdraw e = tt
+    step-ends (GetShow i) e = tt
+
+------------------------------------------------------------------------
+-- A record
+
+-- by the decision
+gate-ends : (m : Memory) (r : Record.Decoded) (d : Doing) → Steps r (ready m) (m .hub .p) d ≡ takesStepIn m r
+    → (g : Gate) → GateNumbered r (ready m) (m .hub .p) d g → Ends m r (obeyIn m g)
+unfolding obeyIn
+gate-ends m r d e (Refuse k) n = record { number = rw (sym e ∙ n .1) (n .0); leaves = rw (sym e ∙ n .1) }
+gate-ends m r d e (Make p v k t) n = tt
+gate-ends m r d e (Start w f) n = tt
+gate-ends m r d e (Go w) n = step-ends m r w (n .0) (n .1) (n .2) (workerIn (m .hub) w .doing) refl
+
+-- the worker whose place the decision looks at is the one that the record names
+looks-at : (m : Memory) (r : Record.Decoded) → Steps r (ready m) (m .hub .p) (workerIn (m .hub) (whoOf (decodedRep r)) .doing) ≡ takesStepIn m r
+unfolding takesStepIn whoOf
+looks-at m (Asks (SetUp z)) = refl
+looks-at m (Asks (Record.Begin w o)) = refl
+looks-at m (Asks (Record.Step w)) = refl
+looks-at m (Record.Refuses k) = refl
+
+pub ends-well : (m : Memory) (b : List ℕ) → EndsWell m (decode b) (doneOf m b .answer) (doneOf m b .memory)
+unfolding doneOf doneAs
+ends-well m b =
+    let x : Worker = workerIn (m .hub) (whoOf (decodedIn b)) in
+    gate-ends m (decode b) (x .doing) (looks-at m (decode b)) (gateIn (ready m) m b)
+    (gate-numbered (decode b) (read-numbered b) (ready m) (m .hub .p) (m .hub .v) (length (m .slots)) (x .doing) (x .announced))

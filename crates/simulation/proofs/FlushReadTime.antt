@@ -1,0 +1,95 @@
+-- Flush (2): the code's step is the model's. The announced time that is read joins the times in the worker's record as it joins the list.
+use mathlib.Core.Path.{_≡_, refl, sym, ap, _∙_}
+use mathlib.Core.Bool.{true}
+use mathlib.Core.Logic.{_⊎_, inl, inr}
+use mathlib.Core.List.{List, [], _∷_, _++_, append-nil}
+use Prim.Native.Nat.{ℕ, _<_, _%_}
+use native.Mathlib.Omega.{arith}
+use lib.Dec.{ltb}
+use lib.ListN.{length, set, length-append}
+use borrow.Author.Tests.{lt-ltb}
+use Rattle.model.specs.Store as Model
+use Rattle.model.specs.Store.{Store, Range, absent, lastClock, workerAt, withWorker, withDoing}
+use Rattle.model.specs.Batch.{batchOf}
+use Rattle.model.specs.Answer as Model·Answer
+use Rattle.model.specs.Steps.{stepAt, flushRead, flushSplit, readTimes}
+use Rattle.values.specs.declared.Answer.the-variants.{Going}
+use Rattle.worker.specs.declared.Worker.{Worker}
+use Rattle.worker.specs.declared.Doing.the-variants as D
+use Rattle.worker.specs.Rep.{padded, poolRep, announcedRep, timeOf}
+use Rattle.worker.proofs.Rep.{padded-push}
+use Rattle.ranges.specs.Words.{flat}
+use Rattle.state.specs.declared.Hub.{Hub}
+use Rattle.state.specs.State.{workerIn}
+use Rattle.step.specs.declared.Next.the-variants.{Read, Split}
+use Rattle.step.specs.Step.{stepOf}
+use Rattle.flush.specs.Flush.{flushReadStep}
+use Rattle.simulation.specs.Memory.{Memory, inHandWords, mergedOver, write}
+use Rattle.simulation.specs.Left.{Sized}
+use Rattle.simulation.specs.Shell.{queueIn, readIn, nextIn, goIn}
+use Rattle.simulation.proofs.Laws.{worker-in}
+use Rattle.simulation.proofs.Sound.{Sound}
+use Rattle.simulation.proofs.Simulates.{Simulates, recordAt}
+use Rattle.simulation.proofs.Laid.{cond-yes, hub-is, list-kept}
+use Rattle.simulation.proofs.FlushQueue.{queue-held}
+use Rattle.simulation.proofs.Moved.{moved-sim}
+
+-- an announced time, and none, is read from memory
+time-read : (t : ℕ) → (t ≡ absent) ⊎ (t < lastClock) → timeOf (announcedRep t) ≡ t
+time-read t (inl e) = rw e
+time-read t (inr h) = rw (lt-ltb t absent (omega arith))
+
+module _ (s : Store) (m : Memory) (w : ℕ) (l : List Range) (ts : List ℕ) (S : Sound s) (Z : Sized m) (laid : m ≡ write s m) (wb : w < s .site .P)
+    (e : workerAt s w .doing ≡ Model.FlushRead l ts) (more : length ts < s .site .P) where
+  abbrev d : Model.Doing
+  d = Model.FlushRead l ts
+
+  abbrev k : ℕ
+  k = length ts
+
+  abbrev time : ℕ
+  time = workerAt s k .announced
+
+  abbrev after : Model.Worker
+  after = withDoing (workerAt s w) (Model.FlushRead l (ts ++ (time ∷ [])))
+
+  time-is : timeOf (workerIn (m .hub) k .announced) ≡ time
+  time-is =
+      ap (λ (h : Hub). timeOf (workerIn h k .announced)) (hub-is s m laid)
+      ∙ ap (λ (y : Worker). timeOf (y .announced)) (worker-in s k (S .bounds .workers .2) (S .bounds .workers .1) more)
+      ∙ time-read time (S .announced k more)
+
+  times-are : flushReadStep (padded 16 ts) k (workerIn (m .hub) (k % 16) .announced) ≡ padded 16 (ts ++ (time ∷ []))
+  times-are =
+      let few = S .bounds .workers .1 in
+      let j : k % 16 ≡ k = omega arith in
+      ap (λ (i : ℕ). set (padded 16 ts) i (timeOf (workerIn (m .hub) i .announced))) j
+      ∙ ap (set (padded 16 ts) k) time-is
+      ∙ padded-push 16 ts k time refl (omega arith)
+
+  abbrev recordOf : ℕ → List ℕ → Worker
+  recordOf j times =
+      record {
+        doing = D.FlushRead (length l) j;
+        announced = announcedRep (workerAt s w .announced);
+        pool = poolRep (workerAt s w .pool);
+        times = times;
+      }
+
+  stepped : stepAt s w d ≡ record { store = withWorker s w after; answer = Model·Answer.Going }
+  unfolding stepAt flushRead readTimes
+  stepped =
+      cond-yes (ltb k (s .site .P)) (record { store = withWorker s w after; answer = Model·Answer.Going }) (flushSplit s w l ts) (lt-ltb k (s .site .P) more)
+
+  -- the merged list is the same
+  kept : m .merged ≡ mergedOver (set (s .workers) w after) (m .merged)
+  unfolding inHandWords
+  kept = list-kept s S w wb m Z laid d after [] e (sym (append-nil (flat l)))
+
+  pub read-time-sim : Simulates s m w d
+  unfolding goIn stepOf nextIn readIn
+  read-time-sim =
+      let test : ltb k (m .hub .p) ≡ true = ap (λ (h : Hub). ltb k (h .p)) (hub-is s m laid) ∙ lt-ltb k (s .site .P) more in
+      moved-sim s m w S laid wb d e after (s .queue) Going _ (queueIn m) (m .merged) stepped
+      (ap (nextIn m w (recordAt s w d)) (cond-yes (ltb k (m .hub .p)) (Read (length l) k) (Split (length l)) test))
+      (λ i. recordOf (sym (length-append ts (time ∷ [])) i) (times-are i)) (queue-held s m laid) kept

@@ -1,0 +1,189 @@
+-- Flush (3): the code's step is the model's. The times and the merged list are read back from memory, so that the split gives the same
+-- needless and needed ranges. The needless ones stay in the worker's part of memory, the needed ones and the local pool go to the queue.
+use mathlib.Core.Path.{_≡_, refl, sym, ap, ap₂, _∙_}
+use mathlib.Core.Bool.{Bool, true, false, not, cond}
+use mathlib.Core.List.{List, [], _∷_, _++_, reverse}
+use Prim.Native.Nat.{ℕ, suc, _+_, _-_, _*_, _≤_, _<_}
+use native.Mathlib.Omega.{arith}
+use lib.Dec.{ltb}
+use lib.ListN.{length, set, take, replicate, length-reverse}
+use borrow.Author.Tests.{lt-ltb, le-ltb, le-leb}
+use Rattle.lists.specs.Over.{over}
+use Rattle.lists.proofs.Over.{take-over}
+use Rattle.model.specs.Store as Model
+use Rattle.model.specs.Store.{Store, Range, startWorker, workerAt, withWorker, withQueue}
+use Rattle.model.specs.Answer as Model·Answer
+use Rattle.model.specs.Batch.{batchOf}
+use Rattle.model.specs.Ranges.{merge, filter, needed, neededOf, needlessOf, neededPools, joining, queuedPool}
+use Rattle.model.specs.Reached.{sumBy, inHand, versionsHeld}
+use Rattle.model.specs.Demand.{All}
+use Rattle.model.specs.Steps.{stepAt, flushRead, flushSplit}
+use Rattle.model.proofs.Count.{sumBy-one}
+use Rattle.values.specs.declared.Answer.the-variants.{Going}
+use Rattle.arrays.specs.Arrays.{short}
+use Rattle.worker.specs.declared.Pool.{Pool}
+use Rattle.worker.specs.declared.Worker.{Worker}
+use Rattle.worker.specs.declared.Doing.the-variants as D
+use Rattle.worker.specs.Rep.{padded, poolRep, announcedRep}
+use Rattle.ranges.specs.Words.{flat, rangesAt}
+use Rattle.ranges.proofs.WordLaws.{length-flat}
+use Rattle.queue.specs.State.{Queue}
+use Rattle.queue.specs.Rep.{joinedRanges, queueRep}
+use Rattle.queue.proofs.Rep.{rangesAt-over}
+use Rattle.state.specs.declared.Hub.{Hub}
+use Rattle.step.specs.declared.Next.the-variants.{Read, Split}
+use Rattle.step.specs.Step.{stepOf}
+use Rattle.flush.specs.Flush.{partOf, withPart, requeued, maySplit, mayCut, needlessBy, neededBy, needlessCount, splitLeft, splitQueue, splitMerged}
+use Rattle.simulation.specs.Memory.{Memory, inHandWords, mergedOver, write}
+use Rattle.simulation.specs.Left.{Sized}
+use Rattle.simulation.specs.Shell.{queueIn, splitIn, nextIn, goIn}
+use Rattle.simulation.proofs.Sound.{Sound, PlaceIn}
+use Rattle.simulation.proofs.Simulates.{Simulates, recordAt}
+use Rattle.simulation.proofs.Laid.{cond-yes, cond-no, hub-is, place-at, among, pool-short, list-is, list-put}
+use Rattle.simulation.proofs.FlushQueue.{length-joined, queue-held, ranges-few}
+use Rattle.simulation.proofs.FlushRequeue.{requeued-is}
+use Rattle.simulation.proofs.Moved.{workers-byte, moved-sim}
+
+-- a list is as long as what passes a test and what does not
+length-parts : (p : Range → Bool) (l : List Range) → length (filter p l) + length (filter (λ ρ. not (p ρ)) l) ≡ length l
+unfolding filter
+length-parts p [] = refl
+length-parts p (x ∷ l) =
+    let yes : List Range = filter p l in
+    let no : List Range = filter (λ ρ. not (p ρ)) l in
+    let h = length-parts p l in
+    elim (p x) as (λ t. length (cond t (x ∷ yes) yes) + length (cond (not t) (x ∷ no) no) ≡ suc (length l)) [ true ↦ omega arith | false ↦ omega arith ]
+
+-- pools that are not empty are not more than their ranges
+pools-ranges : (b : ℕ) (ps : List (List Range)) → All (λ l. (1 ≤ length l) × (length l ≤ b)) ps → length ps ≤ sumBy length ps
+unfolding sumBy
+pools-ranges b [] t = omega arith
+pools-ranges b (p ∷ ps) t = omega (arith, t .0 .0, pools-ranges b ps (t .1))
+
+may-cut : (w m p k : ℕ) → w < 16 → m ≤ 256 → p ≤ 16 → k ≤ 64 → mayCut w m p k ≡ true
+may-cut w m p k a b c d = rw (lt-ltb w 16 a, le-leb m 256 b, le-leb p 16 c, le-leb k 64 d)
+
+module _ (s : Store) (m : Memory) (w : ℕ) (l : List Range) (ts : List ℕ) (S : Sound s) (Z : Sized m) (laid : m ≡ write s m) (wb : w < s .site .P)
+    (e : workerAt s w .doing ≡ Model.FlushRead l ts) (all : s .site .P ≤ length ts) where
+  abbrev d : Model.Doing
+  d = Model.FlushRead l ts
+
+  abbrev own : Model.Worker
+  own = workerAt s w
+
+  abbrev b : ℕ
+  b = s .site .B
+
+  abbrev stay : List Range
+  stay = neededOf ts l
+
+  abbrev go : List Range
+  go = needlessOf ts l
+
+  abbrev pools : List (List Range)
+  pools = s .queue ++ neededPools b stay ++ queuedPool (merge (own .pool) (joining b stay))
+
+  abbrev after : Model.Worker
+  after = record { doing = Model.FlushFree go; announced = own .announced; pool = [] }
+
+  within : PlaceIn s (own .announced) d
+  within = place-at s S w wb d e
+
+  stepped : stepAt s w d ≡ record { store = withQueue (withWorker s w after) pools; answer = Model·Answer.Going }
+  unfolding stepAt flushRead flushSplit
+  stepped = cond-no (ltb (length ts) (s .site .P)) _ _ (le-ltb (length ts) (s .site .P) all)
+
+  ----------------------------------------------------------------------
+  -- What is read from memory
+
+  abbrev p : ℕ
+  p = m .hub .p
+
+  abbrev times : List ℕ
+  times = padded 16 ts
+
+  abbrev local : Pool
+  local = poolRep (own .pool)
+
+  abbrev listed : List Range
+  listed = rangesAt (partOf (m .merged) w) 0 (length l)
+
+  workers-is : p ≡ s .site .P
+  workers-is = ap (λ (h : Hub). h .p) (hub-is s m laid)
+
+  times-is : take p times ≡ ts
+  unfolding padded
+  times-is = let n = within .2 in ap (λ (k : ℕ). take k times) workers-is ∙ take-over ts (replicate 16 0) (s .site .P) (omega arith)
+
+  listed-is : listed ≡ l
+  unfolding inHandWords
+  listed-is =
+      ap (λ (z : List ℕ). rangesAt z 0 (length l)) (list-is s S w wb m Z laid d e (omega (arith, within .0, length-flat l)))
+      ∙ rangesAt-over l (partOf (m .merged) w)
+
+  go-is : needlessBy (m .merged) w (length l) times p ≡ go
+  go-is = ap₂ needlessOf times-is listed-is
+
+  gone-is : needlessCount (m .merged) w (length l) times p ≡ length go
+  gone-is = ap length go-is
+
+  may : maySplit w (length l) p local ≡ true
+  may =
+      let few = S .bounds .workers .1 in
+      let c = S .bounds .batch .1 in
+      ap (λ (k : ℕ). mayCut w (length l) k (length (own .pool))) workers-is
+      ∙ may-cut w (length l) (s .site .P) (length (own .pool)) (omega arith) (within .0) few (omega (arith, pool-short s S w wb))
+
+  ----------------------------------------------------------------------
+  -- The queue
+
+  -- there is room: the ranges in hand, in the local pool and in the queue are all slots
+  room : length (joinedRanges (s .queue)) + length stay + length (own .pool) < 2048
+  room =
+      let h : versionsHeld own ≤ sumBy versionsHeld (s .workers) = sumBy-one versionsHeld (s .workers) w startWorker (among s S w wb) in
+      let i : inHand (own .doing) ≡ length l = ap inHand e in
+      let v = S .bounds .registers .0 in
+      let n = S .bounds .slots .1 in
+      omega (arith, ranges-few s S, length-parts (needed ts) l)
+
+  queue-split : splitQueue (queueIn m) (m .merged) w (length l) times p local ≡ queueRep pools (queueIn m)
+  unfolding splitQueue
+  queue-split =
+      let q : Queue = queueIn m in
+      let stay-is : neededBy (m .merged) w (length l) times p ≡ stay = ap₂ neededOf times-is listed-is in
+      let stays : length l - needlessCount (m .merged) w (length l) times p ≡ length stay =
+      ap (λ (k : ℕ). length l - k) gone-is ∙ omega (arith, length-parts (needed ts) l) in
+      let some : length (s .queue) ≤ length (joinedRanges (s .queue)) =
+      omega (arith, length-joined (s .queue), pools-ranges (2 * b) (s .queue) (S .bounds .queued)) in
+      let c = S .bounds .batch in
+      cond-yes (maySplit w (length l) p local) _ q may
+      ∙ (λ i. requeued q local (over (flat (stay-is i)) (replicate 768 0)) (stays i) ((ap batchOf (workers-byte s m S laid) ∙ sym (S .batch)) i))
+      ∙ requeued-is (s .queue) q (own .pool) stay b (Z .lens) (queue-held s m laid) some (c .0) (omega (arith, pool-short s S w wb)) room
+
+  ----------------------------------------------------------------------
+  -- The record and the list in hand
+
+  few : length go ≤ 256
+  few = omega (arith, within .0, length-parts (needed ts) l)
+
+  left-is : splitLeft (m .merged) w (length l) times p local ≡ length go
+  unfolding splitLeft
+  left-is = cond-yes (maySplit w (length l) p local) _ 0 may ∙ ap short gone-is ∙ omega (arith, few)
+
+  abbrev recordOf : ℕ → Worker
+  recordOf n = record { doing = D.FlushFree n; announced = announcedRep (own .announced); pool = poolRep []; times = replicate 16 0 }
+
+  merged-split : splitMerged (m .merged) w (length l) times p local ≡ mergedOver (set (s .workers) w after) (m .merged)
+  unfolding splitMerged inHandWords
+  merged-split =
+      cond-yes (maySplit w (length l) p local) _ (m .merged) may
+      ∙ ap (λ (r : List Range). withPart (m .merged) w (over (flat (reverse r)) (partOf (m .merged) w))) go-is
+      ∙ list-put s S w wb m Z laid after (omega (arith, few, length-flat (reverse go), length-reverse go))
+
+  pub split-sim : Simulates s m w d
+  unfolding goIn stepOf nextIn splitIn
+  split-sim =
+      let test : ltb (length ts) p ≡ false = ap (ltb (length ts)) workers-is ∙ le-ltb (length ts) (s .site .P) all in
+      moved-sim s m w S laid wb d e after pools Going _ _ _ stepped
+      (ap (nextIn m w (recordAt s w d)) (cond-no (ltb (length ts) p) (Read (length l) (length ts)) (Split (length l)) test))
+      (ap recordOf left-is) queue-split merged-split

@@ -1,0 +1,120 @@
+-- Memory in which a store lies, part by part: two memories and two hubs are equal by their fields, and what is known of one worker.
+use mathlib.Core.Path.{_≡_, refl, sym, ap, _∙_, subst}
+use mathlib.Core.Bool.{Bool, true, false, true≢false, cond}
+use mathlib.Core.List.{List, [], _∷_, _++_, map, reverse}
+use Prim.Native.Nat.{ℕ, zero, suc, _≤_, _<_}
+use lib.ListN.{length, getD, set, length-set}
+use lib.Seq.{getD-set-same}
+use Rattle.lists.specs.Over.{over}
+use Rattle.model.specs.Store as Model
+use Rattle.model.specs.Store.{Store, startWorker, workerAt, slotAt, withWorker, withDoing}
+use Rattle.model.specs.Batch.{batchOf}
+use Rattle.model.specs.Demand.{All}
+use Rattle.model.proofs.Basic.{All-at}
+use Rattle.worker.specs.Rep.{workerRep}
+use Rattle.slots.specs.declared.Slot.{Slot}
+use Rattle.slots.specs.Slots.{slotRep, vacantSlot}
+use Rattle.ranges.specs.Words.{flat}
+use Rattle.queue.specs.Rep.{joinedRanges}
+use Rattle.state.specs.declared.Hub.{Hub}
+use Rattle.state.specs.State.{workerIn, withWorkerIn}
+use Rattle.flush.specs.Flush.{partOf, withPart}
+use Rattle.simulation.specs.Memory.{Memory, hubRep, inHandWords, mergedOver, write}
+use Rattle.simulation.specs.Left.{Sized}
+use Rattle.simulation.proofs.Laws.{worker-in, worker-set, slot-at, part-of, part-set, part-kept}
+use Rattle.simulation.proofs.Sound.{Sound, PlaceIn}
+
+------------------------------------------------------------------------
+-- A test that is decided
+
+pub cond-yes : {A : Type 0} (t : Bool) (x y : A) → t ≡ true → cond t x y ≡ x
+cond-yes true x y e = refl
+cond-yes false x y e = absurd (true≢false (sym e))
+
+pub cond-no : {A : Type 0} (t : Bool) (x y : A) → t ≡ false → cond t x y ≡ y
+cond-no true x y e = absurd (true≢false e)
+cond-no false x y e = refl
+
+------------------------------------------------------------------------
+-- Records by their fields
+
+pub memory-path : {m m′ : Memory} → m .hub ≡ m′ .hub → m .slots ≡ m′ .slots → m .newest ≡ m′ .newest → m .free ≡ m′ .free → m .queue ≡ m′ .queue → m .lens ≡ m′ .lens → m .merged ≡ m′ .merged → m ≡ m′
+memory-path h s n f q l g =
+    λ i. record { hub = h i; slots = s i; newest = n i; free = f i; queue = q i; lens = l i; merged = g i }
+
+pub hub-path : {h h′ : Hub} → h .p ≡ h′ .p → h .v ≡ h′ .v → h .n ≡ h′ .n → h .clock ≡ h′ .clock → h .free ≡ h′ .free → h .pools ≡ h′ .pools → h .queued ≡ h′ .queued → h .workers ≡ h′ .workers → h ≡ h′
+hub-path p v n c f k q w =
+    λ i. record { p = p i; v = v i; n = n i; clock = c i; free = f i; pools = k i; queued = q i; workers = w i }
+
+------------------------------------------------------------------------
+-- The member of a list that was replaced
+pub all-set : {A : Type 0} (P : A → Type 0) (l : List A) (i : ℕ) (x : A) → i < length l → All P (set l i x) → P x
+all-set P l i x h t = subst P (getD-set-same l i x x h) (All-at P (set l i x) i x (rw (length-set l i x) h) t)
+
+------------------------------------------------------------------------
+-- Memory in which the store s lies
+
+module _ (s : Store) (m : Memory) (laid : m ≡ write s m) where
+  pub hub-is : m .hub ≡ hubRep s
+  hub-is = ap (λ (x : Memory). x .hub) laid
+
+  pub slots-is : m .slots ≡ over (map slotRep (s .slots)) (m .slots)
+  slots-is = ap (λ (x : Memory). x .slots) laid
+
+  pub newest-is : m .newest ≡ over (s .newest) (m .newest)
+  newest-is = ap (λ (x : Memory). x .newest) laid
+
+  pub free-is : m .free ≡ over (reverse (s .free)) (m .free)
+  free-is = ap (λ (x : Memory). x .free) laid
+
+  pub queue-is : m .queue ≡ over (flat (joinedRanges (s .queue))) (m .queue)
+  queue-is = ap (λ (x : Memory). x .queue) laid
+
+  pub lens-is : m .lens ≡ over (map length (s .queue)) (m .lens)
+  lens-is = ap (λ (x : Memory). x .lens) laid
+
+  pub merged-is : m .merged ≡ mergedOver (s .workers) (m .merged)
+  merged-is = ap (λ (x : Memory). x .merged) laid
+
+  -- a slot that is loaded
+  pub slot-is : (c : ℕ) → c < length (s .slots) → getD (m .slots) c vacantSlot ≡ slotRep (slotAt s c)
+  slot-is c h = ap (λ (l : List Slot). getD l c vacantSlot) slots-is ∙ slot-at (s .slots) (m .slots) c h
+
+------------------------------------------------------------------------
+-- A worker of a sound store
+
+module _ (s : Store) (S : Sound s) (w : ℕ) (wb : w < s .site .P) where
+  -- of the hub by value, at the place d
+  pub worker-at : (d : Model.Doing) → workerAt s w .doing ≡ d → workerIn (hubRep s) w ≡ workerRep (withDoing (workerAt s w) d)
+  worker-at d e = worker-in s w (S .bounds .workers .2) (S .bounds .workers .1) wb ∙ ap (λ (y : Model.Doing). workerRep (withDoing (workerAt s w) y)) e
+
+  pub place-at : (d : Model.Doing) → workerAt s w .doing ≡ d → PlaceIn s (workerAt s w .announced) d
+  place-at d e = subst (λ (y : Model.Doing). PlaceIn s (workerAt s w .announced) y) e (S .places w wb)
+
+  pub among : w < length (s .workers)
+  among = subst (λ (k : ℕ). w < k) (sym (S .bounds .workers .2)) wb
+
+  pub pool-short : length (workerAt s w .pool) ≤ s .site .B
+  pool-short = All-at (λ x. length (x .pool) ≤ s .site .B) (s .workers) w startWorker among (S .bounds .local)
+
+  -- its record replaced
+  pub worker-put : (x : Model.Worker) → withWorkerIn (hubRep s) w (workerRep x) ≡ hubRep (withWorker s w x)
+  worker-put x = worker-set s w x (S .bounds .workers .2) (S .bounds .workers .1) wb
+
+  -- the list that it has in hand, in memory in which the store lies
+  module _ (m : Memory) (Z : Sized m) (laid : m ≡ write s m) where
+    at-most-16 : length (s .workers) ≤ 16
+    at-most-16 = rw (S .bounds .workers .2) (S .bounds .workers .1)
+
+    pub list-is : (d : Model.Doing) → workerAt s w .doing ≡ d → length (inHandWords d) ≤ 768 → partOf (m .merged) w ≡ over (inHandWords d) (partOf (m .merged) w)
+    list-is d e h =
+        part-of (s .workers) (m .merged) w (Z .merged) at-most-16 among (rw e h) (merged-is s m laid)
+        ∙ ap (λ (y : Model.Doing). over (inHandWords y) (partOf (m .merged) w)) e
+
+    -- a front part of it is left
+    pub list-kept : (d : Model.Doing) (x : Model.Worker) (l : List ℕ) → workerAt s w .doing ≡ d → inHandWords d ≡ inHandWords (x .doing) ++ l → m .merged ≡ mergedOver (set (s .workers) w x) (m .merged)
+    list-kept d x l e h = part-kept (s .workers) (m .merged) w x l (Z .merged) at-most-16 among (ap inHandWords e ∙ h) (merged-is s m laid)
+
+    -- another list is put there
+    pub list-put : (x : Model.Worker) → length (inHandWords (x .doing)) ≤ 768 → withPart (m .merged) w (over (inHandWords (x .doing)) (partOf (m .merged) w)) ≡ mergedOver (set (s .workers) w x) (m .merged)
+    list-put x h = part-set (s .workers) (m .merged) w x (Z .merged) at-most-16 among h (merged-is s m laid)

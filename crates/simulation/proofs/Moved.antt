@@ -1,0 +1,62 @@
+-- A step that leaves the slots, the newest versions and the free slots as they are: put (3) and flush (1) to (3). Where the code leaves worker
+-- w's record, the queue and the merged lists of the model's next store, the step is the model's.
+use mathlib.Core.Path.{_≡_, refl, ap, _∙_}
+use mathlib.Core.List.{List}
+use Prim.Native.Nat.{ℕ, _<_, _%_}
+use native.Mathlib.Omega.{arith}
+use lib.ListN.{set}
+use Rattle.model.specs.Store as Model
+use Rattle.model.specs.Store.{Store, Range, workerAt, withWorker, withQueue}
+use Rattle.model.specs.Batch.{batchOf}
+use Rattle.model.specs.Steps.{stepAt}
+use Rattle.values.specs.Meaning.{answerOf}
+use Rattle.values.specs.declared.Answer.{Answer}
+use Rattle.worker.specs.declared.Worker.{Worker}
+use Rattle.worker.specs.Rep.{doingRep, workerRep}
+use Rattle.queue.specs.State.{Queue}
+use Rattle.queue.specs.Rep.{queueRep}
+use Rattle.state.specs.declared.Hub.{Hub}
+use Rattle.state.specs.State.{withWorkerIn, withCounts}
+use Rattle.simulation.specs.Memory.{Memory, hubRep, mergedOver, write}
+use Rattle.simulation.specs.Shell.{queueIn, goIn}
+use Rattle.simulation.proofs.Sound.{Sound}
+use Rattle.simulation.proofs.Simulates.{Simulates, recordAt, simulated}
+use Rattle.simulation.proofs.Laid.{memory-path, hub-is, slots-is, newest-is, free-is, worker-put}
+
+-- the hub by value with worker w's record and the queue's counts replaced
+abbrev pub movedHub : Hub → ℕ → Worker → Queue → Hub
+movedHub h w x q = withCounts (withWorkerIn h w x) (q .pools) (q .queued)
+
+-- the memory with worker w's record, the queue and the merged lists replaced
+abbrev pub movedIn : Memory → ℕ → Worker → Queue → List ℕ → Memory
+movedIn m w x q merged =
+    record {
+      hub = movedHub (m .hub) w x q;
+      slots = m .slots;
+      newest = m .newest;
+      free = m .free;
+      queue = q .queue;
+      lens = q .lens;
+      merged = merged;
+    }
+
+-- how many workers there are fits a byte
+pub workers-byte : (s : Store) (m : Memory) → Sound s → m ≡ write s m → m .hub .p % 256 ≡ s .site .P
+workers-byte s m S laid = let few = S .bounds .workers .1 in ap (λ (h : Hub). h .p % 256) (hub-is s m laid) ∙ omega arith
+
+module _ (s : Store) (m : Memory) (w : ℕ) (S : Sound s) (laid : m ≡ write s m) (wb : w < s .site .P) where
+  -- the code leaves the record X, the queue q and the merged lists g, the model the worker x and the pools ps
+  pub moved-sim : (d : Model.Doing) → workerAt s w .doing ≡ d
+      → (x : Model.Worker) (ps : List (List Range)) (y : Answer) (X : Worker) (q : Queue) (g : List ℕ)
+      → stepAt s w d ≡ record { store = withQueue (withWorker s w x) ps; answer = answerOf y }
+      → goIn m w (recordAt s w d) (doingRep d) ≡ record { memory = movedIn m w X q g; answer = y }
+      → X ≡ workerRep x → q ≡ queueRep ps (queueIn m) → g ≡ mergedOver (set (s .workers) w x) (m .merged) → Simulates s m w d
+  moved-sim d e x ps y X q g model code own queue merged =
+      simulated s m w d S laid wb e _ _ model code
+      (memory-path
+      (ap (λ (z : Worker). movedHub (m .hub) w z q) own
+      ∙ ap (λ (h : Hub). movedHub h w (workerRep x) q) (hub-is s m laid)
+      ∙ ap (λ (h : Hub). withCounts h (q .pools) (q .queued)) (worker-put s S w wb x)
+      ∙ ap (λ (z : Queue). withCounts (hubRep (withWorker s w x)) (z .pools) (z .queued)) queue)
+      (slots-is s m laid) (newest-is s m laid) (free-is s m laid) (ap (λ (z : Queue). z .queue) queue) (ap (λ (z : Queue). z .lens) queue) merged)
+      refl

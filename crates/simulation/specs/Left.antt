@@ -1,0 +1,42 @@
+-- Memory that records left, and memory that counts as set up.
+use mathlib.Core.Path.{_≡_}
+use mathlib.Core.Bool.{Bool}
+use mathlib.Core.List.{List, [], _∷_}
+use Prim.Native.Nat.{ℕ}
+use lib.ListN.{length}
+use Rattle.model.specs.Store as Model
+use Rattle.model.specs.Store.{Store, blank, up}
+use Rattle.model.specs.Answer.{Ok}
+use Rattle.model.specs.Batch.{batchOf}
+use Rattle.model.specs.Rules.{document01, Ruled}
+use Rattle.model.specs.Apply.{apply, hubAfter}
+use Rattle.slots.specs.Slots.{linkedTo}
+use Rattle.ready.specs.Ready.{readyOf}
+use Rattle.simulation.specs.Memory.{Memory, write}
+
+-- a store that an accepted setup and a list of records after it leave
+pub record LeftByRecords (s : Store) : Type 0 where
+  pub row : List Model.Slot
+  pub setup : List ℕ
+  pub accepted : apply document01 (blank row) setup .answer ≡ Ok
+  pub records : List Ruled
+  pub left : hubAfter (apply document01 (blank row) setup .hub) records ≡ up s
+
+-- memory in which such a store lies
+pub record Left (s : Store) (m : Memory) : Type 0 where
+  pub store : LeftByRecords s
+  pub laid : m ≡ write s m
+
+-- the arrays have the lengths that their types give
+pub record Sized (m : Memory) : Type 0 where
+  pub workers : length (m .hub .workers) ≡ 16
+  pub newest : length (m .newest) ≡ 256
+  pub free : length (m .free) ≡ 2048
+  pub queue : length (m .queue) ≡ 6144
+  pub lens : length (m .lens) ≡ 2048
+  pub merged : length (m .merged) ≡ 12288
+
+-- lent memory counts as set up
+unfoldable pub ready : Memory → Bool
+ready m =
+    readyOf (m .hub) (m .newest) (m .free) (m .queue) (m .lens) (m .merged) (linkedTo (m .slots) (m .hub .n) (m .hub .n)) (length (m .slots))

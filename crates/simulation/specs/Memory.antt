@@ -1,0 +1,97 @@
+-- The memory that is lent with each record, and how a store of the model lies in it. Entries that a store does not name keep their contents.
+use mathlib.Core.List.{List, [], _∷_, _++_, map, reverse}
+use Prim.Native.Nat.{ℕ}
+use lib.ListN.{length, take, drop, replicate}
+use Rattle.lists.specs.Over.{over}
+use Rattle.model.specs.Store as Model
+use Rattle.model.specs.Store.{Store, startWorker}
+use Rattle.worker.specs.Rep.{workerRep}
+use Rattle.ranges.specs.Words.{flat}
+use Rattle.queue.specs.Rep.{joinedRanges}
+use Rattle.slots.specs.declared.Slot.{Slot}
+use Rattle.slots.specs.Slots.{slotRep}
+use Rattle.state.specs.declared.Hub.{Hub}
+
+-- the hub by value; the row of slots; for each register the slot of its newest version; the free slots, the one that is taken first last;
+-- the ranges of the queued pools, one pool after the other; the pools' lengths; and for each worker 256 ranges for the list that its flush
+-- has in hand
+pub record Memory : Type 0 where
+  pub hub : Hub
+  pub slots : List Slot
+  pub newest : List ℕ
+  pub free : List ℕ
+  pub queue : List ℕ
+  pub lens : List ℕ
+  pub merged : List ℕ
+
+abbrev pub memory : Hub → List Slot → List ℕ → List ℕ → List ℕ → List ℕ → List ℕ → Memory
+memory h slots newest free queue lens merged =
+    record { hub = h; slots = slots; newest = newest; free = free; queue = queue; lens = lens; merged = merged }
+
+-- memory with the first 2048 slots of its row only
+abbrev pub cut : Memory → Memory
+cut m =
+    record {
+      hub = m .hub;
+      slots = take 2048 (m .slots);
+      newest = m .newest;
+      free = m .free;
+      queue = m .queue;
+      lens = m .lens;
+      merged = m .merged;
+    }
+
+------------------------------------------------------------------------
+-- A store in memory
+
+abbrev pub hubRep : Store → Hub
+hubRep s =
+    record {
+      p = s .site .P;
+      v = s .site .V';
+      n = s .site .N;
+      clock = s .clock;
+      free = length (s .free);
+      pools = length (s .queue);
+      queued = length (joinedRanges (s .queue));
+      workers = over (map workerRep (s .workers)) (replicate 16 (workerRep startWorker));
+    }
+
+-- the words of the list that a flush has in hand: a merged list, or the needless ranges with the one that is freed first last
+unfoldable pub inHandWords : Model.Doing → List ℕ
+inHandWords Model.Idle = []
+inHandWords (Model.PutPublish r x) = []
+inHandWords (Model.PutStamp r c) = []
+inHandWords (Model.PutHandIn r c) = []
+inHandWords Model.FlushTake = []
+inHandWords (Model.FlushRead m ts) = flat m
+inHandWords (Model.FlushFree m) = flat (reverse m)
+inHandWords Model.OpenAnnounce = []
+inHandWords Model.OpenPass = []
+inHandWords (Model.ReadEnter r) = []
+inHandWords (Model.ReadStand r c) = []
+inHandWords Model.CloseWithdraw = []
+inHandWords (Model.GetShow r) = []
+
+-- each worker's list in its part of the memory, 768 words
+unfoldable pub mergedOver : List Model.Worker → List ℕ → List ℕ
+mergedOver [] d = d
+mergedOver (x ∷ l) d = over (inHandWords (x .doing)) (take 768 d) ++ mergedOver l (drop 768 d)
+
+-- the memory with a store written over it
+abbrev pub write : Store → Memory → Memory
+write s m =
+    record {
+      hub = hubRep s;
+      slots = over (map slotRep (s .slots)) (m .slots);
+      newest = over (s .newest) (m .newest);
+      free = over (reverse (s .free)) (m .free);
+      queue = over (flat (joinedRanges (s .queue))) (m .queue);
+      lens = over (map length (s .queue)) (m .lens);
+      merged = mergedOver (s .workers) (m .merged);
+    }
+
+-- the same of a hub of the model; where it is not set up, the memory is as it was
+abbrev pub writeHub : Model.Hub → Memory → Memory
+writeHub (Model.blank row) m = m
+writeHub (Model.up s) m = write s m

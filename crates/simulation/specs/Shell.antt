@@ -1,0 +1,225 @@
+-- What the code does to memory: a record is decided, then refused, or it sets the hub up, begins an operation, or takes a step of a worker.
+-- The steps of one place are in step/specs/Step.antt and flush/specs/Flush.antt; here is what each writes where.
+use mathlib.Core.Bool.{Bool, true, false}
+use mathlib.Core.List.{List, [], map}
+use Prim.Native.Nat.{ℕ, _+_, _-_, _%_}
+use lib.ListN.{length, set, replicate}
+use Rattle.lists.specs.Over.{over}
+use Rattle.values.specs.declared.Answer.{Answer}
+use Rattle.values.specs.declared.Answer.the-variants.{Ok, Going, Freed, No}
+use Rattle.slots.specs.declared.Slot.{Slot}
+use Rattle.slots.specs.Slots.{madeTo}
+use Rattle.ranges.specs.Words.{flat}
+use Rattle.queue.specs.State.{Queue, taken, rest}
+use Rattle.worker.specs.declared.Doing.{Doing}
+use Rattle.worker.specs.declared.Doing.the-variants.{FlushRead, FlushFree}
+use Rattle.worker.specs.declared.Worker.{Worker}
+use Rattle.worker.specs.Rep.{poolRep}
+use Rattle.state.specs.declared.Hub.{Hub}
+use Rattle.state.specs.State.{freshHub, workerIn, atPlace, withWorkersIn, withWorkerIn, withClockIn, withFreeIn, withCounts}
+use Rattle.arrays.specs.Arrays.{short, fillTo}
+use Rattle.gate.specs.declared.Gate.{Gate}
+use Rattle.gate.specs.declared.Gate.the-variants.{Refuse, Make, Start, Go}
+use Rattle.gate.specs.Gate.{decodedIn, gateOf, whoOf}
+use Rattle.step.specs.declared.Outcome.{Outcome}
+use Rattle.step.specs.declared.Next.{Next}
+use Rattle.step.specs.declared.Next.the-variants.{Taken, HandIn, Take, Read, Split, Free}
+use Rattle.step.specs.Step.{Stepped, stepOf}
+use Rattle.flush.specs.Flush.{putHandInStep, partOf, withPart, flushReadStep, splitLeft, splitQueue, splitMerged, freedStep, freedRow, freedFree, offDoing}
+use Rattle.simulation.specs.Memory.{Memory}
+use Rattle.simulation.specs.Left.{ready}
+
+-- what is left and answered
+pub record Result : Type 0 where
+  pub memory : Memory
+  pub answer : Answer
+
+-- memory with another hub by value
+abbrev pub withHub : Memory → Hub → Memory
+withHub m h =
+    record {
+      hub = h;
+      slots = m .slots;
+      newest = m .newest;
+      free = m .free;
+      queue = m .queue;
+      lens = m .lens;
+      merged = m .merged;
+    }
+
+-- memory with another row of slots and other newest versions
+abbrev pub withRow : Memory → List Slot → List ℕ → Memory
+withRow m row newest =
+    record {
+      hub = m .hub;
+      slots = row;
+      newest = newest;
+      free = m .free;
+      queue = m .queue;
+      lens = m .lens;
+      merged = m .merged;
+    }
+
+-- only worker w's record is another
+abbrev pub withRecord : Memory → ℕ → Worker → Memory
+withRecord m w x = withHub m (withWorkerIn (m .hub) w x)
+
+-- nothing is left but what was there
+abbrev pub answered : Memory → Answer → Result
+answered m y = record { memory = m; answer = y }
+
+abbrev pub queueIn : Memory → Queue
+queueIn m = record { queue = m .queue; lens = m .lens; pools = m .hub .pools; queued = m .hub .queued }
+
+------------------------------------------------------------------------
+-- A step of worker w, whose record is x
+
+-- put (1) and (2), open, read, get, close, flush (5)
+unfoldable pub takenIn : Memory → ℕ → Worker → Outcome → Result
+takenIn m w x o =
+    let y : Worker = record { doing = o .doing; announced = o .announced; pool = x .pool; times = x .times } in
+    answered (withHub m (withFreeIn (withClockIn (withWorkerIn (m .hub) w y) (o .clock)) (o .free))) (o .answer)
+
+-- put (3), of the covered version in slot c
+unfoldable pub handedIn : Memory → ℕ → Worker → ℕ → Result
+handedIn m w x c =
+    let s = putHandInStep (m .slots) (x .pool) c (m .hub .p) in
+    answered (withRecord m w (record { doing = s .doing; announced = x .announced; pool = s .pool; times = x .times })) (s .answer)
+
+-- flush (1)
+unfoldable pub tookIn : Memory → ℕ → Worker → Result
+tookIn m w x =
+    let q = queueIn m in
+    let y : Worker =
+    record { doing = FlushRead (short (length (taken q))) 0; announced = x .announced; pool = x .pool; times = replicate 16 0 } in
+    record {
+      memory =
+          record {
+            hub = withCounts (withWorkerIn (m .hub) w y) (rest q .pools) (rest q .queued);
+            slots = m .slots;
+            newest = m .newest;
+            free = m .free;
+            queue = rest q .queue;
+            lens = rest q .lens;
+            merged = withPart (m .merged) w (over (flat (taken q)) (partOf (m .merged) w));
+          };
+      answer = Going;
+    }
+
+-- flush (2), of a merged list of n ranges with j times read
+unfoldable pub readIn : Memory → ℕ → Worker → ℕ → ℕ → Result
+readIn m w x n j =
+    answered
+    (withRecord m w
+    (record {
+      doing = FlushRead n (j + 1);
+      announced = x .announced;
+      pool = x .pool;
+      times = flushReadStep (x .times) j (workerIn (m .hub) (j % 16) .announced);
+    }))
+    Going
+
+-- flush (3), of a merged list of n ranges
+unfoldable pub splitIn : Memory → ℕ → Worker → ℕ → Result
+splitIn m w x n =
+    let q = splitQueue (queueIn m) (m .merged) w n (x .times) (m .hub .p) (x .pool) in
+    let y : Worker =
+    record {
+      doing = FlushFree (splitLeft (m .merged) w n (x .times) (m .hub .p) (x .pool));
+      announced = x .announced;
+      pool = poolRep [];
+      times = replicate 16 0;
+    } in
+    record {
+      memory =
+          record {
+            hub = withCounts (withWorkerIn (m .hub) w y) (q .pools) (q .queued);
+            slots = m .slots;
+            newest = m .newest;
+            free = m .free;
+            queue = q .queue;
+            lens = q .lens;
+            merged = splitMerged (m .merged) w n (x .times) (m .hub .p) (x .pool);
+          };
+      answer = Going;
+    }
+
+-- flush (4), with n ranges left: "A read standing on it moves to its older neighbour", of all workers
+abbrev pub offWorker : ℕ → ℕ → Worker → Worker
+offWorker c o x = atPlace x (offDoing c o (x .doing))
+
+unfoldable pub freedIn : Memory → ℕ → Worker → ℕ → Result
+freedIn m w x n =
+    let f = freedStep (m .slots) (m .merged) w n (m .hub .free) in
+    record {
+      memory =
+          record {
+            hub =
+                withFreeIn
+                (withWorkersIn (m .hub) (map (offWorker (f .slot) (f .older)) (set (m .hub .workers) w (atPlace x (FlushFree (n - 1))))))
+                (f .free);
+            slots = freedRow (m .slots) (m .merged) w n;
+            newest = m .newest;
+            free = freedFree (m .free) (m .merged) w n (m .hub .free);
+            queue = m .queue;
+            lens = m .lens;
+            merged = m .merged;
+          };
+      answer = Freed (f .slot);
+    }
+
+-- by what is known of the step
+unfoldable pub nextIn : Memory → ℕ → Worker → Next → Result
+nextIn m w x (Taken o) = takenIn m w x o
+nextIn m w x (HandIn c) = handedIn m w x c
+nextIn m w x Take = tookIn m w x
+nextIn m w x (Read n j) = readIn m w x n j
+nextIn m w x (Split n) = splitIn m w x n
+nextIn m w x (Free n) = freedIn m w x n
+
+-- on the row and the newest versions as the first part of the step left them
+abbrev pub finishIn : Memory → ℕ → Worker → Stepped → Result
+finishIn m w x s = nextIn (withRow m (s .row) (s .newest)) w x (s .next)
+
+-- the step at the place d of a worker with the record x
+abbrev pub stepAtIn : Memory → Worker → Doing → Stepped
+stepAtIn m x d = stepOf d (x .announced) (m .hub .clock) (m .hub .free) (m .hub .p) (m .slots) (m .newest) (m .free)
+
+unfoldable pub goIn : Memory → ℕ → Worker → Doing → Result
+goIn m w x d = finishIn m w x (stepAtIn m x d)
+
+------------------------------------------------------------------------
+-- A record
+
+-- a setup that is accepted
+unfoldable pub setUpIn : Memory → ℕ → ℕ → ℕ → ℕ → Memory
+setUpIn m p v n k =
+    record {
+      hub = freshHub p v n k;
+      slots = madeTo (m .slots) v n;
+      newest = fillTo (m .newest) short v;
+      free = fillTo (m .free) (λ j. short (n - 1 - j)) (n - v);
+      queue = m .queue;
+      lens = m .lens;
+      merged = m .merged;
+    }
+
+-- by the decision on it
+unfoldable pub obeyIn : Memory → Gate → Result
+obeyIn m (Refuse k) = answered m (No k)
+obeyIn m (Make p v n k) = answered (setUpIn m p v n k) Ok
+obeyIn m (Start w d) = answered (withRecord m w (atPlace (workerIn (m .hub) w) d)) Ok
+obeyIn m (Go w) = goIn m w (workerIn (m .hub) w) (workerIn (m .hub) w .doing)
+
+-- the decision, where `up` says that the memory counts as set up
+abbrev pub gateIn : Bool → Memory → List ℕ → Gate
+gateIn up m b =
+    let x = workerIn (m .hub) (whoOf (decodedIn b)) in
+    gateOf (decodedIn b) up (m .hub .p) (m .hub .v) (length (m .slots)) (x .doing) (x .announced)
+
+unfoldable pub doneAs : Bool → Memory → List ℕ → Result
+doneAs up m b = obeyIn m (gateIn up m b)
+
+-- a record of the bytes b
+unfoldable pub doneOf : Memory → List ℕ → Result
+doneOf m b = doneAs (ready m) m b

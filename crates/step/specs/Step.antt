@@ -1,0 +1,139 @@
+-- The steps that are done at once: put (1) and (2), open, read, get, close and flush (5). Each is the model's step of the same name
+-- (model/specs/Steps.antt) in this code's types, on the parts of memory that it uses. The other steps of a flush and put (3) also move pools
+-- and times; here they are only named (`Next`), and flush/specs/Flush.antt has what they do.
+use mathlib.Core.Bool.{cond}
+use mathlib.Core.List.{List}
+use Prim.Native.Nat.{ℕ, _+_, _-_}
+use lib.Dec.{ltb, leb, eqb}
+use lib.ListN.{getD, set}
+use Rattle.model.specs.Store.{absent, lastClock}
+use Rattle.values.specs.declared.Reading.{Reading}
+use Rattle.values.specs.declared.Answer.{Answer}
+use Rattle.values.specs.declared.Answer.the-variants.{Going, At as AnswerAt, Value, Done, No}
+use Rattle.slots.specs.declared.Slot.{Slot}
+use Rattle.arrays.specs.Arrays.{short}
+use Rattle.versions.specs.Versions.{slotAtIn, stampedIn, linkedIn}
+use Rattle.worker.specs.declared.Announced.{Announced}
+use Rattle.worker.specs.declared.Announced.the-variants.{Nothing, At}
+use Rattle.worker.specs.declared.Doing.{Doing}
+use Rattle.worker.specs.declared.Doing.the-variants.{Idle, PutPublish, PutStamp, PutHandIn, FlushTake, FlushRead, FlushFree, OpenAnnounce, OpenPass, ReadEnter, ReadStand, CloseWithdraw, GetShow}
+use Rattle.worker.specs.Rep.{timeOf}
+use Rattle.step.specs.declared.Outcome.{Outcome}
+use Rattle.step.specs.declared.Next.{Next}
+use Rattle.step.specs.declared.Next.the-variants.{Taken, HandIn, Take, Read, Split, Free}
+
+-- the step as it is known, and the two parts of lent memory that such a step may change
+pub record Stepped : Type 0 where
+  pub next : Next
+  pub row : List Slot
+  pub newest : List ℕ
+
+abbrev pub outcomeOf : Doing → Announced → ℕ → ℕ → Answer → Outcome
+outcomeOf d t k n y = record { doing = d; announced = t; clock = k; free = n; answer = y }
+
+-- the slot of register r's newest version; 0 where there is no such register
+abbrev pub newestAt : List ℕ → ℕ → ℕ
+newestAt newest r = cond (ltb r 256) (getD newest r 0) 0
+
+-- the free slot that is taken next stands last, of n
+abbrev pub nextFree : List ℕ → ℕ → ℕ
+nextFree free n = cond (ltb 0 n) (cond (leb n 2048) (getD free (n - 1) 0) absent) absent
+
+-- a step that changes nothing in lent memory
+abbrev pub stillAt : Outcome → List Slot → List ℕ → Stepped
+stillAt o l newest = record { next = Taken o; row = l; newest = newest }
+
+------------------------------------------------------------------------
+-- Put. The worker's announced time is t, the clock k, and n slots are free.
+
+-- (1) "With no free slot: refusal 14. Else stamp the register, take a slot, link it as newest with the value and no low, remember the
+-- version it covers."
+unfoldable pub putPublishStep : ℕ → Reading → Announced → ℕ → ℕ → List Slot → List ℕ → List ℕ → Stepped
+putPublishStep r x t k n l newest free =
+    let i = newestAt newest r in
+    let f = nextFree free n in
+    cond (eqb n 0) (stillAt (outcomeOf Idle t k n (No 14)) l newest)
+    (record {
+      next = Taken (outcomeOf (PutStamp r (short i)) t k (n - 1) Going);
+      row = linkedIn (stampedIn l i k) i f x;
+      newest = set newest r (short f);
+    })
+
+-- (2) "If the covered version's high is open, stamp the register."
+unfoldable pub putStampStep : ℕ → ℕ → Announced → ℕ → ℕ → List Slot → List ℕ → Stepped
+putStampStep r c t k n l newest =
+    record {
+      next = Taken (outcomeOf (PutHandIn r c) t k n Going);
+      row = cond (eqb (slotAtIn l c .high) absent) (stampedIn l (newestAt newest r) k) l;
+      newest = newest;
+    }
+
+------------------------------------------------------------------------
+-- Open
+
+-- (1) "Clock at 4294967295: refusal 15. Else announce the clock."
+unfoldable pub openAnnounceStep : Announced → ℕ → ℕ → Outcome
+openAnnounceStep t k n = cond (eqb k lastClock) (outcomeOf Idle t k n (No 15)) (outcomeOf OpenPass (At k) k n Going)
+
+-- (2) "If the clock still equals the announced time, add one. Answer that time." The last clock value is not passed. A worker at this place
+-- has a time; without one nothing is answered.
+unfoldable pub openPassStep : Announced → ℕ → ℕ → Outcome
+openPassStep Nothing k n = outcomeOf Idle Nothing k n Going
+openPassStep (At a) k n = outcomeOf Idle (At a) (cond (eqb k a) (cond (ltb k lastClock) (k + 1) k) k) n (AnswerAt a)
+
+------------------------------------------------------------------------
+-- Read, get, close
+
+-- Read (1) "Stamp the register, stand on its newest version."
+unfoldable pub readEnterStep : ℕ → Announced → ℕ → ℕ → List Slot → List ℕ → Stepped
+readEnterStep r t k n l newest =
+    record {
+      next = Taken (outcomeOf (ReadStand r (short (newestAt newest r))) t k n Going);
+      row = stampedIn l (newestAt newest r) k;
+      newest = newest;
+    }
+
+-- Read (2) "If its low is at most the worker's time, answer its value; else move to the older one."
+unfoldable pub readStandStep : ℕ → ℕ → Announced → ℕ → ℕ → List Slot → Outcome
+readStandStep r c t k n l =
+    let v = slotAtIn l c in
+    cond (leb (v .low) (timeOf t)) (outcomeOf Idle t k n (Value (v .value))) (outcomeOf (ReadStand r (short (v .older))) t k n Going)
+
+-- Get: "Stamp, answer the newest value."
+unfoldable pub getShowStep : ℕ → Announced → ℕ → ℕ → List Slot → List ℕ → Stepped
+getShowStep r t k n l newest =
+    record {
+      next = Taken (outcomeOf Idle t k n (Value (slotAtIn l (newestAt newest r) .value)));
+      row = stampedIn l (newestAt newest r) k;
+      newest = newest;
+    }
+
+-- Close: "Withdraw the time."
+unfoldable pub closeWithdrawStep : ℕ → ℕ → Outcome
+closeWithdrawStep k n = outcomeOf Idle Nothing k n Done
+
+------------------------------------------------------------------------
+-- One step of a worker at the place given, with the announced time t, of p workers. An idle worker has none: refusal 11.
+
+-- flush (2) while times are left to read, then (3)
+abbrev pub readOrSplit : ℕ → ℕ → ℕ → Next
+readOrSplit m j p = cond (ltb j p) (Read m j) (Split m)
+
+-- flush (4) while ranges are left, then (5) "Done."
+abbrev pub freeOrDone : ℕ → Announced → ℕ → ℕ → Next
+freeOrDone m t k n = cond (eqb m 0) (Taken (outcomeOf Idle t k n Done)) (Free m)
+
+unfoldable pub stepOf : Doing → Announced → ℕ → ℕ → ℕ → List Slot → List ℕ → List ℕ → Stepped
+stepOf Idle t k n p l newest free = stillAt (outcomeOf Idle t k n (No 11)) l newest
+stepOf (PutPublish r x) t k n p l newest free = putPublishStep r x t k n l newest free
+stepOf (PutStamp r c) t k n p l newest free = putStampStep r c t k n l newest
+stepOf (PutHandIn r c) t k n p l newest free = record { next = HandIn c; row = l; newest = newest }
+stepOf FlushTake t k n p l newest free = record { next = Take; row = l; newest = newest }
+stepOf (FlushRead m j) t k n p l newest free = record { next = readOrSplit m j p; row = l; newest = newest }
+stepOf (FlushFree m) t k n p l newest free = record { next = freeOrDone m t k n; row = l; newest = newest }
+stepOf OpenAnnounce t k n p l newest free = stillAt (openAnnounceStep t k n) l newest
+stepOf OpenPass t k n p l newest free = stillAt (openPassStep t k n) l newest
+stepOf (ReadEnter r) t k n p l newest free = readEnterStep r t k n l newest
+stepOf (ReadStand r c) t k n p l newest free = stillAt (readStandStep r c t k n l) l newest
+stepOf CloseWithdraw t k n p l newest free = stillAt (closeWithdrawStep k n) l newest
+stepOf (GetShow r) t k n p l newest free = getShowStep r t k n l newest

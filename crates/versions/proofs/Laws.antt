@@ -1,0 +1,118 @@
+-- Laws of a row of words as the slots that it means: what is loaded and stored; a stamp, an unlink and a turn of the setup from what their
+-- calls leave; and the neighbours of slots past the end.
+use mathlib.Core.Path.{_≡_, refl, sym, ap, _∙_}
+use mathlib.Core.Bool.{Bool, true, false, cond, _&&_}
+use mathlib.Core.List.{List, [], _∷_}
+use Prim.Native.Nat.{ℕ, zero, suc, _≤_, _<_, _+_, _-_, min}
+use native.Mathlib.Nat.{add-zero, add-suc}
+use native.Mathlib.Numerals.{add-one}
+use native.Mathlib.Omega.{arith}
+use lib.Dec.{eqb, leb}
+use lib.ListN.{length, getD, set, length-map, List·getD-map, List·getD-eq-default}
+use lib.Seq.{set-out}
+use borrow.Author.Tests.{leb-true, leb-false, lt-ltb}
+use Rattle.model.specs.Store.{absent}
+use Rattle.slots.specs.declared.Slot.{Slot}
+use Rattle.slots.specs.Slots.{vacantSlot, linkedTo, madeSlot, madeTo}
+use Rattle.versions.specs.Versions.{slotIn, rowOf, slotAtIn, changeIn, stampedIn, unlinkedIn, withLow, withHigh, withOlder, withNewer, aloneSlot}
+
+------------------------------------------------------------------------
+-- Loads and stores
+
+-- no words mean the vacant slot
+pub row-get : (l : List (List ℕ)) (i : ℕ) → slotIn (getD l i []) ≡ slotAtIn (rowOf l) i
+row-get l i = sym (List·getD-map slotIn l i [])
+
+pub row-past : (l : List (List ℕ)) (i : ℕ) → length l ≤ i → vacantSlot ≡ slotAtIn (rowOf l) i
+row-past l i h = sym (List·getD-eq-default (rowOf l) vacantSlot (rw (length-map l slotIn) h))
+
+pub row-set : (l : List (List ℕ)) (i : ℕ) (x : List ℕ) → rowOf (set l i x) ≡ set (rowOf l) i (slotIn x)
+row-set [] i x = refl
+row-set (y ∷ l) zero x = refl
+row-set (y ∷ l) (suc i) x = ap (λ (z : List Slot). slotIn y ∷ z) (row-set l i x)
+
+pub row-out : (l : List (List ℕ)) (i : ℕ) (s : Slot) → length l ≤ i → rowOf l ≡ set (rowOf l) i s
+row-out l i s h = sym (set-out (rowOf l) i s (rw (length-map l slotIn) h))
+
+-- a slot that is loaded, changed and stored
+pub changed : (l m : List Slot) (i : ℕ) (f : Slot → Slot) (a : Slot) → a ≡ slotAtIn l i → m ≡ set l i (f a) → m ≡ changeIn l i f
+changed l m i f a ea e = e ∙ ap (λ (s : Slot). set l i (f s)) ea
+
+------------------------------------------------------------------------
+-- Stamp and unlink, where slot i is loaded as a
+
+abbrev stampedBy : List Slot → ℕ → ℕ → Slot → List Slot
+stampedBy l i k a = cond (eqb (a .low) absent) (changeIn (changeIn l i (λ v. withLow v k)) (a .older) (λ v. withHigh v k)) l
+
+module _ (l : List Slot) (i k : ℕ) (a : Slot) (loaded : a ≡ slotAtIn l i) where
+  pub stamped-both : (l₁ l₂ : List Slot) → eqb (a .low) absent ≡ true → l₁ ≡ changeIn l i (λ v. withLow v k)
+      → l₂ ≡ changeIn l₁ (a .older) (λ v. withHigh v k) → l₂ ≡ stampedIn l i k
+  unfolding stampedIn
+  stamped-both l₁ l₂ unset e₁ e₂ =
+      let t : changeIn (changeIn l i (λ v. withLow v k)) (a .older) (λ v. withHigh v k) ≡ stampedBy l i k a = rw unset in
+      e₂ ∙ ap (λ (m : List Slot). changeIn m (a .older) (λ v. withHigh v k)) e₁ ∙ t ∙ ap (stampedBy l i k) loaded
+
+  pub stamped-none : eqb (a .low) absent ≡ false → l ≡ stampedIn l i k
+  unfolding stampedIn
+  stamped-none stays = let t : l ≡ stampedBy l i k a = rw stays in t ∙ ap (stampedBy l i k) loaded
+
+abbrev joinedBy : List Slot → Slot → List Slot
+joinedBy l a = cond (eqb (a .older) absent) l (changeIn l (a .older) (λ v. withNewer v (a .newer)))
+
+abbrev unlinkedBy : List Slot → ℕ → Slot → List Slot
+unlinkedBy l i a = changeIn (changeIn (joinedBy l a) (a .newer) (λ v. withOlder v (a .older))) i aloneSlot
+
+module _ (l : List Slot) (i : ℕ) (a : Slot) (loaded : a ≡ slotAtIn l i) where
+  -- l₁ is the row once the older neighbour, if there is one, is changed
+  unlinked : (l₁ l₂ l₃ : List Slot) → l₁ ≡ joinedBy l a → l₂ ≡ changeIn l₁ (a .newer) (λ v. withOlder v (a .older)) → l₃ ≡ changeIn l₂ i aloneSlot
+      → l₃ ≡ unlinkedIn l i
+  unfolding unlinkedIn
+  unlinked l₁ l₂ l₃ e₁ e₂ e₃ =
+      let two = e₂ ∙ ap (λ (m : List Slot). changeIn m (a .newer) (λ v. withOlder v (a .older))) e₁ in
+      e₃ ∙ ap (λ (m : List Slot). changeIn m i aloneSlot) two ∙ ap (unlinkedBy l i) loaded
+
+  pub unlinked-oldest : (l₂ l₃ : List Slot) → eqb (a .older) absent ≡ true → l₂ ≡ changeIn l (a .newer) (λ v. withOlder v (a .older))
+      → l₃ ≡ changeIn l₂ i aloneSlot → l₃ ≡ unlinkedIn l i
+  unlinked-oldest l₂ l₃ none e₂ e₃ = unlinked l l₂ l₃ (rw none) e₂ e₃
+
+  pub unlinked-between : (l₁ l₂ l₃ : List Slot) → eqb (a .older) absent ≡ false → l₁ ≡ changeIn l (a .older) (λ v. withNewer v (a .newer))
+      → l₂ ≡ changeIn l₁ (a .newer) (λ v. withOlder v (a .older)) → l₃ ≡ changeIn l₂ i aloneSlot → l₃ ≡ unlinkedIn l i
+  unlinked-between l₁ l₂ l₃ one e₁ e₂ e₃ = unlinked l₁ l₂ l₃ (rw one e₁) e₂ e₃
+
+------------------------------------------------------------------------
+-- Slot k of a setup, loaded as s and stored as t
+
+pub made-more : (l m m₂ : List Slot) (v k : ℕ) (s t : Slot) → m ≡ madeTo l v k → s ≡ slotAtIn m k → t ≡ madeSlot k v s → m₂ ≡ set m k t
+    → m₂ ≡ madeTo l v (k + 1)
+unfolding madeTo
+made-more l m m₂ v k s t before loaded made stored = rw (add-one, ← before, ← loaded, ← made) stored
+
+------------------------------------------------------------------------
+-- Past the end every slot is linked, to slot 0
+
+linked-more : (l : List Slot) (n k : ℕ) → 0 < n → length l ≤ k → linkedTo l n (suc k) ≡ linkedTo l n k
+unfolding linkedTo
+linked-more l n k some past = rw (List·getD-eq-default l vacantSlot past, lt-ltb 0 n some) (kept (linkedTo l n k))
+  where
+    kept : (t : Bool) → t && true && true ≡ t
+    kept true = refl
+    kept false = refl
+
+linked-past : (l : List Slot) (n j : ℕ) → 0 < n → linkedTo l n (length l + j) ≡ linkedTo l n (length l)
+linked-past l n zero some = ap (linkedTo l n) (add-zero (length l))
+linked-past l n (suc j) some =
+    ap (linkedTo l n) (add-suc (length l) j) ∙ linked-more l n (length l + j) some (omega arith) ∙ linked-past l n j some
+
+pub linked-min : (l : List Slot) (n : ℕ) → linkedTo l n (min n (length l)) ≡ linkedTo l n n
+linked-min l n = go (leb n (length l)) refl
+  where
+    go : (t : Bool) → leb n (length l) ≡ t → linkedTo l n (min n (length l)) ≡ linkedTo l n n
+    go true h =
+        let within = leb-true n (length l) h in
+        let e : min n (length l) ≡ n = omega arith in
+        ap (linkedTo l n) e
+    go false h =
+        let beyond = leb-false n (length l) h in
+        let e : min n (length l) ≡ length l = omega arith in
+        let f : length l + (n - length l) ≡ n = omega arith in
+        ap (linkedTo l n) e ∙ sym (linked-past l n (n - length l) (omega arith)) ∙ ap (linkedTo l n) f
