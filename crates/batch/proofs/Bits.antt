@@ -1,7 +1,7 @@
 -- The batch size by the count of leading zeros is that of document 01: one test that antt computes for every number of workers that a
 -- byte holds, and one law that carries a test to each number.
 use mathlib.Core.Path.{_≡_, refl}
-use mathlib.Core.Bool.{Bool, true, false, cond, _&&_, and-eq-true-iff}
+use mathlib.Core.Bool.{Bool, true, cond, _&&_, and-eq-true-iff}
 use Prim.Native.Nat.{ℕ, zero, suc, _*_, _-_, _≤_, _<_}
 use native.Mathlib.Nat.{le-of-suc-le-suc, not-suc-le-zero, mul-le-mul-left}
 use native.Mathlib.Omega.{arith}

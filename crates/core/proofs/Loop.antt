@@ -3,7 +3,7 @@
 use mathlib.Core.Path.{_≡_, refl, sym, ap, _∙_, subst}
 use mathlib.Core.Bool.{Bool, true, false, _||_}
 use mathlib.Core.List.{List, [], map}
-use Prim.Native.Nat.{ℕ, suc, _<_, _≤_, _+_, _-_, _%_}
+use Prim.Native.Nat.{ℕ, _<_, _≤_, _+_, _-_, _%_}
 use native.Mathlib.Omega.{arith}
 use native.Mathlib.Numerals.{add-one}
 use lib.ListN.{length, getD, set, length-set, length-map, replicate}
@@ -17,7 +17,6 @@ use Rattle.slots.specs.declared.Slot.{Slot}
 use Rattle.slots.specs.Slots.{linkedTo, madeTo}
 use Rattle.slots.proofs.Growth.{length-madeTo}
 use Rattle.ranges.specs.Words.{flat}
-use Rattle.queue.specs.declared.Counts.{Counts}
 use Rattle.queue.specs.declared.Taking.{Taking}
 use Rattle.queue.specs.State.{Queue, held, taken, rest}
 use Rattle.worker.specs.declared.Doing.{Doing}
@@ -34,7 +33,7 @@ use Rattle.arrays.specs.Arrays.{short, fillTo}
 use Rattle.versions.specs.Versions.{slotIn, rowOf}
 use Rattle.gate.specs.declared.Gate.{Gate}
 use Rattle.gate.specs.declared.Gate.the-variants.{Refuse, Make, Start, Go}
-use Rattle.gate.specs.Gate.{decodedRep, decodedIn, sizesOk, gateOf, whoOf}
+use Rattle.gate.specs.Gate.{decodedRep, decodedIn, gateOf, whoOf}
 use Rattle.gate.proofs.Decoded.{decoded-back}
 use Rattle.gate.proofs.Named.{Named, named}
 use Rattle.ready.specs.Ready.{readyOf}

@@ -1,7 +1,6 @@
 -- The inner loop, which moves the reads that stand on a freed slot: one worker more.
 use mathlib.Core.Path.{_≡_, refl, sym, ap, _∙_}
 use mathlib.Core.Bool.{false}
-use mathlib.Core.List.{List}
 use Prim.Native.Nat.{ℕ, _<_, _+_}
 use native.Mathlib.Numerals.{add-one}
 use lib.ListN.{length, getD, set}

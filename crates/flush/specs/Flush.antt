@@ -8,7 +8,6 @@ use Rattle.lists.specs.Over.{over}
 use Rattle.model.specs.Batch.{batchOf}
 use Rattle.model.specs.Store.{Range}
 use Rattle.model.specs.Ranges.{merge, neededOf, needlessOf}
-use Rattle.values.specs.declared.Answer.{Answer}
 use Rattle.values.specs.declared.Answer.the-variants.{Going, Done}
 use Rattle.slots.specs.declared.Slot.{Slot}
 use Rattle.arrays.specs.Arrays.{short}

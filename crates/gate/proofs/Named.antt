@@ -8,7 +8,6 @@ use borrow.Author.Tests.{ltb-true}
 use Rattle.worker.specs.declared.Announced.{Announced}
 use Rattle.worker.specs.declared.Doing.{Doing}
 use Rattle.record.specs.declared.Operation.{Operation}
-use Rattle.record.specs.declared.Command.{Command}
 use Rattle.record.specs.declared.Command.the-variants.{SetUp, Begin, Step}
 use Rattle.record.specs.declared.Decoded.{Decoded}
 use Rattle.record.specs.declared.Decoded.the-variants.{Asks, Refuses}

@@ -1,12 +1,12 @@
 -- Laws of lent memory of which a part is replaced, and of the loops that replace it entry by entry.
-use mathlib.Core.Path.{_≡_, refl, sym, ap, _∙_}
+use mathlib.Core.Path.{_≡_, refl, sym, _∙_}
 use mathlib.Core.List.{List, [], _∷_, _++_}
-use Prim.Native.Nat.{ℕ, zero, suc, _+_, _-_, _≤_, _<_}
+use Prim.Native.Nat.{ℕ, suc, _+_, _-_, _≤_, _<_}
 use native.Mathlib.Numerals.{add-one}
 use native.Mathlib.Omega.{arith}
 use lib.ListN.{length, take, drop, getD, set, length-append, length-drop, List·getD-append}
 use lib.Seq.{drop-cons, set-at, append-snoc, getD-append-add, getD-drop, getD-take, take-at, take-suc, length-take-le}
-use Rattle.lists.specs.Over.{over, overAt, shifted}
+use Rattle.lists.specs.Over.{over, shifted}
 
 module _ {A : Type 0} where
   pub over-nil : (d : List A) → over [] d ≡ d

@@ -13,7 +13,6 @@ use Rattle.lists.specs.Over.{over}
 use Rattle.model.specs.Store as Model
 use Rattle.model.specs.Store.{Store, Range, startWorker, workerAt, slotAt, withWorker, withWorkers, withFree, withSlots, withDoing}
 use Rattle.model.specs.Answer as Model·Answer
-use Rattle.model.specs.Batch.{batchOf}
 use Rattle.model.specs.Versions.{unlinkSlots}
 use Rattle.model.specs.Steps.{stepAt, flushFree, moveOff, workerOff}
 use Rattle.slots.specs.declared.Slot.{Slot}

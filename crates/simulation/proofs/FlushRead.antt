@@ -6,7 +6,6 @@ use Prim.Native.Nat.{ℕ, _<_}
 use lib.ListN.{length}
 use Rattle.model.specs.Store as Model
 use Rattle.model.specs.Store.{Store, Range, workerAt, holders}
-use Rattle.model.specs.Batch.{batchOf}
 use Rattle.model.specs.Steps.{stepAt}
 use Rattle.model.proofs.Basic.{lt-cases}
 use Rattle.simulation.specs.Memory.{Memory, write}

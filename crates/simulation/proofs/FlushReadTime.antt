@@ -10,7 +10,6 @@ use lib.ListN.{length, set, length-append}
 use borrow.Author.Tests.{lt-ltb}
 use Rattle.model.specs.Store as Model
 use Rattle.model.specs.Store.{Store, Range, absent, lastClock, workerAt, withWorker, withDoing}
-use Rattle.model.specs.Batch.{batchOf}
 use Rattle.model.specs.Answer as Model·Answer
 use Rattle.model.specs.Steps.{stepAt, flushRead, flushSplit, readTimes}
 use Rattle.values.specs.declared.Answer.the-variants.{Going}

@@ -8,7 +8,6 @@ use lib.ListN.{length, set, drop, replicate}
 use Rattle.lists.specs.Over.{over}
 use Rattle.model.specs.Store as Model
 use Rattle.model.specs.Store.{Store, Range, workerAt, withDoing}
-use Rattle.model.specs.Batch.{batchOf}
 use Rattle.model.specs.Ranges.{firstTwo}
 use Rattle.model.specs.Reached.{inHand}
 use Rattle.model.specs.Steps.{stepAt, flushTake}

@@ -7,7 +7,6 @@ use lib.ListN.{length}
 use Rattle.lists.specs.Over.{over}
 use Rattle.model.specs.Store as Model
 use Rattle.model.specs.Store.{Store, workerAt}
-use Rattle.model.specs.Batch.{batchOf}
 use Rattle.model.specs.Steps.{stepAt}
 use Rattle.values.specs.Meaning.{answerOf}
 use Rattle.values.specs.declared.Answer.{Answer}

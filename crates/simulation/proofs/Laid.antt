@@ -1,14 +1,13 @@
 -- Memory in which a store lies, part by part: two memories and two hubs are equal by their fields, and what is known of one worker.
 use mathlib.Core.Path.{_≡_, refl, sym, ap, _∙_, subst}
 use mathlib.Core.Bool.{Bool, true, false, true≢false, cond}
-use mathlib.Core.List.{List, [], _∷_, _++_, map, reverse}
-use Prim.Native.Nat.{ℕ, zero, suc, _≤_, _<_}
+use mathlib.Core.List.{List, _++_, map, reverse}
+use Prim.Native.Nat.{ℕ, _≤_, _<_}
 use lib.ListN.{length, getD, set, length-set}
 use lib.Seq.{getD-set-same}
 use Rattle.lists.specs.Over.{over}
 use Rattle.model.specs.Store as Model
 use Rattle.model.specs.Store.{Store, startWorker, workerAt, slotAt, withWorker, withDoing}
-use Rattle.model.specs.Batch.{batchOf}
 use Rattle.model.specs.Demand.{All}
 use Rattle.model.proofs.Basic.{All-at}
 use Rattle.worker.specs.Rep.{workerRep}

@@ -10,7 +10,6 @@ use Rattle.model.specs.Store as Model
 use Rattle.model.specs.Store.{Store, startWorker, workerAt, slotAt, newestOf, withDoing, place}
 use Rattle.model.specs.Answer as Model·Answer
 use Rattle.model.specs.Versions.{stampSlots, stamp}
-use Rattle.model.specs.Batch.{batchOf}
 use Rattle.model.specs.Steps.{stepAt, readEnter, readStand, getShow, answerFor}
 use Rattle.values.specs.declared.Answer.the-variants.{Going, Value}
 use Rattle.slots.specs.declared.Slot.{Slot}

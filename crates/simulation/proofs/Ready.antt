@@ -12,7 +12,6 @@ use Rattle.lists.specs.Over.{over}
 use Rattle.lists.proofs.Over.{getD-over-in}
 use Rattle.model.specs.Store as Model
 use Rattle.model.specs.Store.{Store, Range, absent, workerAt, newestOf}
-use Rattle.model.specs.Batch.{batchOf}
 use Rattle.model.specs.Demand.{All}
 use Rattle.model.specs.Reached.{sumBy}
 use Rattle.model.proofs.Basic.{All-map, All-occurrences, getD-map, All-at}

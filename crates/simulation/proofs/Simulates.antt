@@ -1,17 +1,16 @@
 -- What it means that the code's step is the model's step: on memory in which a store lies, the code leaves the model's next store written over
 -- the memory, and gives the model's answer.
-use mathlib.Core.Path.{_≡_, refl, sym, ap, _∙_}
+use mathlib.Core.Path.{_≡_, sym, ap, _∙_}
 use Prim.Native.Nat.{ℕ, _<_}
 use Rattle.model.specs.Store as Model
 use Rattle.model.specs.Store.{Store, workerAt, withDoing}
-use Rattle.model.specs.Batch.{batchOf}
 use Rattle.model.specs.Answer.{Stepped}
 use Rattle.model.specs.Steps.{stepAt}
 use Rattle.values.specs.Meaning.{answerOf}
 use Rattle.worker.specs.declared.Worker.{Worker}
 use Rattle.worker.specs.Rep.{doingRep, workerRep}
 use Rattle.state.specs.State.{workerIn}
-use Rattle.simulation.specs.Memory.{Memory, hubRep, write}
+use Rattle.simulation.specs.Memory.{Memory, write}
 use Rattle.simulation.specs.Shell.{Result, goIn}
 use Rattle.simulation.proofs.Laws.{worker-in}
 use Rattle.simulation.proofs.Sound.{Sound}

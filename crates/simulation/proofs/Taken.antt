@@ -1,14 +1,13 @@
 -- A step that is taken at once, in memory and in the model: where the code's outcome is that of the model's next store, the step is the model's.
 -- Every part that the step leaves is what it was, and the worker's record is the model's in memory.
-use mathlib.Core.Path.{_≡_, refl, sym, ap, _∙_}
+use mathlib.Core.Path.{_≡_, refl, ap, _∙_}
 use mathlib.Core.List.{List, [], _++_, map, reverse}
 use Prim.Native.Nat.{ℕ, _<_}
-use lib.ListN.{length, set}
+use lib.ListN.{length}
 use Rattle.lists.specs.Over.{over}
 use Rattle.model.specs.Store as Model
 use Rattle.model.specs.Store.{Store, workerAt, withClock, withSlots, withNewest, withFree, withWorker}
 use Rattle.model.specs.Answer as Model·Answer
-use Rattle.model.specs.Batch.{batchOf}
 use Rattle.model.specs.Steps.{stepAt}
 use Rattle.values.specs.Meaning.{answerOf}
 use Rattle.values.specs.declared.Answer.{Answer}
@@ -19,10 +18,10 @@ use Rattle.worker.specs.Rep.{doingRep, announcedRep, poolRep, timesRep, workerR
 use Rattle.state.specs.declared.Hub.{Hub}
 use Rattle.state.specs.State.{withWorkerIn, withClockIn, withFreeIn}
 use Rattle.step.specs.declared.Next.the-variants.{Taken}
-use Rattle.step.specs.Step.{Stepped, outcomeOf}
+use Rattle.step.specs.Step.{outcomeOf}
 use Rattle.simulation.specs.Memory.{Memory, hubRep, inHandWords, write}
 use Rattle.simulation.specs.Left.{Sized}
-use Rattle.simulation.specs.Shell.{Result, takenIn, nextIn, finishIn, stepAtIn, goIn}
+use Rattle.simulation.specs.Shell.{takenIn, nextIn, finishIn, stepAtIn, goIn}
 use Rattle.simulation.proofs.Sound.{Sound}
 use Rattle.simulation.proofs.Simulates.{Simulates, recordAt, simulated}
 use Rattle.simulation.proofs.Laid.{memory-path, hub-is, queue-is, lens-is, worker-put, list-kept}

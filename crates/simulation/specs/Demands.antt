@@ -6,7 +6,6 @@ use mathlib.Core.List.{List, [], _∷_, map}
 use Prim.Native.Nat.{ℕ, _<_}
 use lib.ListN.{getD}
 use Rattle.model.specs.Store.{Store, blank}
-use Rattle.model.specs.Batch.{batchOf}
 use Rattle.model.specs.Rules.{document01, allUnder}
 use Rattle.model.specs.Answer.{Ok}
 use Rattle.model.specs.Record.{Sizes, SetUp, Asks, decode}

@@ -1,13 +1,12 @@
 -- Memory that records left, and memory that counts as set up.
 use mathlib.Core.Path.{_≡_}
 use mathlib.Core.Bool.{Bool}
-use mathlib.Core.List.{List, [], _∷_}
+use mathlib.Core.List.{List}
 use Prim.Native.Nat.{ℕ}
 use lib.ListN.{length}
 use Rattle.model.specs.Store as Model
 use Rattle.model.specs.Store.{Store, blank, up}
 use Rattle.model.specs.Answer.{Ok}
-use Rattle.model.specs.Batch.{batchOf}
 use Rattle.model.specs.Rules.{document01, Ruled}
 use Rattle.model.specs.Apply.{apply, hubAfter}
 use Rattle.slots.specs.Slots.{linkedTo}

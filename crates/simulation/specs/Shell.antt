@@ -1,6 +1,6 @@
 -- What the code does to memory: a record is decided, then refused, or it sets the hub up, begins an operation, or takes a step of a worker.
 -- The steps of one place are in step/specs/Step.antt and flush/specs/Flush.antt; here is what each writes where.
-use mathlib.Core.Bool.{Bool, true, false}
+use mathlib.Core.Bool.{Bool}
 use mathlib.Core.List.{List, [], map}
 use Prim.Native.Nat.{ℕ, _+_, _-_, _%_}
 use lib.ListN.{length, set, replicate}

@@ -1,5 +1,5 @@
 -- What a step that is still to do says: a time is read only of a worker below p, and a range is freed only where one is left.
-use mathlib.Core.Path.{_≡_, refl, subst}
+use mathlib.Core.Path.{_≡_, refl}
 use mathlib.Core.Bool.{Bool, true, false, cond}
 use mathlib.Core.List.{List}
 use Prim.Native.Nat.{ℕ, _<_}
@@ -8,12 +8,11 @@ use lib.Dec.{ltb, eqb}
 use borrow.Author.Tests.{ltb-true, eqb-false}
 use Rattle.slots.specs.declared.Slot.{Slot}
 use Rattle.worker.specs.declared.Announced.{Announced}
-use Rattle.worker.specs.declared.Announced.the-variants.{Nothing, At}
 use Rattle.worker.specs.declared.Doing.{Doing}
 use Rattle.worker.specs.declared.Doing.the-variants.{Idle, PutPublish, PutStamp, PutHandIn, FlushTake, FlushRead, FlushFree, OpenAnnounce, OpenPass, ReadEnter, ReadStand, CloseWithdraw, GetShow}
 use Rattle.step.specs.declared.Next.{Next}
 use Rattle.step.specs.declared.Next.the-variants.{Taken, HandIn, Take, Read, Split, Free}
-use Rattle.step.specs.Step.{Stepped, outcomeOf, putPublishStep, putStampStep, readEnterStep, getShowStep, readOrSplit, freeOrDone, stepOf}
+use Rattle.step.specs.Step.{Stepped, putPublishStep, putStampStep, readEnterStep, getShowStep, freeOrDone, stepOf}
 
 abbrev pub Said : ℕ → Next → Type 0
 Said p (Taken o) = Unit {0}

@@ -1,5 +1,4 @@
 -- What the values mean: for each case of an enum, document 01's number and values, as the model has them.
-use Prim.Native.Nat.{ℕ}
 use Rattle.model.specs.Store as Model
 use Rattle.model.specs.Answer as Model·Answer
 use Rattle.values.specs.declared.Reading.{Reading}

@@ -1,7 +1,7 @@
 -- `run` meets its contract. The invariant is `Running` (Loop.antt): the records so far have done what the definition says. Each arm of the loop is
 -- a law there. The inner loop moves the reads of the first j workers.
 use mathlib.Core.Path.{_≡_, refl, sym, ap, _∙_}
-use Prim.Native.Nat.{ℕ, _≤_, _<_, _-_, _%_}
+use Prim.Native.Nat.{ℕ, _≤_, _-_, _%_}
 use native.Mathlib.Omega.{arith}
 use lib.ListN.{length, length-set}
 use borrow.Author.Needs.{needs}
@@ -13,7 +13,7 @@ use Rattle.simulation.specs.Buffer.{after}
 use Rattle.lists.proofs.Mapped.{mapped, length-mapped}
 use Rattle.core.proofs.Moving.{move-one, move-none}
 use Rattle.core.proofs.Tested.{ready-few}
-use Rattle.core.proofs.Loop.{stateOf, Running, words-long, deciding, make-few, below, workers, told, on-refuse, on-make, on-start, on-taken, on-hand-in, on-take, on-read, on-split, on-free, ready-is, finished}
+use Rattle.core.proofs.Loop.{stateOf, Running, words-long, deciding, below, workers, told, on-refuse, on-make, on-start, on-taken, on-hand-in, on-take, on-read, on-split, on-free, ready-is, finished}
 use Rattle.core.proofs.run.Statement.{statement}
 use Rattle.core.proofs.run.Tie as tie
 

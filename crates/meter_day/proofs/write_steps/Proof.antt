@@ -1,7 +1,6 @@
 -- `write_steps` is safe and ends: the steps that are left fall.
 use mathlib.Core.Path.{_≡_, refl}
-use Prim.Native.Nat.{_≤_, _-_}
-use native.Mathlib.Omega.{arith}
+use Prim.Native.Nat.{_-_}
 use lib.ListN.{length}
 use borrow.Author.Needs.{needs}
 use Rattle.meter_day.proofs.write_steps.Statement.{statement}

@@ -1,6 +1,6 @@
 -- `ready` meets its contract: once the sizes are known to be in range each scan stays within its memory, and the answer is the conjunction of what
 -- the scans ensure. Where the sizes are not in range nothing is scanned.
-use mathlib.Core.Path.{_≡_, sym, _∙_}
+use mathlib.Core.Path.{sym, _∙_}
 use native.Mathlib.Omega.{arith}
 use borrow.Author.Needs.{needs}
 use Rattle.ready.specs.Ready.{readyOf}
