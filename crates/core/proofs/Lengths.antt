@@ -5,7 +5,7 @@ use Prim.Native.Nat.{ℕ}
 use lib.ListN.{length}
 use Rattle.slots.specs.declared.Slot.{Slot}
 use Rattle.versions.proofs.Lengths.{length-unlinked}
-use Rattle.flush.specs.Flush.{nextToFree, freedRow}
+use Rattle.freeing.specs.Freeing.{nextToFree, freedRow}
 
 pub length-freed : (l : List Slot) (merged : List ℕ) (w m : ℕ) → length (freedRow l merged w m) ≡ length l
 unfolding freedRow

@@ -44,9 +44,11 @@ use Rattle.step.specs.Step.{Stepped}
 use Rattle.step.proofs.Said.{Said, said}
 use Rattle.step.proofs.Lengths.{length-step}
 use Rattle.flush.specs.declared.Handed.{Handed}
-use Rattle.flush.specs.declared.Parted.{Parted}
-use Rattle.flush.specs.declared.Freed as Freeing
-use Rattle.flush.specs.Flush.{putHandInStep, partOf, withPart, flushReadStep, splitLeft, splitQueue, splitMerged, freedStep, freedRow, freedFree}
+use Rattle.splitting.specs.declared.Parted.{Parted}
+use Rattle.freeing.specs.declared.Freed as Freeing
+use Rattle.flush.specs.Flush.{putHandInStep, partOf, withPart, flushReadStep}
+use Rattle.splitting.specs.Splitting.{splitLeft, splitQueue, splitMerged}
+use Rattle.freeing.specs.Freeing.{freedStep, freedRow, freedFree}
 use Rattle.simulation.specs.Memory.{Memory, memory}
 use Rattle.simulation.specs.Left.{ready}
 use Rattle.simulation.specs.Shell.{Result, withHub, withRow, queueIn, takenIn, handedIn, tookIn, readIn, splitIn, freedIn, offWorker, nextIn, finishIn, stepAtIn, goIn, setUpIn, obeyIn, gateIn, doneAs}

@@ -10,7 +10,7 @@ use Rattle.worker.specs.declared.Doing.the-variants.{Idle, PutPublish, PutStamp
 use Rattle.worker.specs.declared.Worker.{Worker}
 use Rattle.state.specs.declared.Hub.{Hub}
 use Rattle.state.specs.State.{nobody, atPlace, withWorkersIn}
-use Rattle.flush.specs.Flush.{offDoing, standsOn}
+use Rattle.freeing.specs.Freeing.{offDoing, standsOn}
 use Rattle.simulation.specs.Shell.{offWorker}
 use Rattle.lists.proofs.Mapped.{mapped, mapped-more}
 

@@ -198,7 +198,7 @@ pub fn run(
                             pools: hub.pools,
                             queued: hub.queued,
                         };
-                        let f = flush::flush_split(
+                        let f = splitting::flush_split(
                             queue,
                             lens,
                             counts,
@@ -226,7 +226,7 @@ pub fn run(
                     }
                     // Flush (4). "A read standing on it moves to its older neighbour."
                     Next::Free { left } => {
-                        let f = flush::flush_free(row, free, merged, w, left, hub.free);
+                        let f = freeing::flush_free(row, free, merged, w, left, hub.free);
                         hub.workers[w] = Worker {
                             doing: Doing::FlushFree { left: left - 1 },
                             ..x
@@ -236,8 +236,8 @@ pub fn run(
                         while j < 16 {
                             let z = hub.workers[j];
                             let e = z.doing;
-                            if flush::stands_on(e, f.slot) {
-                                let doing = flush::off(e, f.slot, f.older);
+                            if freeing::stands_on(e, f.slot) {
+                                let doing = freeing::off(e, f.slot, f.older);
                                 hub.workers[j] = Worker { doing, ..z };
                                 j += 1;
                             } else {

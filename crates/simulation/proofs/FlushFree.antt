@@ -27,7 +27,8 @@ use Rattle.state.specs.declared.Hub.{Hub}
 use Rattle.state.specs.State.{atPlace, withWorkersIn, withFreeIn}
 use Rattle.step.specs.declared.Next.the-variants.{Free}
 use Rattle.step.specs.Step.{stepOf}
-use Rattle.flush.specs.Flush.{partOf, nextToFree, oneMore, freedStep, freedRow, freedFree}
+use Rattle.flush.specs.Flush.{partOf}
+use Rattle.freeing.specs.Freeing.{nextToFree, oneMore, freedStep, freedRow, freedFree}
 use Rattle.simulation.specs.Memory.{Memory, hubRep, inHandWords, mergedOver, write}
 use Rattle.simulation.specs.Left.{Sized}
 use Rattle.simulation.specs.Shell.{offWorker, freedIn, nextIn, goIn}

@@ -22,7 +22,7 @@ use Rattle.ranges.proofs.MergeLaws.{merge-nil, length-merge}
 use Rattle.queue.specs.State.{Queue, pushed}
 use Rattle.queue.specs.Rep.{joinedRanges, queueRep}
 use Rattle.queue.proofs.Rep.{flat-append, joined-append, rangesAt-over, push-rep-over, push-queued}
-use Rattle.flush.specs.Flush.{poolWords, requeued}
+use Rattle.splitting.specs.Splitting.{poolWords, requeued}
 
 -- one pool more
 joined-more : (ps : List (List Range)) (l : List Range) → length (joinedRanges (ps ++ (l ∷ []))) ≡ length (joinedRanges ps) + length l

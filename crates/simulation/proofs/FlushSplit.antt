@@ -33,7 +33,8 @@ use Rattle.queue.proofs.Rep.{rangesAt-over}
 use Rattle.state.specs.declared.Hub.{Hub}
 use Rattle.step.specs.declared.Next.the-variants.{Read, Split}
 use Rattle.step.specs.Step.{stepOf}
-use Rattle.flush.specs.Flush.{partOf, withPart, requeued, maySplit, mayCut, needlessBy, neededBy, needlessCount, splitLeft, splitQueue, splitMerged}
+use Rattle.flush.specs.Flush.{partOf, withPart}
+use Rattle.splitting.specs.Splitting.{requeued, maySplit, mayCut, needlessBy, neededBy, needlessCount, splitLeft, splitQueue, splitMerged}
 use Rattle.simulation.specs.Memory.{Memory, inHandWords, mergedOver, write}
 use Rattle.simulation.specs.Left.{Sized}
 use Rattle.simulation.specs.Shell.{queueIn, splitIn, nextIn, goIn}

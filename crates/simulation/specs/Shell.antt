@@ -25,7 +25,9 @@ use Rattle.step.specs.declared.Outcome.{Outcome}
 use Rattle.step.specs.declared.Next.{Next}
 use Rattle.step.specs.declared.Next.the-variants.{Taken, HandIn, Take, Read, Split, Free}
 use Rattle.step.specs.Step.{Stepped, stepOf}
-use Rattle.flush.specs.Flush.{putHandInStep, partOf, withPart, flushReadStep, splitLeft, splitQueue, splitMerged, freedStep, freedRow, freedFree, offDoing}
+use Rattle.flush.specs.Flush.{putHandInStep, partOf, withPart, flushReadStep}
+use Rattle.splitting.specs.Splitting.{splitLeft, splitQueue, splitMerged}
+use Rattle.freeing.specs.Freeing.{freedStep, freedRow, freedFree, offDoing}
 use Rattle.simulation.specs.Memory.{Memory}
 use Rattle.simulation.specs.Left.{ready}
 

@@ -1,9 +1,9 @@
 -- `stands_on` meets its contract: a read's second step is the place that the pattern names, and at any other no read stands.
 use mathlib.Core.Path.{sym}
 use borrow.Author.Needs.{needs}
-use Rattle.flush.proofs.Standing.{other-stands}
-use Rattle.flush.proofs.stands_on.Statement.{statement}
-use Rattle.flush.proofs.stands_on.Tie as tie
+use Rattle.freeing.proofs.Standing.{other-stands}
+use Rattle.freeing.proofs.stands_on.Statement.{statement}
+use Rattle.freeing.proofs.stands_on.Tie as tie
 
 enum-known-d : tie.Need-enum-known-d
 enum-known-d c = search needs

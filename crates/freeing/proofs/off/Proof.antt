@@ -1,9 +1,9 @@
 -- `off` meets its contract: at a read's second step the test of the slot decides, and at any other place nothing moves.
 use mathlib.Core.Path.{sym}
 use borrow.Author.Needs.{needs}
-use Rattle.flush.proofs.Standing.{moved, stayed, other-off}
-use Rattle.flush.proofs.off.Statement.{statement}
-use Rattle.flush.proofs.off.Tie as tie
+use Rattle.freeing.proofs.Standing.{moved, stayed, other-off}
+use Rattle.freeing.proofs.off.Statement.{statement}
+use Rattle.freeing.proofs.off.Tie as tie
 
 enum-known-d : tie.Need-enum-known-d
 enum-known-d c = search needs

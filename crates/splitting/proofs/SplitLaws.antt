@@ -19,9 +19,10 @@ use Rattle.worker.specs.declared.Pool.{Pool}
 use Rattle.worker.specs.Pool.{rangesIn}
 use Rattle.queue.specs.State.{Queue}
 use Rattle.arrays.specs.Arrays.{short}
-use Rattle.flush.specs.Flush.{partOf, withPart, requeued, joinedAfter, mayCut, needlessBy, neededBy}
-use Rattle.flush.specs.Flush.{splitLeft, splitQueue, splitMerged, splitNeeded, splitLocal, splitJoined}
-use Rattle.flush.proofs.RequeueLaws.{requeued-pad, joined-pad}
+use Rattle.flush.specs.Flush.{partOf, withPart}
+use Rattle.splitting.specs.Splitting.{requeued, joinedAfter, mayCut, needlessBy, neededBy}
+use Rattle.splitting.specs.Splitting.{splitLeft, splitQueue, splitMerged, splitNeeded, splitLocal, splitJoined}
+use Rattle.splitting.proofs.RequeueLaws.{requeued-pad, joined-pad}
 
 ------------------------------------------------------------------------
 -- The counts

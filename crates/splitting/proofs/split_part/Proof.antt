@@ -1,8 +1,8 @@
 -- `split_part` meets its contract: what `ranges::split` makes of the part that is lent, said of the whole.
 use borrow.Author.Needs.{needs}
-use Rattle.flush.proofs.PartLaws.{split-part}
-use Rattle.flush.proofs.split_part.Statement.{statement}
-use Rattle.flush.proofs.split_part.Tie as tie
+use Rattle.splitting.proofs.PartLaws.{split-part}
+use Rattle.splitting.proofs.split_part.Statement.{statement}
+use Rattle.splitting.proofs.split_part.Tie as tie
 
 mul-at : tie.Need-mul-at
 mul-at c = search needs

@@ -2,9 +2,9 @@
 -- pool's.
 use borrow.Author.Needs.{needs}
 use Rattle.queue.specs.State.{held}
-use Rattle.flush.proofs.RequeueLaws.{two-pools, one-pool, one-merged}
-use Rattle.flush.proofs.requeue.Statement.{statement}
-use Rattle.flush.proofs.requeue.Tie as tie
+use Rattle.splitting.proofs.RequeueLaws.{two-pools, one-pool, one-merged}
+use Rattle.splitting.proofs.requeue.Statement.{statement}
+use Rattle.splitting.proofs.requeue.Tie as tie
 
 pool-words-requires : tie.Need-pool-words-requires
 pool-words-requires c κs = search needs

@@ -8,9 +8,9 @@ use borrow.Author.Needs.{needs}
 use Rattle.slots.specs.declared.Slot.{Slot}
 use Rattle.arrays.specs.Arrays.{short}
 use Rattle.versions.specs.Versions.{rowOf, slotAtIn, unlinkedIn}
-use Rattle.flush.specs.Flush.{nextToFree, oneMore, freedStep, freedRow, freedFree}
-use Rattle.flush.proofs.flush_free.Statement.{statement}
-use Rattle.flush.proofs.flush_free.Tie as tie
+use Rattle.freeing.specs.Freeing.{nextToFree, oneMore, freedStep, freedRow, freedFree}
+use Rattle.freeing.proofs.flush_free.Statement.{statement}
+use Rattle.freeing.proofs.flush_free.Tie as tie
 
 -- the slot, its version and how many are free by their names
 freed : (l : List Slot) (free merged : List ℕ) (w m n i k : ℕ) (v : Slot) (l′ : List Slot) (free′ : List ℕ) → i ≡ nextToFree merged w m

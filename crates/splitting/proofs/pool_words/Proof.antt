@@ -7,9 +7,9 @@ use lib.ListN.{length, length-set}
 use Rattle.lists.specs.Over.{over}
 use Rattle.ranges.specs.Words.{flat}
 use Rattle.worker.specs.Pool.{rangesFrom}
-use Rattle.flush.proofs.PoolLaws.{no-ranges, one-range}
-use Rattle.flush.proofs.pool_words.Statement.{statement}
-use Rattle.flush.proofs.pool_words.Tie as tie
+use Rattle.splitting.proofs.PoolLaws.{no-ranges, one-range}
+use Rattle.splitting.proofs.pool_words.Statement.{statement}
+use Rattle.splitting.proofs.pool_words.Tie as tie
 
 abbrev Inv-loop : tie.InvT-loop
 Inv-loop out₀ n slots lows highs i₀ out i =

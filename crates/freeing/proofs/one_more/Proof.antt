@@ -1,8 +1,8 @@
 -- `one_more` meets its contract: the test decides whether there is one more.
 use borrow.Author.Needs.{needs}
 use borrow.Author.Tests.{lt-ltb, le-ltb}
-use Rattle.flush.proofs.one_more.Statement.{statement}
-use Rattle.flush.proofs.one_more.Tie as tie
+use Rattle.freeing.proofs.one_more.Statement.{statement}
+use Rattle.freeing.proofs.one_more.Tie as tie
 
 add-result : tie.Need-add-result
 add-result c = search needs

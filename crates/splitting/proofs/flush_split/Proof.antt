@@ -7,10 +7,11 @@ use native.Mathlib.Omega.{arith}
 use borrow.Author.Needs.{needs}
 use Rattle.ranges.proofs.SplitLaws.{needless-few}
 use Rattle.queue.specs.State.{held}
-use Rattle.flush.specs.Flush.{mayCut, partOf}
-use Rattle.flush.proofs.SplitLaws.{split-facts, split-none, split-some}
-use Rattle.flush.proofs.flush_split.Statement.{statement}
-use Rattle.flush.proofs.flush_split.Tie as tie
+use Rattle.flush.specs.Flush.{partOf}
+use Rattle.splitting.specs.Splitting.{mayCut}
+use Rattle.splitting.proofs.SplitLaws.{split-facts, split-none, split-some}
+use Rattle.splitting.proofs.flush_split.Statement.{statement}
+use Rattle.splitting.proofs.flush_split.Tie as tie
 
 -- past the test the counts allow a split
 told : (c : tie.Then1)

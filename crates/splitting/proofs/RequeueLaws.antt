@@ -17,8 +17,8 @@ use Rattle.ranges.proofs.MergeLaws.{length-merge}
 use Rattle.queue.specs.State.{Queue, pushed}
 use Rattle.worker.specs.declared.Pool.{Pool}
 use Rattle.worker.specs.Pool.{rangesIn}
-use Rattle.flush.specs.Flush.{poolWords, requeued, joinedAfter}
-use Rattle.flush.proofs.PoolLaws.{length-ranges}
+use Rattle.splitting.specs.Splitting.{poolWords, requeued, joinedAfter}
+use Rattle.splitting.proofs.PoolLaws.{length-ranges}
 
 ------------------------------------------------------------------------
 -- What stands past the words does not matter

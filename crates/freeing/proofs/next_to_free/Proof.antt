@@ -5,9 +5,9 @@ use Prim.Native.Nat.{ℕ, _+_, _-_, _*_, _<_, _≤_}
 use lib.ListN.{getD}
 use borrow.Author.Needs.{needs}
 use borrow.Author.Tests.{lt-ltb, le-ltb}
-use Rattle.flush.specs.Flush.{nextToFree}
-use Rattle.flush.proofs.next_to_free.Statement.{statement}
-use Rattle.flush.proofs.next_to_free.Tie as tie
+use Rattle.freeing.specs.Freeing.{nextToFree}
+use Rattle.freeing.proofs.next_to_free.Statement.{statement}
+use Rattle.freeing.proofs.next_to_free.Tie as tie
 
 -- the place is in the merged lists, or past them
 inside : (merged : List ℕ) (w m x : ℕ) → 256 * w + (m - 1) < 4096 → x ≡ getD merged (3 * (256 * w + (m - 1))) 0 → x ≡ nextToFree merged w m

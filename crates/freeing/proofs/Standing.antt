@@ -24,7 +24,7 @@ use Rattle.worker.specs.declared.Doing.the-variants.{
   CloseWithdraw,
   GetShow,
 }
-use Rattle.flush.specs.Flush.{offDoing, standsOn}
+use Rattle.freeing.specs.Freeing.{offDoing, standsOn}
 
 pub moved : (c o r d : ℕ) → d ≡ c → ReadStand r o ≡ offDoing c o (ReadStand r d)
 moved c o r d e = rw (eq-eqb d c e)

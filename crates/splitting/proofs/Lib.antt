@@ -1,0 +1,4 @@
+pub mod PartLaws
+pub mod PoolLaws
+pub mod RequeueLaws
+pub mod SplitLaws
