@@ -6,29 +6,20 @@ use native.Mathlib.Numerals.{add-one}
 use lib.ListN.{length, getD, set}
 use lib.Seq.{set-getD}
 use Rattle.worker.specs.declared.Doing.{Doing}
-use Rattle.worker.specs.declared.Doing.the-variants.{Idle, PutPublish, PutStamp, PutHandIn, FlushTake, FlushRead, FlushFree, OpenAnnounce, OpenPass, ReadEnter, ReadStand, CloseWithdraw, GetShow}
+use Rattle.worker.specs.declared.Stance.{Stance}
+use Rattle.worker.specs.declared.Stance.the-variants.{Nowhere, StandsOn}
+use Rattle.worker.specs.About.{aboutOf}
 use Rattle.worker.specs.declared.Worker.{Worker}
 use Rattle.state.specs.declared.Hub.{Hub}
 use Rattle.state.specs.State.{nobody, atPlace, withWorkersIn}
-use Rattle.freeing.specs.Freeing.{offDoing, standsOn}
+use Rattle.freeing.specs.Freeing.{offTo, offDoing, isOn, standsOn}
 use Rattle.simulation.specs.Shell.{offWorker}
 use Rattle.lists.proofs.Mapped.{mapped, mapped-more}
 
 -- a read that stands elsewhere stays
-stays : (c o : ℕ) (d : Doing) → standsOn d c ≡ false → offDoing c o d ≡ d
-stays c o Idle e = refl
-stays c o (PutPublish r x) e = refl
-stays c o (PutStamp r v) e = refl
-stays c o (PutHandIn r v) e = refl
-stays c o FlushTake e = refl
-stays c o (FlushRead m k) e = refl
-stays c o (FlushFree m) e = refl
-stays c o OpenAnnounce e = refl
-stays c o OpenPass e = refl
-stays c o (ReadEnter r) e = refl
-stays c o (ReadStand r v) e = rw e
-stays c o CloseWithdraw e = refl
-stays c o (GetShow r) e = refl
+stays : (c o : ℕ) (d : Doing) (y : Stance) → isOn c y ≡ false → offTo c o d y ≡ d
+stays c o d Nowhere e = refl
+stays c o d (StandsOn g v) e = rw e
 
 module _ (c o : ℕ) (h₀ h : Hub) (j : ℕ) (e : h ≡ withWorkersIn h₀ (mapped (offWorker c o) j (h₀ .workers))) (sixteen : length (h₀ .workers) ≡ 16) (inside : j < 16) where
   -- worker j's record
@@ -43,4 +34,4 @@ module _ (c o : ℕ) (h₀ h : Hub) (j : ℕ) (e : h ≡ withWorkersIn h₀ (map
   pub move-none : standsOn (y .doing) c ≡ false → h ≡ withWorkersIn h₀ (mapped (offWorker c o) (j + 1) (h₀ .workers))
   move-none f =
       let same : withWorkersIn h (set (h .workers) j (atPlace y (y .doing))) ≡ h = ap (withWorkersIn h) (set-getD (h .workers) j nobody) in
-      sym same ∙ move-one (y .doing) (sym (stays c o (y .doing) f))
+      sym same ∙ move-one (y .doing) (sym (stays c o (y .doing) (aboutOf (y .doing) .stance) f))

@@ -8,7 +8,10 @@ use Rattle.slots.specs.declared.Slot.{Slot}
 use Rattle.arrays.specs.Arrays.{short}
 use Rattle.versions.specs.Versions.{slotAtIn, unlinkedIn}
 use Rattle.worker.specs.declared.Doing.{Doing}
-use Rattle.worker.specs.declared.Doing.the-variants.{Idle, PutPublish, PutStamp, PutHandIn, FlushTake, FlushRead, FlushFree, OpenAnnounce, OpenPass, ReadEnter, ReadStand, CloseWithdraw, GetShow}
+use Rattle.worker.specs.declared.Doing.the-variants.{ReadStand}
+use Rattle.worker.specs.declared.Stance.{Stance}
+use Rattle.worker.specs.declared.Stance.the-variants.{Nowhere, StandsOn}
+use Rattle.worker.specs.About.{aboutOf}
 use Rattle.freeing.specs.declared.Freed.{Freed}
 
 -- the range that is freed next stands last in worker w's part, of m
@@ -30,34 +33,18 @@ freedRow l merged w m = unlinkedIn l (nextToFree merged w m)
 unfoldable pub freedFree : List ℕ → List ℕ → ℕ → ℕ → ℕ → List ℕ
 freedFree free merged w m n = set free n (short (nextToFree merged w m))
 
--- "A read standing on it moves to its older neighbour": from slot c to slot o
-abbrev pub offDoing : ℕ → ℕ → Doing → Doing
-offDoing c o Idle = Idle
-offDoing c o (PutPublish r x) = PutPublish r x
-offDoing c o (PutStamp r d) = PutStamp r d
-offDoing c o (PutHandIn r d) = PutHandIn r d
-offDoing c o FlushTake = FlushTake
-offDoing c o (FlushRead m k) = FlushRead m k
-offDoing c o (FlushFree m) = FlushFree m
-offDoing c o OpenAnnounce = OpenAnnounce
-offDoing c o OpenPass = OpenPass
-offDoing c o (ReadEnter r) = ReadEnter r
-offDoing c o (ReadStand r d) = ReadStand r (cond (eqb d c) o d)
-offDoing c o CloseWithdraw = CloseWithdraw
-offDoing c o (GetShow r) = GetShow r
-
 -- a read stands on slot c
+abbrev pub isOn : ℕ → Stance → Bool
+isOn c Nowhere = false
+isOn c (StandsOn g e) = eqb e c
+
 abbrev pub standsOn : Doing → ℕ → Bool
-standsOn Idle c = false
-standsOn (PutPublish r x) c = false
-standsOn (PutStamp r v) c = false
-standsOn (PutHandIn r v) c = false
-standsOn FlushTake c = false
-standsOn (FlushRead m k) c = false
-standsOn (FlushFree m) c = false
-standsOn OpenAnnounce c = false
-standsOn OpenPass c = false
-standsOn (ReadEnter r) c = false
-standsOn (ReadStand r v) c = eqb v c
-standsOn CloseWithdraw c = false
-standsOn (GetShow r) c = false
+standsOn d c = isOn c (aboutOf d .stance)
+
+-- "A read standing on it moves to its older neighbour": from slot c to slot o
+abbrev pub offTo : ℕ → ℕ → Doing → Stance → Doing
+offTo c o d Nowhere = d
+offTo c o d (StandsOn g e) = cond (eqb e c) (ReadStand g o) d
+
+abbrev pub offDoing : ℕ → ℕ → Doing → Doing
+offDoing c o d = offTo c o d (aboutOf d .stance)

@@ -4,6 +4,7 @@ ghost use Prim.Native.Nat.{_<_};
 ghost use Rattle.versions.specs.Versions.{rowOf};
 ghost use Rattle.freeing.specs.Freeing.{nextToFree, oneMore, freedStep, freedRow, freedFree, offDoing, standsOn};
 use worker::Doing;
+use worker::Stance;
 
 // The slot that is freed, its older neighbour, and how many slots are free then.
 pub struct Freed {
@@ -68,21 +69,27 @@ pub fn flush_free(
 pub fn stands_on(d: Doing, c: u16) -> bool
     ensures { λ r. ⌜ r ≡ standsOn d c ⌝ }
 {
-    if let Doing::ReadStand { register: _, slot } = d {
-        return slot == c;
+    let y = worker::about(d);
+    let on = y.stance;
+    match on {
+        Stance::Nowhere => false,
+        Stance::StandsOn { goal: _, slot } => slot == c,
     }
-    false
 }
 
 // A read that stands on slot c moves to slot o.
 pub fn off(d: Doing, c: u16, o: u16) -> Doing
     ensures { λ r. ⌜ r ≡ offDoing c o d ⌝ }
 {
-    if let Doing::ReadStand { register, slot } = d {
-        if slot == c {
-            return Doing::ReadStand { register, slot: o };
+    let y = worker::about(d);
+    let on = y.stance;
+    match on {
+        Stance::Nowhere => d,
+        Stance::StandsOn { goal, slot } => {
+            if slot == c {
+                return Doing::ReadStand { goal, slot: o };
+            }
+            d
         }
-        return d;
     }
-    d
 }

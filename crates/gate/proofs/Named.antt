@@ -7,13 +7,14 @@ use lib.Dec.{ltb}
 use borrow.Author.Tests.{ltb-true}
 use Rattle.worker.specs.declared.Announced.{Announced}
 use Rattle.worker.specs.declared.Doing.{Doing}
+use Rattle.worker.specs.About.{aboutOf}
 use Rattle.record.specs.declared.Operation.{Operation}
 use Rattle.record.specs.declared.Command.the-variants.{SetUp, Begin, Step}
 use Rattle.record.specs.declared.Decoded.{Decoded}
 use Rattle.record.specs.declared.Decoded.the-variants.{Asks, Refuses}
 use Rattle.gate.specs.declared.Gate.{Gate}
 use Rattle.gate.specs.declared.Gate.the-variants.{Refuse, Make, Start, Go}
-use Rattle.gate.specs.Gate.{firstPlaceOf, idleOf, registerOk, openOk, timeOk, beginGate, sizesOk, gateOf, whoOf}
+use Rattle.gate.specs.Gate.{termsOf, registerOk, openOk, timeOk, beginGate, sizesOk, gateOf, whoOf}
 
 -- what a gate says of the worker w that the record names
 abbrev pub Named : Bool → ℕ → ℕ → ℕ → Gate → Type 0
@@ -45,9 +46,9 @@ named (Asks (SetUp x y n k)) true p v long d t = tt
 named (Asks (SetUp x y n k)) false p v long d t = named-make 0 p long x y n k (sizesOk x y n k long) refl
 named (Asks (Begin w o)) false p v long d t = tt
 named (Asks (Begin w o)) true p v long d t =
-    named-worker w p long
-    (cond (registerOk o v) (cond (idleOf d) (cond (openOk o t) (cond (timeOk o t) (Start w (firstPlaceOf o)) (Refuse 13)) (Refuse 12)) (Refuse 10)) (Refuse 4))
-    (λ h. named-begin w p long (firstPlaceOf o) h (registerOk o v) (idleOf d) (openOk o t) (timeOk o t)) (ltb w p) refl
+    let x = termsOf o in
+    named-worker w p long _
+    (λ h. named-begin w p long (x .first) h (registerOk (x .register) v) (aboutOf d .idle) (openOk (x .time) t) (timeOk (x .time) t)) (ltb w p) refl
 named (Asks (Step w)) false p v long d t = tt
 named (Asks (Step w)) true p v long d t = named-worker w p long (Go w) (λ h. (refl, refl, h)) (ltb w p) refl
 

@@ -1,19 +1,26 @@
 -- What is decided before a record is carried out: the refusal that it meets, or what is to be done.
-use mathlib.Core.Bool.{Bool, true, false, cond, _&&_}
+use mathlib.Core.Bool.{Bool, true, false, cond, not, _&&_}
 use mathlib.Core.List.{List}
 use Prim.Native.Nat.{ℕ}
 use lib.Dec.{ltb, leb}
 use Rattle.model.specs.Record as Model
 use Rattle.worker.specs.declared.Announced.{Announced}
-use Rattle.worker.specs.declared.Announced.the-variants.{Nothing, At}
+use Rattle.worker.specs.declared.Announced.the-variants.{Nothing as NoTime, At}
 use Rattle.worker.specs.declared.Doing.{Doing}
-use Rattle.worker.specs.declared.Doing.the-variants.{Idle, PutPublish, PutStamp, PutHandIn, FlushTake, FlushRead, FlushFree, OpenAnnounce, OpenPass, ReadEnter, ReadStand, CloseWithdraw, GetShow}
+use Rattle.worker.specs.declared.Doing.the-variants.{PutPublish, FlushTake, OnTime, ReadEnter, GetShow}
+use Rattle.worker.specs.declared.TimeStep.the-variants.{OpenAnnounce, CloseWithdraw}
+use Rattle.worker.specs.declared.Named.{Named}
+use Rattle.worker.specs.declared.Named.the-variants.{Nothing, Is}
+use Rattle.worker.specs.About.{aboutOf}
 use Rattle.record.specs.declared.Operation.{Operation}
 use Rattle.record.specs.declared.Operation.the-variants.{Put, Open, Read, Close, Get, Collect}
 use Rattle.record.specs.declared.Command.{Command}
 use Rattle.record.specs.declared.Command.the-variants.{SetUp, Begin, Step}
 use Rattle.record.specs.declared.Decoded.{Decoded}
 use Rattle.record.specs.declared.Decoded.the-variants.{Asks, Refuses}
+use Rattle.gate.specs.declared.TimeNeed.{TimeNeed}
+use Rattle.gate.specs.declared.TimeNeed.the-variants.{Any, Absent, Own}
+use Rattle.gate.specs.declared.Terms.{Terms}
 use Rattle.gate.specs.declared.Gate.{Gate}
 use Rattle.gate.specs.declared.Gate.the-variants.{Refuse, Make, Start, Go}
 
@@ -47,74 +54,45 @@ decodedIn b = decodedRep (Model.decode b)
 ------------------------------------------------------------------------
 -- Refusals
 
--- the place at which an operation begins
-abbrev pub firstPlaceOf : Operation → Doing
-firstPlaceOf (Put r x) = PutPublish r x
-firstPlaceOf Open = OpenAnnounce
-firstPlaceOf (Read r) = ReadEnter r
-firstPlaceOf Close = CloseWithdraw
-firstPlaceOf (Get r) = GetShow r
-firstPlaceOf Collect = FlushTake
+-- The terms on which an operation begins: the model's `terms` in this code's types.
+abbrev pub termsOf : Operation → Terms
+termsOf (Put r x) = record { register = Is r; time = Any; first = PutPublish r x }
+termsOf Open = record { register = Nothing; time = Absent; first = OnTime OpenAnnounce }
+termsOf (Read r) = record { register = Is r; time = Own; first = ReadEnter (record { register = r }) }
+termsOf Close = record { register = Nothing; time = Own; first = OnTime CloseWithdraw }
+termsOf (Get r) = record { register = Is r; time = Any; first = GetShow r }
+termsOf Collect = record { register = Nothing; time = Any; first = FlushTake }
 
--- 10: the worker does nothing
-abbrev pub idleOf : Doing → Bool
-idleOf Idle = true
-idleOf (PutPublish r x) = false
-idleOf (PutStamp r c) = false
-idleOf (PutHandIn r c) = false
-idleOf FlushTake = false
-idleOf (FlushRead m k) = false
-idleOf (FlushFree m) = false
-idleOf OpenAnnounce = false
-idleOf OpenPass = false
-idleOf (ReadEnter r) = false
-idleOf (ReadStand r c) = false
-idleOf CloseWithdraw = false
-idleOf (GetShow r) = false
+-- 4: the register, if there is one, is below v
+abbrev pub registerOk : Named → ℕ → Bool
+registerOk Nothing v = true
+registerOk (Is r) v = ltb r v
 
--- 4: the register that the operation names, if any, is below v
-abbrev pub registerOk : Operation → ℕ → Bool
-registerOk (Put r x) v = ltb r v
-registerOk Open v = true
-registerOk (Read r) v = ltb r v
-registerOk Close v = true
-registerOk (Get r) v = ltb r v
-registerOk Collect v = true
-
--- no time is announced
-abbrev pub absentTime : Announced → Bool
-absentTime Nothing = true
-absentTime (At a) = false
+-- a time is announced
+abbrev pub hasTime : Announced → Bool
+hasTime NoTime = false
+hasTime (At a) = true
 
 -- 12: only an open asks that no time is announced
-abbrev pub openOk : Operation → Announced → Bool
-openOk (Put r x) t = true
-openOk Open t = absentTime t
-openOk (Read r) t = true
-openOk Close t = true
-openOk (Get r) t = true
-openOk Collect t = true
-
--- the operations that do not ask for an announced time
-abbrev pub withoutTime : Operation → Bool
-withoutTime (Put r x) = true
-withoutTime Open = true
-withoutTime (Read r) = false
-withoutTime Close = false
-withoutTime (Get r) = true
-withoutTime Collect = true
+abbrev pub openOk : TimeNeed → Announced → Bool
+openOk Any t = true
+openOk Absent t = not (hasTime t)
+openOk Own t = true
 
 -- 13: only a read and a close ask that a time is announced
-abbrev pub timeOk : Operation → Announced → Bool
-timeOk o t = cond (absentTime t) (withoutTime o) true
+abbrev pub timeOk : TimeNeed → Announced → Bool
+timeOk Any t = true
+timeOk Absent t = true
+timeOk Own t = hasTime t
 
 -- the refusals of a begin in their order: 3, 4, 10, 12, 13
 unfoldable pub beginGate : ℕ → ℕ → ℕ → Operation → Doing → Announced → Gate
 beginGate p v w o d t =
+    let x = termsOf o in
     cond (ltb w p)
-    (cond (registerOk o v)
-    (cond (idleOf d)
-    (cond (openOk o t) (cond (timeOk o t) (Start w (firstPlaceOf o)) (Refuse 13)) (Refuse 12))
+    (cond (registerOk (x .register) v)
+    (cond (aboutOf d .idle)
+    (cond (openOk (x .time) t) (cond (timeOk (x .time) t) (Start w (x .first)) (Refuse 13)) (Refuse 12))
     (Refuse 10))
     (Refuse 4))
     (Refuse 3)

@@ -1,12 +1,15 @@
 // What is decided before a record is carried out: which refusal it meets, or what is to be done.
 ghost use mathlib.Core.Path.{_≡_};
 ghost use Prim.Native.Nat.{_≤_};
-ghost use Rattle.gate.specs.Gate.{firstPlaceOf, idleOf, registerOk, openOk, timeOk, beginGate, sizesOk, gateOf, whoOf};
+ghost use Rattle.gate.specs.Gate.{termsOf, registerOk, hasTime, openOk, timeOk, beginGate, sizesOk, gateOf, whoOf};
 use record::Command;
 use record::Decoded;
 use record::Operation;
 use worker::Announced;
 use worker::Doing;
+use worker::Goal;
+use worker::Named;
+use worker::TimeStep;
 
 // What is to be done with a record.
 pub enum Gate {
@@ -32,112 +35,98 @@ fn wide16(x: u16) -> usize
     x as usize
 }
 
-// The place at which an operation begins.
-fn first_place(o: Operation) -> Doing
-    ensures { λ r. ⌜ r ≡ firstPlaceOf o ⌝ }
+// What an operation asks of the announced time: nothing; that there is none, else 12; that there is one, else 13.
+pub enum TimeNeed {
+    Any,
+    Absent,
+    Own,
+}
+
+// The terms on which an operation begins: the register that it names, what it asks of the announced time, and its first place.
+pub struct Terms {
+    pub register: Named,
+    pub time: TimeNeed,
+    pub first: Doing,
+}
+
+// An operation is taken apart here.
+fn terms_of(o: Operation) -> Terms
+    ensures { λ r. ⌜ r ≡ termsOf o ⌝ }
 {
     match o {
-        Operation::Put { register, reading } => {
-            return Doing::PutPublish { register, reading };
-        }
-        Operation::Open => {
-            return Doing::OpenAnnounce;
-        }
-        Operation::Read { register } => {
-            return Doing::ReadEnter { register };
-        }
-        Operation::Close => {
-            return Doing::CloseWithdraw;
-        }
-        Operation::Get { register } => {
-            return Doing::GetShow { register };
-        }
-        Operation::Collect => {
-            return Doing::FlushTake;
-        }
+        Operation::Put { register, reading } => Terms {
+            register: Named::Is(register),
+            time: TimeNeed::Any,
+            first: Doing::PutPublish { register, reading },
+        },
+        Operation::Open => Terms {
+            register: Named::Nothing,
+            time: TimeNeed::Absent,
+            first: Doing::OnTime(TimeStep::OpenAnnounce),
+        },
+        Operation::Read { register } => Terms {
+            register: Named::Is(register),
+            time: TimeNeed::Own,
+            first: Doing::ReadEnter {
+                goal: Goal { register },
+            },
+        },
+        Operation::Close => Terms {
+            register: Named::Nothing,
+            time: TimeNeed::Own,
+            first: Doing::OnTime(TimeStep::CloseWithdraw),
+        },
+        Operation::Get { register } => Terms {
+            register: Named::Is(register),
+            time: TimeNeed::Any,
+            first: Doing::GetShow { register },
+        },
+        Operation::Collect => Terms {
+            register: Named::Nothing,
+            time: TimeNeed::Any,
+            first: Doing::FlushTake,
+        },
     }
 }
 
-fn is_idle(d: Doing) -> bool
-    ensures { λ r. ⌜ r ≡ idleOf d ⌝ }
+// 4: the register, if there is one, is below v.
+fn register_ok(r: Named, v: usize) -> bool
+    ensures { λ y. ⌜ y ≡ registerOk r v ⌝ }
 {
-    if let Doing::Idle = d {
-        return true;
+    match r {
+        Named::Nothing => true,
+        Named::Is(i) => wide16(i) < v,
     }
-    false
 }
 
-// 4: the operation's register, if it names one, is below v.
-fn register_ok(o: Operation, v: usize) -> bool
-    ensures { λ r. ⌜ r ≡ registerOk o v ⌝ }
+fn has_time(t: Announced) -> bool
+    ensures { λ y. ⌜ y ≡ hasTime t ⌝ }
 {
-    match o {
-        Operation::Put {
-            register,
-            reading: _,
-        } => {
-            return wide16(register) < v;
-        }
-        Operation::Open => {
-            return true;
-        }
-        Operation::Read { register } => {
-            return wide16(register) < v;
-        }
-        Operation::Close => {
-            return true;
-        }
-        Operation::Get { register } => {
-            return wide16(register) < v;
-        }
-        Operation::Collect => {
-            return true;
-        }
+    match t {
+        Announced::Nothing => false,
+        Announced::At(_) => true,
     }
 }
 
 // 12: only an open asks that no time is announced.
-fn open_ok(o: Operation, t: Announced) -> bool
-    ensures { λ r. ⌜ r ≡ openOk o t ⌝ }
+fn open_ok(x: TimeNeed, t: Announced) -> bool
+    ensures { λ y. ⌜ y ≡ openOk x t ⌝ }
 {
-    if let Operation::Open = o {
-        if let Announced::At(_) = t {
-            return false;
-        }
-        return true;
+    match x {
+        TimeNeed::Any => true,
+        TimeNeed::Absent => !has_time(t),
+        TimeNeed::Own => true,
     }
-    true
 }
 
 // 13: only a read and a close ask that a time is announced.
-fn time_ok(o: Operation, t: Announced) -> bool
-    ensures { λ r. ⌜ r ≡ timeOk o t ⌝ }
+fn time_ok(x: TimeNeed, t: Announced) -> bool
+    ensures { λ y. ⌜ y ≡ timeOk x t ⌝ }
 {
-    if let Announced::At(_) = t {
-        return true;
-    }
-    match o {
-        Operation::Read { register: _ } => {
-            return false;
-        }
-        Operation::Close => {
-            return false;
-        }
-        Operation::Put {
-            register: _,
-            reading: _,
-        } => {
-            return true;
-        }
-        Operation::Open => {
-            return true;
-        }
-        Operation::Get { register: _ } => {
-            return true;
-        }
-        Operation::Collect => {
-            return true;
-        }
+    match x {
+        TimeNeed::Any => true,
+        TimeNeed::Absent => true,
+        TimeNeed::Own => has_time(t),
     }
 }
 
@@ -145,12 +134,16 @@ fn time_ok(o: Operation, t: Announced) -> bool
 fn begin(p: usize, v: usize, worker: u8, o: Operation, d: Doing, t: Announced) -> Gate
     ensures { λ r. ⌜ r ≡ beginGate p v worker o d t ⌝ }
 {
+    let x = terms_of(o);
+    let register = x.register;
+    let need = x.time;
+    let doing = x.first;
     if wide8(worker) < p {
-        if register_ok(o, v) {
-            if is_idle(d) {
-                if open_ok(o, t) {
-                    if time_ok(o, t) {
-                        let doing = first_place(o);
+        if register_ok(register, v) {
+            let place = worker::about(d);
+            if place.idle {
+                if open_ok(need, t) {
+                    if time_ok(need, t) {
                         return Gate::Start { worker, doing };
                     }
                     return Gate::Refuse(13);

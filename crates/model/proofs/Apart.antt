@@ -43,19 +43,44 @@ module _ {now : ℕ} {s : Store} {olds : List (List ℕ)} {h : List Call} {o : L
   pub chain-once : (r : ℕ) → r < s .site .V' → (c : ℕ) → occurrences c (chain (ctx s olds) r) + occurrences c (s .free) ≤ 1
   unfolding occurrences
   chain-once r b c =
-      omega (arith, I .once c, I .pendingOld c, below≤1 c (s .site .N), times-one (s .newest) r c (omega (arith, I .newestLength)), sumBy-one (occurrences c) olds r [] (omega (arith, I .oldsLength)))
+      omega (
+        arith,
+        I .once c,
+        I .pendingOld c,
+        below≤1 c (s .site .N),
+        times-one (s .newest) r c (omega (arith, I .newestLength)),
+        sumBy-one
+            (occurrences c) olds r [] (omega (arith, I .oldsLength)),
+      )
 
   pub chain-in : (r : ℕ) → r < s .site .V' → (c : ℕ) → 0 < occurrences c (chain (ctx s olds) r) → c < length (s .slots)
   unfolding occurrences
   chain-in r b c z =
-      let q : c < s .site .N = below-in c (s .site .N) (omega (arith, I .once c, I .pendingOld c, times-one (s .newest) r c (omega (arith, I .newestLength)), sumBy-one (occurrences c) olds r [] (omega (arith, I .oldsLength)))) in
+      let q : c < s .site .N = below-in c (s .site .N)
+      (omega (
+        arith,
+        I .once c,
+        I .pendingOld c,
+        times-one (s .newest) r c (omega (arith, I .newestLength)),
+        sumBy-one (occurrences c) olds r []
+            (omega (arith, I .oldsLength)),
+      )) in
       omega (arith, I .slotsLength)
 
   -- and in no other's
-  pub chain-apart : (r q : ℕ) → r < s .site .V' → q < s .site .V' → r ≢ q → (c : ℕ) → 0 < occurrences c (chain (ctx s olds) r) → occurrences c (chain (ctx s olds) q) ≡ 0
+  pub chain-apart : (r q : ℕ) → r < s .site .V' → q < s .site .V' → r ≢ q → (c : ℕ) → 0 < occurrences c (chain (ctx s olds) r)
+      → occurrences c (chain (ctx s olds) q) ≡ 0
   unfolding occurrences
   chain-apart r q b d n c z =
-      omega (arith, I .once c, I .pendingOld c, below≤1 c (s .site .N), times-two (s .newest) r q c (omega (arith, I .newestLength)) (omega (arith, I .newestLength)) n, sumBy-two (occurrences c) olds r q [] (omega (arith, I .oldsLength)) (omega (arith, I .oldsLength)) n)
+      omega (
+        arith,
+        I .once c,
+        I .pendingOld c,
+        below≤1 c (s .site .N),
+        times-two (s .newest) r q c (omega (arith, I .newestLength))
+            (omega (arith, I .newestLength)) n,
+        sumBy-two (occurrences c) olds r q [] (omega (arith, I .oldsLength)) (omega (arith, I .oldsLength)) n,
+      )
 
   pub free-in : (c : ℕ) → 0 < occurrences c (s .free) → c < length (s .slots)
   free-in c z = let q : c < s .site .N = below-in c (s .site .N) (omega (arith, I .once c)) in omega (arith, I .slotsLength)
@@ -65,4 +90,5 @@ module _ {now : ℕ} {s : Store} {olds : List (List ℕ)} {h : List Call} {o : L
   pend-chain c z = let q = sumBy-some (occurrences c) olds [] (omega (arith, I .pendingOld c)) in (q .0, omega (arith, q .1, I .oldsLength), q .2)
 
   pub pend-top : (c r : ℕ) → r < s .site .V' → 0 < pend c (s .workers) (s .queue) → c ≢ newestOf s r
-  pend-top c r b z e = omega (arith, I .once c, below≤1 c (s .site .N), times-one (s .newest) r c (omega (arith, I .newestLength)), hit-eq (newestOf s r) c (sym e))
+  pend-top c r b z e =
+      omega (arith, I .once c, below≤1 c (s .site .N), times-one (s .newest) r c (omega (arith, I .newestLength)), hit-eq (newestOf s r) c (sym e))

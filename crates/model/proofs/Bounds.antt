@@ -8,20 +8,22 @@ use native.Mathlib.Omega.{arith}
 use lib.Dec.{ltb, leb, eqb}
 use lib.ListN.{length, set, take, drop, length-append, length-take, length-drop}
 use borrow.Author.Tests as Tests
-use Rattle.model.specs.Store.{absent, Reading, Range, Doing, Idle, PutPublish, PutStamp, PutHandIn, FlushTake, FlushRead, FlushFree, OpenAnnounce, OpenPass, ReadEnter, ReadStand, CloseWithdraw, GetShow, Worker, startWorker, Store, workerAt, slotAt, rangeOf, withWorker, withDoing, place}
+use Rattle.model.specs.Store.{OnTime, absent, Reading, Range, OpenAnnounce, OpenPass, CloseWithdraw, Doing, Idle, PutPublish, PutStamp, PutHandIn, FlushTake, FlushRead, FlushFree, OnTime, ReadEnter, ReadStand, GetShow, Worker, startWorker, Store, workerAt, slotAt, rangeOf, withWorker, withDoing, place}
 use Rattle.model.specs.Answer.{Stepped}
 use Rattle.model.specs.Versions.{stamp}
 use Rattle.model.specs.Ranges.{needed, filter, mergeInto, merge, firstTwo, neededPools, joining, queuedPool}
-use Rattle.model.specs.Steps.{putPublish, putStamp, putHandIn, flushTake, readTimes, flushSplit, flushRead, moveOff, workerOff, flushFree, openAnnounce, openPass, readEnter, readStand, getShow, closeWithdraw, stepAt}
+use Rattle.model.specs.Steps.{putPublish, putStamp, putHandIn, flushTake, readTimes, flushSplit, flushRead, moveOff, workerOff, flushFree, openAnnounce, openPass, readEnter, readStand, getShow, closeWithdraw, timeStep, stepAt}
 use Rattle.model.specs.Record.{Operation, Put, Open, Read, Close, Get, Collect}
-use Rattle.model.specs.Apply.{firstPlace}
+use Rattle.model.specs.Apply.{terms}
 use Rattle.model.specs.Demand.{All}
+use Rattle.model.proofs.View.{off-keeps}
 use Rattle.model.proofs.Basic.{cond-both, All-append, All-nth, All-set, All-drop, All-through}
 
 ------------------------------------------------------------------------
 -- Lengths
 
-len-mergeInto : (a : Range) (rest : List Range → List Range) (n : ℕ) → ((b : List Range) → length (rest b) ≡ n + length b) → (b : List Range) → length (mergeInto a rest b) ≡ 1 + n + length b
+len-mergeInto : (a : Range) (rest : List Range → List Range) (n : ℕ) → ((b : List Range) → length (rest b) ≡ n + length b) → (b : List Range)
+    → length (mergeInto a rest b) ≡ 1 + n + length b
 unfolding mergeInto
 len-mergeInto a rest n e [] = omega (arith, e [])
 len-mergeInto a rest n e (b ∷ bs) =
@@ -36,7 +38,9 @@ len-merge (x ∷ a) b = omega (arith, len-mergeInto x (merge a) (length a) (len-
 len-filter : (p : Range → Bool) (l : List Range) → length (filter p l) ≤ length l
 unfolding filter
 len-filter p [] = omega arith
-len-filter p (x ∷ l) = cond-both (λ q. length q ≤ suc (length l)) (p x) (x ∷ filter p l) (filter p l) (λ u. omega (arith, len-filter p l)) (λ u. omega (arith, len-filter p l))
+len-filter p (x ∷ l) =
+    cond-both (λ q. length q ≤ suc (length l)) (p x) (x ∷ filter p l) (filter p l) (λ u. omega (arith, len-filter p l))
+    (λ u. omega (arith, len-filter p l))
 
 abbrev Short : ℕ → List Range → Type 0
 Short n l = length l ≤ n
@@ -90,31 +94,16 @@ module _ (b : ℕ) where
   Fit n FlushTake = n ≤ b
   Fit n (FlushRead m ts) = (n ≤ b) × (length m ≤ 4 * b)
   Fit n (FlushFree m) = (n < b) × (length m ≤ 4 * b)
-  Fit n OpenAnnounce = n < b
-  Fit n OpenPass = n < b
-  Fit n (ReadEnter r) = n < b
-  Fit n (ReadStand r c) = n < b
-  Fit n CloseWithdraw = n < b
+  Fit n (OnTime y) = n < b
+  Fit n (ReadEnter g) = n < b
+  Fit n (ReadStand g c) = n < b
   Fit n (GetShow r) = n < b
 
   abbrev pub FitW : Worker → Type 0
   FitW y = Fit (length (y .pool)) (y .doing)
 
   fit-off : (c o n : ℕ) (d : Doing) → Fit n d → Fit n (moveOff c o d)
-  unfolding moveOff
-  fit-off c o n Idle a = a
-  fit-off c o n (PutPublish r y) a = a
-  fit-off c o n (PutStamp r e) a = a
-  fit-off c o n (PutHandIn r e) a = a
-  fit-off c o n FlushTake a = a
-  fit-off c o n (FlushRead m ts) a = a
-  fit-off c o n (FlushFree m) a = a
-  fit-off c o n OpenAnnounce a = a
-  fit-off c o n OpenPass a = a
-  fit-off c o n (ReadEnter r) a = a
-  fit-off c o n (ReadStand r e) a = a
-  fit-off c o n CloseWithdraw a = a
-  fit-off c o n (GetShow r) a = a
+  fit-off c o n = off-keeps (Fit n) (λ g e e′ a. a) c o
 
 pub record Within (b : ℕ) (s : Store) : Type 0 where
   pub workers : All (FitW b) (s .workers)
@@ -140,7 +129,7 @@ module _ (s : Store) (pos : 0 < s .site .B) (W : Within (s .site .B) s) (w : ℕ
   put-within r y e (f ∷ fs) = record { workers = to (withDoing (workerAt s w) (PutStamp r _)) (own (PutPublish r y) e); pools = W .pools }
 
   pub step-within : (d : Doing) → workerAt s w .doing ≡ d → Within b (stepAt s w d .store)
-  unfolding stepAt putStamp putHandIn flushTake flushRead flushSplit flushFree openAnnounce openPass readEnter readStand getShow closeWithdraw stamp workerOff
+  unfolding stepAt timeStep putStamp putHandIn flushTake flushRead flushSplit flushFree openAnnounce openPass readEnter readStand getShow closeWithdraw stamp workerOff
   step-within Idle e = W
   step-within (PutPublish r y) e = put-within r y e (s .free)
   step-within (PutStamp r c) e =
@@ -153,9 +142,19 @@ module _ (s : Store) (pos : 0 < s .site .B) (W : Within (s .site .B) s) (w : ℕ
       len = length-append (workerAt s w .pool) (rangeOf s c ∷ [])
 
       go : (full : Bool) → eqb (length (workerAt s w .pool ++ (rangeOf s c ∷ []))) b ≡ full
-          → Within b (withWorker s w (record { doing = cond full FlushTake Idle; announced = workerAt s w .announced; pool = workerAt s w .pool ++ (rangeOf s c ∷ []) }))
+          → Within b (withWorker s w (record {
+            doing = cond full FlushTake Idle;
+            announced = workerAt s w .announced;
+            pool = workerAt s w .pool
+                ++ (rangeOf s c ∷ []);
+          }))
       go true u = record { workers = to _ (omega (arith, len, own (PutHandIn r c) e)); pools = W .pools }
-      go false u = record { workers = to _ (let ne : length (workerAt s w .pool ++ (rangeOf s c ∷ [])) ≢ b = Tests.eqb-false (length (workerAt s w .pool ++ (rangeOf s c ∷ []))) b u in omega (arith, len, own (PutHandIn r c) e)); pools = W .pools }
+      go false u =
+          record {
+            workers = to _ (let ne : length (workerAt s w .pool ++ (rangeOf s c ∷ [])) ≢ b = Tests.eqb-false
+                (length (workerAt s w .pool ++ (rangeOf s c ∷ []))) b u in omega (arith, len, own (PutHandIn r c) e));
+            pools = W .pools;
+          }
   step-within FlushTake e =
       record {
         workers = to (withDoing (workerAt s w) (FlushRead (firstTwo (s .queue)) [])) (own FlushTake e, len-firstTwo b (s .queue) (W .pools));
@@ -163,12 +162,18 @@ module _ (s : Store) (pos : 0 < s .site .B) (W : Within (s .site .B) s) (w : ℕ
       }
   step-within (FlushRead m ts) e =
       cond-both (λ (q : Stepped). Within b (q .store)) (ltb (length ts) (s .site .P)) _ _
-      (λ u. record { workers = to (withDoing (workerAt s w) (FlushRead m (ts ++ readTimes s (length ts)))) (own (FlushRead m ts) e); pools = W .pools })
+      (λ u. record {
+        workers = to (withDoing (workerAt s w) (FlushRead m (ts ++ readTimes s (length ts))))
+            (own (FlushRead m ts) e);
+        pools = W .pools;
+      })
       (λ u.
       let a = own (FlushRead m ts) e in
       let stay = filter (needed ts) m in
       record {
-        workers = to (record { doing = FlushFree (filter (λ ρ. not (needed ts ρ)) m); announced = workerAt s w .announced; pool = [] }) (pos, omega (arith, a .1, len-filter (λ ρ. not (needed ts ρ)) m));
+        workers =
+            to (record { doing = FlushFree (filter (λ ρ. not (needed ts ρ)) m); announced = workerAt s w .announced; pool = [] })
+            (pos, omega (arith, a .1, len-filter (λ ρ. not (needed ts ρ)) m));
         pools =
             All-append (Sized (2 * b)) (s .queue ++ neededPools b stay) _
             (All-append (Sized (2 * b)) (s .queue) _ (W .pools) (needed-sized b pos stay (omega (arith, a .1, len-filter (needed ts) m))))
@@ -179,28 +184,37 @@ module _ (s : Store) (pos : 0 < s .site .B) (W : Within (s .site .B) s) (w : ℕ
       let a = own (FlushFree (ρ ∷ l)) e in
       record {
         workers =
-            All-through (FitW b) (workerOff (ρ .slot) (slotAt s (ρ .slot) .older)) (λ y z. fit-off b (ρ .slot) (slotAt s (ρ .slot) .older) (length (y .pool)) (y .doing) z)
+            All-through (FitW b) (workerOff (ρ .slot) (slotAt s (ρ .slot) .older))
+            (λ y z. fit-off b (ρ .slot) (slotAt s (ρ .slot) .older) (length (y .pool)) (y .doing) z)
             (set (s .workers) w (withDoing (workerAt s w) (FlushFree l))) (to (withDoing (workerAt s w) (FlushFree l)) (a .0, omega (arith, a .1)));
         pools = W .pools;
       }
-  step-within OpenAnnounce e =
+  step-within (OnTime OpenAnnounce) e =
       cond-both (λ (q : Stepped). Within b (q .store)) (eqb (s .clock) 4294967295) _ _
-      (λ u. record { workers = to (withDoing (workerAt s w) Idle) (own OpenAnnounce e); pools = W .pools })
-      (λ u. record { workers = to (record { doing = OpenPass; announced = s .clock; pool = workerAt s w .pool }) (own OpenAnnounce e); pools = W .pools })
-  step-within OpenPass e = record { workers = to (withDoing (workerAt s w) Idle) (own OpenPass e); pools = W .pools }
-  step-within (ReadEnter r) e = record { workers = to (withDoing (workerAt s w) (ReadStand r _)) (own (ReadEnter r) e); pools = W .pools }
-  step-within (ReadStand r c) e =
+      (λ u. record { workers = to (withDoing (workerAt s w) Idle) (own (OnTime OpenAnnounce) e); pools = W .pools })
+      (λ u. record {
+        workers = to (record { doing = OnTime OpenPass; announced = s .clock; pool = workerAt s w .pool })
+            (own (OnTime OpenAnnounce) e);
+        pools = W .pools;
+      })
+  step-within (OnTime OpenPass) e = record { workers = to (withDoing (workerAt s w) Idle) (own (OnTime OpenPass) e); pools = W .pools }
+  step-within (ReadEnter g) e = record { workers = to (withDoing (workerAt s w) (ReadStand g _)) (own (ReadEnter g) e); pools = W .pools }
+  step-within (ReadStand g c) e =
       cond-both (λ (q : Stepped). Within b (q .store)) (leb (slotAt s c .low) (workerAt s w .announced)) _ _
-      (λ u. record { workers = to (withDoing (workerAt s w) Idle) (own (ReadStand r c) e); pools = W .pools })
-      (λ u. record { workers = to (withDoing (workerAt s w) (ReadStand r (slotAt s c .older))) (own (ReadStand r c) e); pools = W .pools })
-  step-within CloseWithdraw e = record { workers = to (record { doing = Idle; announced = absent; pool = workerAt s w .pool }) (own CloseWithdraw e); pools = W .pools }
+      (λ u. record { workers = to (withDoing (workerAt s w) Idle) (own (ReadStand g c) e); pools = W .pools })
+      (λ u. record { workers = to (withDoing (workerAt s w) (ReadStand g (slotAt s c .older))) (own (ReadStand g c) e); pools = W .pools })
+  step-within (OnTime CloseWithdraw) e =
+      record {
+        workers = to (record { doing = Idle; announced = absent; pool = workerAt s w .pool })
+            (own (OnTime CloseWithdraw) e);
+        pools = W .pools;
+      }
   step-within (GetShow r) e = record { workers = to (withDoing (workerAt s w) Idle) (own (GetShow r) e); pools = W .pools }
 
-  pub begin-within : (c : Operation) → workerAt s w .doing ≡ Idle → Within b (place s w (firstPlace c))
-  unfolding firstPlace
+  pub begin-within : (c : Operation) → workerAt s w .doing ≡ Idle → Within b (place s w (terms c .first))
   begin-within (Put r y) e = record { workers = to (withDoing (workerAt s w) (PutPublish r y)) (own Idle e); pools = W .pools }
-  begin-within Open e = record { workers = to (withDoing (workerAt s w) OpenAnnounce) (own Idle e); pools = W .pools }
-  begin-within (Read r) e = record { workers = to (withDoing (workerAt s w) (ReadEnter r)) (own Idle e); pools = W .pools }
-  begin-within Close e = record { workers = to (withDoing (workerAt s w) CloseWithdraw) (own Idle e); pools = W .pools }
+  begin-within Open e = record { workers = to (withDoing (workerAt s w) (OnTime OpenAnnounce)) (own Idle e); pools = W .pools }
+  begin-within (Read r) e = record { workers = to (withDoing (workerAt s w) (ReadEnter _)) (own Idle e); pools = W .pools }
+  begin-within Close e = record { workers = to (withDoing (workerAt s w) (OnTime CloseWithdraw)) (own Idle e); pools = W .pools }
   begin-within (Get r) e = record { workers = to (withDoing (workerAt s w) (GetShow r)) (own Idle e); pools = W .pools }
   begin-within Collect e = record { workers = to (withDoing (workerAt s w) FlushTake) (omega (arith, own Idle e)); pools = W .pools }

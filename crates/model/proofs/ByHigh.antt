@@ -1,7 +1,7 @@
 -- Every pool, and every list that a flush has in hand, is sorted by high: each record keeps it. Merging, splitting and halving keep a list sorted. A
 -- put (3) appends the version that it covers: when the put covered it, its high was open, so above every high of the pool; the high is closed once,
 -- by the clock, and no high of a pool is above the clock.
-use mathlib.Core.Path.{_≡_, refl, ap, _∙_, subst}
+use mathlib.Core.Path.{_≡_, refl, sym, ap, _∙_, subst}
 use mathlib.Core.Bool.{Bool, true, false, not, cond}
 use mathlib.Core.Logic.{_⊎_, inl, inr, ⊎-elim}
 use mathlib.Core.List.{List, [], _∷_, _++_}
@@ -11,16 +11,18 @@ use lib.Dec.{ltb, leb, eqb}
 use lib.ListN.{length, getD, set, take, drop, replicate}
 use lib.Seq.{getD-set-same, getD-set-other, set-out}
 use borrow.Author.Tests as Tests
-use Rattle.model.specs.Store.{absent, Reading, Slot, Range, Doing, Idle, PutPublish, PutStamp, PutHandIn, FlushTake, FlushRead, FlushFree, OpenAnnounce, OpenPass, ReadEnter, ReadStand, CloseWithdraw, GetShow, Worker, startWorker, Store, workerAt, slotAt, newestOf, rangeOf, withWorker, withDoing, place}
+use Rattle.model.specs.Store.{absent, Reading, Slot, Range, OpenAnnounce, OpenPass, CloseWithdraw, Doing, Idle, PutPublish, PutStamp, PutHandIn, FlushTake, FlushRead, FlushFree, OnTime, ReadEnter, ReadStand, GetShow, Worker, startWorker, Store, workerAt, slotAt, newestOf, rangeOf, withWorker, withDoing, place}
+use Rattle.model.specs.About.{Hand, Empty, Covered, Merged, Needless, about}
 use Rattle.model.specs.Answer.{Stepped}
 use Rattle.model.specs.Versions.{setLow, setHigh, setNewer, change, published, stampSlots, stamp, linkSlots, unlinkSlots}
 use Rattle.model.specs.Ranges.{needed, filter, mergeInto, merge, firstTwo, neededPools, joining}
-use Rattle.model.specs.Steps.{putPublish, putStamp, putHandIn, flushTake, readTimes, flushSplit, flushRead, moveOff, workerOff, flushFree, openAnnounce, openPass, readEnter, readStand, getShow, closeWithdraw, stepAt}
-use Rattle.model.specs.Record.{Operation, Put, Open, Read, Close, Get, Collect}
-use Rattle.model.specs.Apply.{firstPlace}
+use Rattle.model.specs.Steps.{putPublish, putStamp, putHandIn, flushTake, readTimes, flushSplit, flushRead, moveOff, workerOff, flushFree, openAnnounce, openPass, readEnter, readStand, getShow, closeWithdraw, timeStep, stepAt}
+use Rattle.model.specs.Record.{Operation}
+use Rattle.model.specs.Apply.{terms}
 use Rattle.model.specs.Demand.{Call, Plain, All}
 use Rattle.model.specs.Figure.{ByHigh, HandByHigh, WorkerByHigh, StoreByHigh}
 use Rattle.model.proofs.Basic.{cond-both, eq-cases, lt-cases, All-map, All-append, All-nth, All-set, All-take, All-drop, All-through}
+use Rattle.model.proofs.View.{off-keeps, first-about}
 use Rattle.model.proofs.Slots.{nth, change-part, unlink-part}
 use Rattle.model.proofs.Count.{All-merge, All-keep, firstTwo-has, pools-have, joining-has, queued-has}
 use Rattle.model.proofs.Invariant.{Inv}
@@ -29,7 +31,8 @@ use Rattle.model.proofs.Places.{doing-is}
 ------------------------------------------------------------------------
 -- Lists
 
-merge-into : (x : Range) (a : List Range) → All (λ σ. x .high ≤ σ .high) a → ((b : List Range) → ByHigh b → ByHigh (merge a b)) → (b : List Range) → ByHigh b → ByHigh (merge (x ∷ a) b)
+merge-into : (x : Range) (a : List Range) → All (λ σ. x .high ≤ σ .high) a → ((b : List Range) → ByHigh b → ByHigh (merge a b)) → (b : List Range)
+    → ByHigh b → ByHigh (merge (x ∷ a) b)
 unfolding merge mergeInto
 merge-into x a l rest [] t = (All-merge (λ σ. x .high ≤ σ .high) a [] l tt, rest [] tt)
 merge-into x a l rest (y ∷ b) t =
@@ -38,8 +41,11 @@ merge-into x a l rest (y ∷ b) t =
     let h = Tests.leb-true (x .high) (y .high) u in
     (All-merge (λ σ. x .high ≤ σ .high) a (y ∷ b) l (h, All-map (λ σ z. omega (arith, h, z)) b (t .0)), rest (y ∷ b) t))
     (λ u.
-    let h = Tests.leb-false (x .high) (y .high) u in
-    (All-merge (λ σ. y .high ≤ σ .high) (x ∷ a) b (omega (arith, h), All-map (λ σ z. omega (arith, h, z)) a l) (t .0), merge-into x a l rest b (t .1)))
+    let h = Tests.leb-false (x .high) (y .high) u in (
+      All-merge (λ σ. y .high ≤ σ .high) (x ∷ a) b (omega (arith, h), All-map (λ σ z. omega (arith, h, z)) a l) (t .0),
+      merge-into x a l rest b
+          (t .1),
+    ))
 
 pub merge-byHigh : (a b : List Range) → ByHigh a → ByHigh b → ByHigh (merge a b)
 unfolding merge
@@ -81,7 +87,8 @@ module _ (t : ℕ) where
   set-closes l i v h c =
       ⊎-elim
       (λ e. ⊎-elim
-      (λ u. inr (let z : nth (set l i v) c .high ≡ v .high = ap (λ (k : ℕ). nth (set l i v) k .high) (e .0) ∙ ap (λ (q : Slot). q .high) (getD-set-same l i v _ (u .0)) in omega (arith, h, z)))
+      (λ u. inr (let z : nth (set l i v) c .high ≡ v .high = ap (λ (k : ℕ). nth (set l i v) k .high) (e .0)
+      ∙ ap (λ (q : Slot). q .high) (getD-set-same l i v _ (u .0)) in omega (arith, h, z)))
       (λ u. inl (ap (λ (q : List Slot). nth q c .high) (set-out l i v (u .0))))
       (lt-cases i (length l)))
       (λ e. inl (ap (λ (q : Slot). q .high) (getD-set-other l i c v _ (e .0))))
@@ -91,7 +98,8 @@ module _ (t : ℕ) where
   unfolding stampSlots
   stamp-closes l n =
       cond-both (Closes t l) (eqb (nth l n .low) absent) (set l′ i v′) l
-      (λ u. closes-then l l′ (set l′ i v′) (λ c. inl (change-part (λ v. v .high) l n (λ v. setLow v t) (λ v. refl) c)) (set-closes l′ i v′ (omega arith)))
+      (λ u. closes-then l l′ (set l′ i v′) (λ c. inl (change-part (λ v. v .high) l n (λ v. setLow v t) (λ v. refl) c))
+      (set-closes l′ i v′ (omega arith)))
       (λ u c. inl refl)
     where
       l′ : List Slot
@@ -118,40 +126,23 @@ module _ (t : ℕ) where
     covers-on : (q : List Range) (c : ℕ) → All (λ ρ. ρ .high ≤ t) q → All (λ ρ. ρ .high ≤ nth l c .high) q → All (λ ρ. ρ .high ≤ nth l′ c .high) q
     covers-on q c low a = ⊎-elim (λ e. All-map (λ ρ h. omega (arith, h, e)) q a) (λ e. All-map (λ ρ h. omega (arith, h, e)) q low) (f c)
 
-    hand-on : (q : List Range) (d : Doing) → All (λ ρ. ρ .high ≤ t) q → HandByHigh l q d → HandByHigh l′ q d
-    hand-on q Idle low a = a
-    hand-on q (PutPublish r y) low a = a
-    hand-on q (PutStamp r c) low a = covers-on q c low a
-    hand-on q (PutHandIn r c) low a = covers-on q c low a
-    hand-on q FlushTake low a = a
-    hand-on q (FlushRead m ts) low a = a
-    hand-on q (FlushFree m) low a = a
-    hand-on q OpenAnnounce low a = a
-    hand-on q OpenPass low a = a
-    hand-on q (ReadEnter r) low a = a
-    hand-on q (ReadStand r c) low a = a
-    hand-on q CloseWithdraw low a = a
-    hand-on q (GetShow r) low a = a
+    hand-on : (q : List Range) (y : Hand) → All (λ ρ. ρ .high ≤ t) q → HandByHigh l q y → HandByHigh l′ q y
+    hand-on q Empty low a = a
+    hand-on q (Covered c) low a = covers-on q c low a
+    hand-on q (Merged m ts) low a = a
+    hand-on q (Needless m) low a = a
 
     workers-on : (ws : List Worker) → All Low ws → All (WorkerByHigh l) ws → All (WorkerByHigh l′) ws
     workers-on [] low a = tt
-    workers-on (y ∷ ws) low a = (record { local = a .0 .local; hand = hand-on (y .pool) (y .doing) (low .0) (a .0 .hand) }, workers-on ws (low .1) (a .1))
+    workers-on (y ∷ ws) low a =
+        (record { local = a .0 .local; hand = hand-on (y .pool) (about (y .doing) .hand) (low .0) (a .0 .hand) }, workers-on ws (low .1) (a .1))
 
-hand-off : (l : List Slot) (q : List Range) (c o : ℕ) (d : Doing) → HandByHigh l q d → HandByHigh l q (moveOff c o d)
-unfolding moveOff
-hand-off l q c o Idle a = a
-hand-off l q c o (PutPublish r y) a = a
-hand-off l q c o (PutStamp r e) a = a
-hand-off l q c o (PutHandIn r e) a = a
-hand-off l q c o FlushTake a = a
-hand-off l q c o (FlushRead m ts) a = a
-hand-off l q c o (FlushFree m) a = a
-hand-off l q c o OpenAnnounce a = a
-hand-off l q c o OpenPass a = a
-hand-off l q c o (ReadEnter r) a = a
-hand-off l q c o (ReadStand r e) a = a
-hand-off l q c o CloseWithdraw a = a
-hand-off l q c o (GetShow r) a = a
+-- what a place has in hand
+abbrev HandAt : List Slot → List Range → Doing → Type 0
+HandAt l q d = HandByHigh l q (about d .hand)
+
+hand-off : (l : List Slot) (q : List Range) (c o : ℕ) (d : Doing) → HandAt l q d → HandAt l q (moveOff c o d)
+hand-off l q = off-keeps (HandAt l q) (λ g e e′ a. a)
 
 ------------------------------------------------------------------------
 -- Steps and begins
@@ -160,7 +151,8 @@ All-points : (Q : Worker → Type 0) (l : List Worker) → ((i : ℕ) → i < le
 All-points Q [] f = tt
 All-points Q (y ∷ l) f = (f 0 (omega arith), All-points Q l (λ i h. f (suc i) (omega (arith, h))))
 
-module _ (now : ℕ) (s : Store) (olds : List (List ℕ)) (h : List Call) (o : List ℕ) (p : Plain) (I : Inv now s olds h o p) (S : StoreByHigh s) (w : ℕ) (wb : w < s .site .P) where
+module _ (now : ℕ) (s : Store) (olds : List (List ℕ)) (h : List Call) (o : List ℕ) (p : Plain) (I : Inv now s olds h o p) (S : StoreByHigh s) (w : ℕ)
+    (wb : w < s .site .P) where
   -- no high of a pool is above the clock
   low : (v : ℕ) → v < s .site .P → Low (s .clock) (workerAt s v)
   low v b = All-map (λ ρ g. g .2) (workerAt s v .pool) (I .workers v b .pool)
@@ -171,26 +163,34 @@ module _ (now : ℕ) (s : Store) (olds : List (List ℕ)) (h : List Call) (o : L
   own : WorkerByHigh (s .slots) (workerAt s w)
   own = All-nth (WorkerByHigh (s .slots)) (s .workers) w startWorker (record { local = tt; hand = tt }) (S .workers)
 
-  hand : (d : Doing) → workerAt s w .doing ≡ d → HandByHigh (s .slots) (workerAt s w .pool) d
-  hand d e = subst (HandByHigh (s .slots) (workerAt s w .pool)) e (own .hand)
+  hand : (d : Doing) → workerAt s w .doing ≡ d → HandAt (s .slots) (workerAt s w .pool) d
+  hand d e = subst (HandAt (s .slots) (workerAt s w .pool)) e (own .hand)
 
   -- the worker's record changes
   to : (y : Worker) → WorkerByHigh (s .slots) y → All (WorkerByHigh (s .slots)) (set (s .workers) w y)
   to y a = All-set (WorkerByHigh (s .slots)) (s .workers) w y a (S .workers)
 
   -- its place changes
-  at : (d : Doing) → HandByHigh (s .slots) (workerAt s w .pool) d → All (WorkerByHigh (s .slots)) (set (s .workers) w (withDoing (workerAt s w) d))
+  at : (d : Doing) → HandAt (s .slots) (workerAt s w .pool) d → All (WorkerByHigh (s .slots)) (set (s .workers) w (withDoing (workerAt s w) d))
   at d a = to (withDoing (workerAt s w) d) (record { local = own .local; hand = a })
 
   -- and slots
-  with-slots : (l : List Slot) → Closes (s .clock) (s .slots) l → (d : Doing) → HandByHigh (s .slots) (workerAt s w .pool) d → All (WorkerByHigh l) (set (s .workers) w (withDoing (workerAt s w) d))
-  with-slots l f d a = workers-on (s .clock) (s .slots) l f (set (s .workers) w (withDoing (workerAt s w) d)) (All-set (Low (s .clock)) (s .workers) w (withDoing (workerAt s w) d) (low w wb) lows) (at d a)
+  with-slots : (l : List Slot) → Closes (s .clock) (s .slots) l → (d : Doing) → HandAt (s .slots) (workerAt s w .pool) d
+      → All (WorkerByHigh l) (set (s .workers) w (withDoing (workerAt s w) d))
+  with-slots l f d a =
+      workers-on (s .clock) (s .slots) l f (set (s .workers) w (withDoing (workerAt s w) d))
+      (All-set (Low (s .clock)) (s .workers) w (withDoing (workerAt s w) d) (low w wb) lows) (at d a)
 
-  stamped : (r : ℕ) (d : Doing) → HandByHigh (s .slots) (workerAt s w .pool) d → StoreByHigh (place (stamp s r) w d)
+  stamped : (r : ℕ) (d : Doing) → HandAt (s .slots) (workerAt s w .pool) d → StoreByHigh (place (stamp s r) w d)
   unfolding stamp
-  stamped r d a = record { queued = S .queued; workers = with-slots (stampSlots (s .slots) (newestOf s r) (s .clock)) (stamp-closes (s .clock) (s .slots) (newestOf s r)) d a }
+  stamped r d a =
+      record {
+        queued = S .queued;
+        workers = with-slots (stampSlots (s .slots) (newestOf s r) (s .clock))
+            (stamp-closes (s .clock) (s .slots) (newestOf s r)) d a;
+      }
 
-  placed : (d : Doing) → HandByHigh (s .slots) (workerAt s w .pool) d → StoreByHigh (place s w d)
+  placed : (d : Doing) → HandAt (s .slots) (workerAt s w .pool) d → StoreByHigh (place s w d)
   placed d a = record { queued = S .queued; workers = at d a }
 
   put-byHigh : (r : ℕ) (y : Reading) → workerAt s w .doing ≡ PutPublish r y → (l : List ℕ) → StoreByHigh (putPublish s w r y l .store)
@@ -200,7 +200,8 @@ module _ (now : ℕ) (s : Store) (olds : List (List ℕ)) (h : List Call) (o : L
       record {
         queued = S .queued;
         workers =
-            with-slots (linkSlots l c f y) (closes-then (s .clock) (s .slots) l (linkSlots l c f y) (stamp-closes (s .clock) (s .slots) c) (link-closes (s .clock) (I .clockFits) l c f y))
+            with-slots (linkSlots l c f y) (closes-then (s .clock) (s .slots) l (linkSlots l c f y) (stamp-closes (s .clock) (s .slots) c)
+            (link-closes (s .clock) (I .clockFits) l c f y))
             (PutStamp r c) (All-map (λ ρ b. omega (arith, b, high, I .clockFits)) (workerAt s w .pool) (low w wb));
       }
     where
@@ -214,7 +215,7 @@ module _ (now : ℕ) (s : Store) (olds : List (List ℕ)) (h : List Call) (o : L
       high = I .stamps r (doing-is now s olds h o p I w wb (PutPublish r y) e .0) .0
 
   pub step-byHigh : (d : Doing) → workerAt s w .doing ≡ d → StoreByHigh (stepAt s w d .store)
-  unfolding stepAt putStamp putHandIn flushTake flushRead flushSplit flushFree openAnnounce openPass readEnter readStand getShow closeWithdraw workerOff rangeOf
+  unfolding stepAt timeStep putStamp putHandIn flushTake flushRead flushSplit flushFree openAnnounce openPass readEnter readStand getShow closeWithdraw workerOff rangeOf
   step-byHigh Idle e = S
   step-byHigh (PutPublish r y) e = put-byHigh r y e (s .free)
   step-byHigh (PutStamp r c) e =
@@ -226,7 +227,8 @@ module _ (now : ℕ) (s : Store) (olds : List (List ℕ)) (h : List Call) (o : L
       ended : ByHigh (workerAt s w .pool ++ (rangeOf s c ∷ []))
       ended = snoc-byHigh (workerAt s w .pool) (rangeOf s c) (own .local) (hand (PutHandIn r c) e)
 
-      go : (full : Bool) → StoreByHigh (withWorker s w (record { doing = cond full FlushTake Idle; announced = workerAt s w .announced; pool = workerAt s w .pool ++ (rangeOf s c ∷ []) }))
+      go : (full : Bool) → StoreByHigh (withWorker s w
+          (record { doing = cond full FlushTake Idle; announced = workerAt s w .announced; pool = workerAt s w .pool ++ (rangeOf s c ∷ []) }))
       go true = record { queued = S .queued; workers = to _ (record { local = ended; hand = tt }) }
       go false = record { queued = S .queued; workers = to _ (record { local = ended; hand = tt }) }
   step-byHigh FlushTake e =
@@ -254,31 +256,30 @@ module _ (now : ℕ) (s : Store) (olds : List (List ℕ)) (h : List Call) (o : L
         queued = S .queued;
         workers =
             All-through (WorkerByHigh (unlinkSlots (s .slots) (ρ .slot))) (workerOff (ρ .slot) (slotAt s (ρ .slot) .older))
-            (λ y z. record { local = z .local; hand = hand-off (unlinkSlots (s .slots) (ρ .slot)) (y .pool) (ρ .slot) (slotAt s (ρ .slot) .older) (y .doing) (z .hand) })
+            (λ y z. record {
+              local = z .local;
+              hand = hand-off (unlinkSlots (s .slots) (ρ .slot)) (y .pool) (ρ .slot) (slotAt s (ρ .slot) .older)
+                  (y .doing) (z .hand);
+            })
             (set (s .workers) w (withDoing (workerAt s w) (FlushFree l)))
-            (with-slots (unlinkSlots (s .slots) (ρ .slot)) (λ c. inl (unlink-part (s .slots) (ρ .slot) (λ v. v .high) (λ v x. refl) (λ v x. refl) c)) (FlushFree l) (hand (FlushFree (ρ ∷ l)) e .1));
+            (with-slots (unlinkSlots (s .slots) (ρ .slot)) (λ c. inl (unlink-part (s .slots) (ρ .slot) (λ v. v .high) (λ v x. refl) (λ v x. refl) c))
+            (FlushFree l) (hand (FlushFree (ρ ∷ l)) e .1));
       }
-  step-byHigh OpenAnnounce e =
+  step-byHigh (OnTime OpenAnnounce) e =
       cond-both (λ (q : Stepped). StoreByHigh (q .store)) (eqb (s .clock) 4294967295) _ _
       (λ u. placed Idle tt)
       (λ u. record { queued = S .queued; workers = to _ (record { local = own .local; hand = tt }) })
-  step-byHigh OpenPass e = record { queued = S .queued; workers = at Idle tt }
-  step-byHigh (ReadEnter r) e = stamped r (ReadStand r (newestOf s r)) tt
-  step-byHigh (ReadStand r c) e =
+  step-byHigh (OnTime OpenPass) e = record { queued = S .queued; workers = at Idle tt }
+  step-byHigh (ReadEnter g) e = stamped (g .register) (ReadStand g (newestOf s (g .register))) tt
+  step-byHigh (ReadStand g c) e =
       cond-both (λ (q : Stepped). StoreByHigh (q .store)) (leb (slotAt s c .low) (workerAt s w .announced)) _ _
       (λ u. placed Idle tt)
-      (λ u. placed (ReadStand r (slotAt s c .older)) tt)
-  step-byHigh CloseWithdraw e = record { queued = S .queued; workers = to _ (record { local = own .local; hand = tt }) }
+      (λ u. placed (ReadStand g (slotAt s c .older)) tt)
+  step-byHigh (OnTime CloseWithdraw) e = record { queued = S .queued; workers = to _ (record { local = own .local; hand = tt }) }
   step-byHigh (GetShow r) e = stamped r Idle tt
 
-  pub begin-byHigh : (c : Operation) → StoreByHigh (place s w (firstPlace c))
-  unfolding firstPlace
-  begin-byHigh (Put r y) = placed (PutPublish r y) tt
-  begin-byHigh Open = placed OpenAnnounce tt
-  begin-byHigh (Read r) = placed (ReadEnter r) tt
-  begin-byHigh Close = placed CloseWithdraw tt
-  begin-byHigh (Get r) = placed (GetShow r) tt
-  begin-byHigh Collect = placed FlushTake tt
+  pub begin-byHigh : (c : Operation) → StoreByHigh (place s w (terms c .first))
+  begin-byHigh c = placed (terms c .first) (subst (λ y. HandByHigh (s .slots) (workerAt s w .pool) (y .hand)) (sym (first-about c)) tt)
 
 ------------------------------------------------------------------------
 -- At setup

@@ -48,7 +48,8 @@ remove-times c (d ∷ l) i h =
 ------------------------------------------------------------------------
 -- Linked
 
-pub Linked-same : (s s′ : List Slot) (up : ℕ) (l : List ℕ) → ((c : ℕ) → 0 < occurrences c l → (nth s′ c .newer ≡ nth s c .newer) × (nth s′ c .older ≡ nth s c .older)) → Linked s up l → Linked s′ up l
+pub Linked-same : (s s′ : List Slot) (up : ℕ) (l : List ℕ)
+    → ((c : ℕ) → 0 < occurrences c l → (nth s′ c .newer ≡ nth s c .newer) × (nth s′ c .older ≡ nth s c .older)) → Linked s up l → Linked s′ up l
 unfolding occurrences
 Linked-same s s′ up [] f t = tt
 Linked-same s s′ up (c ∷ l) f t =
@@ -66,7 +67,8 @@ neighbours s up d (e ∷ l) c t h = ⊎-elim own (λ x. other (neighbours s d e 
     heads [] = inl refl
     heads (x ∷ q) = inr (omega (arith, hit-same x))
 
-    own : (e ≡ c) × (eqb e c ≡ true) → (0 < occurrences (nth s c .newer) (d ∷ e ∷ l)) × ((nth s c .older ≡ absent) ⊎ (0 < occurrences (nth s c .older) (e ∷ l)))
+    own : (e ≡ c) × (eqb e c ≡ true) → (0 < occurrences (nth s c .newer) (d ∷ e ∷ l))
+        × ((nth s c .older ≡ absent) ⊎ (0 < occurrences (nth s c .older) (e ∷ l)))
     own x = (
       omega (arith, hit-eq d (nth s c .newer) (sym (ap (λ (i : ℕ). nth s i .newer) (sym (x .0)) ∙ t .2 .0))),
       ⊎-elim
@@ -80,17 +82,22 @@ neighbours s up d (e ∷ l) c t h = ⊎-elim own (λ x. other (neighbours s d e 
     other r = (omega (arith, r .0), ⊎-elim inl (λ y. inr (omega (arith, y))) (r .1))
 
 -- what stood below c stands below d, once c is unlinked
-Linked-below : (s : List Slot) (c e d : ℕ) (q : List ℕ) → occurrences c (d ∷ q) ≡ 0 → nth s c .newer ≡ d → nth s c .older ≡ headOr absent q → Linked s e q
+Linked-below : (s : List Slot) (c e d : ℕ) (q : List ℕ) → occurrences c (d ∷ q) ≡ 0 → nth s c .newer ≡ d → nth s c .older ≡ headOr absent q
+    → Linked s e q
     → ((i : ℕ) → occurrences i (d ∷ q) ≤ 1) → ((i : ℕ) → 0 < occurrences i q → i < length s) → Linked (unlinkSlots s c) d q
 unfolding occurrences
 Linked-below s c e d [] cz nd ol t one b = tt
 Linked-below s c e d (y ∷ q) cz nd ol t one b = (
-  ap (λ (i : ℕ). nth (unlinkSlots s c) i .newer) (sym ol) ∙ unlink-newer-own s c (λ z. omega (arith, cz, hit-eq y c (sym ol ∙ z))) (subst (λ (i : ℕ). i < length s) (sym ol) (b y (omega (arith, hit-same y)))) ∙ nd,
+  ap (λ (i : ℕ). nth (unlinkSlots s c) i .newer) (sym ol)
+      ∙ unlink-newer-own s c (λ z. omega (arith, cz, hit-eq y c (sym ol ∙ z)))
+      (subst (λ (i : ℕ). i < length s) (sym ol) (b y (omega (arith, hit-same y)))) ∙ nd,
   unlink-older-other s c y (λ z. omega (arith, cz, hit-eq y c z)) (λ z. omega (arith, one y, hit-same y, hit-eq d y (sym (z ∙ nd)))) ∙ t .1,
   Linked-same s (unlinkSlots s c) y q
       (λ i x. (
-        unlink-newer-other s c i (λ z. omega (arith, cz, subst (λ (j : ℕ). 0 < occurrences j q) z x)) (λ z. omega (arith, one i, x, hit-eq y i (sym (z ∙ ol)))),
-        unlink-older-other s c i (λ z. omega (arith, cz, subst (λ (j : ℕ). 0 < occurrences j q) z x)) (λ z. omega (arith, one i, x, hit-eq d i (sym (z ∙ nd)))),
+        unlink-newer-other s c i (λ z. omega (arith, cz, subst (λ (j : ℕ). 0 < occurrences j q) z x))
+            (λ z. omega (arith, one i, x, hit-eq y i (sym (z ∙ ol)))),
+        unlink-older-other s c i (λ z. omega (arith, cz, subst (λ (j : ℕ). 0 < occurrences j q) z x))
+            (λ z. omega (arith, one i, x, hit-eq d i (sym (z ∙ nd)))),
       ))
       (t .2),
 )
@@ -103,7 +110,8 @@ unfolding occurrences
 Linked-unlink s c up d [] big t h one b = absurd (omega arith)
 Linked-unlink s c up d (e ∷ l) big t h one b =
     ⊎-elim own
-    (λ x. other x (Linked-unlink s c d e l big (t .2) (omega (arith, hit-other e c (x .0))) (λ i. omega (arith, one i)) (λ i y. b i (omega (arith, y)))))
+    (λ x. other x (Linked-unlink s c d e l big (t .2) (omega (arith, hit-other e c (x .0))) (λ i. omega (arith, one i))
+    (λ i y. b i (omega (arith, y)))))
     (eq-cases e c)
   where
     s′ : List Slot
@@ -117,8 +125,12 @@ Linked-unlink s c up d (e ∷ l) big t h one b =
 
     own : (e ≡ c) × (eqb e c ≡ true) → Linked s′ up (d ∷ remove c (e ∷ l))
     own x =
-        rw (remove-own c e l (x .0))
-        (newer-d, older-d, Linked-below s c e d l (omega (arith, one c, hit-eq e c (x .0))) n-is o-is (t .2 .2) (λ i. omega (arith, one i)) (λ i y. b i (omega (arith, y))))
+        rw (remove-own c e l (x .0)) (
+          newer-d,
+          older-d,
+          Linked-below s c e d l (omega (arith, one c, hit-eq e c (x .0))) n-is o-is (t .2 .2) (λ i. omega (arith, one i))
+              (λ i y. b i (omega (arith, y))),
+        )
       where
         n-is : nth s c .newer ≡ d
         n-is = ap (λ (i : ℕ). nth s i .newer) (sym (x .0)) ∙ t .2 .0
@@ -143,13 +155,15 @@ Linked-unlink s c up d (e ∷ l) big t h one b =
     other x r =
         let m = neighbours s d e l c (t .2) (omega (arith, hit-other e c (x .0))) in
         rw (remove-other c e l (x .0)) (
-          unlink-newer-other s c d d≢c (λ z. ⊎-elim (λ u. omega (arith, z, u, d-in)) (λ u. omega (arith, one d, hit-same d, subst (λ (i : ℕ). 0 < occurrences i l) (sym z) u)) (m .1)) ∙ t .0,
+          unlink-newer-other s c d d≢c (λ z. ⊎-elim (λ u. omega (arith, z, u, d-in))
+              (λ u. omega (arith, one d, hit-same d, subst (λ (i : ℕ). 0 < occurrences i l) (sym z) u)) (m .1)) ∙ t .0,
           unlink-older-other s c d d≢c (λ z. omega (arith, one d, hit-same d, subst (λ (i : ℕ). 0 < occurrences i (e ∷ l)) (sym z) (m .0))) ∙ t .1,
           r,
         )
 
 -- linking a free slot in front
-pub Linked-link : (s : List Slot) (c f : ℕ) (x : Reading) (l : List ℕ) → f < length s → Linked s absent (c ∷ l) → occurrences f (c ∷ l) ≡ 0 → occurrences c l ≡ 0 → c < length s
+pub Linked-link : (s : List Slot) (c f : ℕ) (x : Reading) (l : List ℕ) → f < length s → Linked s absent (c ∷ l) → occurrences f (c ∷ l) ≡ 0
+    → occurrences c l ≡ 0 → c < length s
     → Linked (linkSlots s c f x) absent (f ∷ c ∷ l)
 unfolding occurrences
 Linked-link s c f x l fin t fr cr cin = (
@@ -184,7 +198,8 @@ On s a c x [] = ⊥
 On s a c x (d ∷ l) = ((d ≡ c) × Sees s a x (d ∷ l)) ⊎ ((a < nth s d .low) × On s a c x l)
 
 pub Sees-mono : (s s′ : List Slot) (a : ℕ) (x : Reading) (l : List ℕ)
-    → ((c : ℕ) → 0 < occurrences c l → (nth s c .low ≤ a → nth s′ c .low ≤ a) × (a < nth s c .low → a < nth s′ c .low) × (a < nth s c .high → a < nth s′ c .high) × (nth s′ c .value ≡ nth s c .value))
+    → ((c : ℕ) → 0 < occurrences c l → (nth s c .low ≤ a → nth s′ c .low ≤ a) × (a < nth s c .low → a < nth s′ c .low)
+    × (a < nth s c .high → a < nth s′ c .high) × (nth s′ c .value ≡ nth s c .value))
     → Sees s a x l → Sees s′ a x l
 unfolding occurrences
 Sees-mono s s′ a x [] f t = t
@@ -193,7 +208,8 @@ Sees-mono s s′ a x (c ∷ l) f t =
     ⊎-elim (λ u. inl (e .0 (u .0), e .2 (u .1), e .3 ∙ u .2)) (λ u. inr (e .1 (u .0), Sees-mono s s′ a x l (λ d y. f d (omega arith)) (u .1))) t
 
 pub On-mono : (s s′ : List Slot) (a c : ℕ) (x : Reading) (l : List ℕ)
-    → ((c : ℕ) → 0 < occurrences c l → (nth s c .low ≤ a → nth s′ c .low ≤ a) × (a < nth s c .low → a < nth s′ c .low) × (a < nth s c .high → a < nth s′ c .high) × (nth s′ c .value ≡ nth s c .value))
+    → ((c : ℕ) → 0 < occurrences c l → (nth s c .low ≤ a → nth s′ c .low ≤ a) × (a < nth s c .low → a < nth s′ c .low)
+    × (a < nth s c .high → a < nth s′ c .high) × (nth s′ c .value ≡ nth s c .value))
     → On s a c x l → On s′ a c x l
 unfolding occurrences
 On-mono s s′ a c x [] f t = t
@@ -202,16 +218,19 @@ On-mono s s′ a c x (d ∷ l) f t =
     ⊎-elim (λ u. inl (u .0, Sees-mono s s′ a x (d ∷ l) f (u .1))) (λ u. inr (e .1 (u .0), On-mono s s′ a c x l (λ i y. f i (omega arith)) (u .1))) t
 
 -- a version that the time does not need may go
-pub Sees-remove : (s : List Slot) (a : ℕ) (x : Reading) (c : ℕ) (l : List ℕ) → (nth s c .low ≤ a → a < nth s c .high → ⊥) → Sees s a x l → Sees s a x (remove c l)
+pub Sees-remove : (s : List Slot) (a : ℕ) (x : Reading) (c : ℕ) (l : List ℕ) → (nth s c .low ≤ a → a < nth s c .high → ⊥) → Sees s a x l
+    → Sees s a x (remove c l)
 Sees-remove s a x c [] n t = absurd t
 Sees-remove s a x c (d ∷ l) n t =
     ⊎-elim
-    (λ e. rw (remove-own c d l (e .0)) (⊎-elim (λ u. absurd (n (subst (λ (i : ℕ). nth s i .low ≤ a) (e .0) (u .0)) (subst (λ (i : ℕ). a < nth s i .high) (e .0) (u .1)))) (λ u. u .1) t))
+    (λ e. rw (remove-own c d l (e .0)) (⊎-elim (λ u. absurd
+    (n (subst (λ (i : ℕ). nth s i .low ≤ a) (e .0) (u .0)) (subst (λ (i : ℕ). a < nth s i .high) (e .0) (u .1)))) (λ u. u .1) t))
     (λ e. rw (remove-other c d l (e .0)) (⊎-elim inl (λ u. inr (u .0, Sees-remove s a x c l n (u .1))) t))
     (eq-cases d c)
 
 -- a read that stands elsewhere stays where it is, and one that stands on it moves to the older neighbour
-pub On-remove : (s : List Slot) (a : ℕ) (x : Reading) (c k : ℕ) (l : List ℕ) → (nth s c .low ≤ a → a < nth s c .high → ⊥) → k ≢ c → On s a k x l → On s a k x (remove c l)
+pub On-remove : (s : List Slot) (a : ℕ) (x : Reading) (c k : ℕ) (l : List ℕ) → (nth s c .low ≤ a → a < nth s c .high → ⊥) → k ≢ c → On s a k x l
+    → On s a k x (remove c l)
 On-remove s a x c k [] n m t = absurd t
 On-remove s a x c k (d ∷ l) n m t =
     ⊎-elim
@@ -223,7 +242,8 @@ On-remove s a x c k (d ∷ l) n m t =
     t)
     (eq-cases d c)
 
-pub On-moves : (s : List Slot) (up a : ℕ) (x : Reading) (c : ℕ) (l : List ℕ) → Linked s up l → ((i : ℕ) → occurrences i l ≤ 1) → (nth s c .low ≤ a → a < nth s c .high → ⊥) → On s a c x l → On s a (nth s c .older) x (remove c l)
+pub On-moves : (s : List Slot) (up a : ℕ) (x : Reading) (c : ℕ) (l : List ℕ) → Linked s up l → ((i : ℕ) → occurrences i l ≤ 1)
+    → (nth s c .low ≤ a → a < nth s c .high → ⊥) → On s a c x l → On s a (nth s c .older) x (remove c l)
 unfolding occurrences
 On-moves s up a x c [] t one n h = absurd h
 On-moves s up a x c (d ∷ l) t one n h = ⊎-elim own (λ e. other e (λ u. On-moves s d a x c l (t .2) (λ i. omega (arith, one i)) n u)) (eq-cases d c)
@@ -238,7 +258,8 @@ On-moves s up a x c (d ∷ l) t one n h = ⊎-elim own (λ e. other e (λ u. On-
         here : (d ≡ c) × Sees s a x (d ∷ l) → On s a (nth s c .older) x l
         here u =
             subst (λ (k : ℕ). On s a k x l) (sym (ap (λ (i : ℕ). nth s i .older) (sym (e .0)) ∙ t .1))
-            (first l (⊎-elim (λ v. absurd (n (subst (λ (i : ℕ). nth s i .low ≤ a) (e .0) (v .0)) (subst (λ (i : ℕ). a < nth s i .high) (e .0) (v .1)))) (λ v. v .1) (u .1)))
+            (first l (⊎-elim (λ v. absurd (n (subst (λ (i : ℕ). nth s i .low ≤ a) (e .0) (v .0))
+            (subst (λ (i : ℕ). a < nth s i .high) (e .0) (v .1)))) (λ v. v .1) (u .1)))
 
         gone : (q : List ℕ) → occurrences c q ≡ 0 → On s a c x q → ⊥
         gone [] z v = v
@@ -252,7 +273,8 @@ pub On-found : (s : List Slot) (a c : ℕ) (x : Reading) (l : List ℕ) → On s
 On-found s a c x [] t h = absurd t
 On-found s a c x (d ∷ l) t h =
     ⊎-elim
-    (λ u. ⊎-elim (λ v. ap (λ (i : ℕ). nth s i .value) (sym (u .0)) ∙ v .2) (λ v. absurd (omega (arith, subst (λ (i : ℕ). a < nth s i .low) (u .0) (v .0)))) (u .1))
+    (λ u. ⊎-elim (λ v. ap (λ (i : ℕ). nth s i .value) (sym (u .0)) ∙ v .2)
+    (λ v. absurd (omega (arith, subst (λ (i : ℕ). a < nth s i .low) (u .0) (v .0)))) (u .1))
     (λ u. On-found s a c x l (u .1) h)
     t
 
@@ -289,7 +311,8 @@ Next s t x (d ∷ l) = (nth s d .low ≤ t) × (nth s d .high ≡ absent) × (nt
 
 abbrev pub Fine : List Slot → ℕ → Reading → List ℕ → Type 0
 Fine s t x [] = ⊥
-Fine s t x (c ∷ l) = (nth s c .high ≡ absent) × (((nth s c .low ≤ t) × (nth s c .value ≡ x) × All (Past s t) l) ⊎ ((nth s c .low ≡ absent) × Next s t x l))
+Fine s t x (c ∷ l) =
+    (nth s c .high ≡ absent) × (((nth s c .low ≤ t) × (nth s c .value ≡ x) × All (Past s t) l) ⊎ ((nth s c .low ≡ absent) × Next s t x l))
 
 -- when the clock passes t, t sees the value of the newest that is stamped
 pub Fine-sees : (s : List Slot) (t : ℕ) (x : Reading) (l : List ℕ) → t < absent → Fine s t x l → Sees s t x l

@@ -51,7 +51,8 @@ module _ {ℓ} {A : Type ℓ} (f : A → ℕ) where
   sumBy-some [] d h = absurd (omega arith)
   sumBy-some (y ∷ l) d h = go (f y) refl (λ z. sumBy-some l d z)
     where
-      go : (n : ℕ) → f y ≡ n → (0 < sumBy f l → (i : ℕ) × (i < length l) × (0 < f (getD l i d))) → (i : ℕ) × (i < suc (length l)) × (0 < f (getD (y ∷ l) i d))
+      go : (n : ℕ) → f y ≡ n → (0 < sumBy f l → (i : ℕ) × (i < length l) × (0 < f (getD l i d)))
+          → (i : ℕ) × (i < suc (length l)) × (0 < f (getD (y ∷ l) i d))
       go zero e r = let q = r (omega arith) in (suc (q .0), omega (arith, q .1), q .2)
       go (suc n) e r = (0, omega arith, omega arith)
 
@@ -73,11 +74,13 @@ module _ (c : ℕ) where
   cnt-append [] b = omega arith
   cnt-append (x ∷ a) b = omega (arith, cnt-append a b)
 
-  cnt-weave : (a : Range) (rest : List Range → List Range) (n : ℕ) → ((b : List Range) → cnt c (rest b) ≡ n + cnt c b) → (b : List Range) → cnt c (mergeInto a rest b) ≡ hit (a .slot) c + n + cnt c b
+  cnt-weave : (a : Range) (rest : List Range → List Range) (n : ℕ) → ((b : List Range) → cnt c (rest b) ≡ n + cnt c b) → (b : List Range)
+      → cnt c (mergeInto a rest b) ≡ hit (a .slot) c + n + cnt c b
   unfolding cnt mergeInto
   cnt-weave a rest n e [] = omega (arith, e [])
   cnt-weave a rest n e (b ∷ bs) =
-      cond-both (λ l. cnt c l ≡ hit (a .slot) c + n + (hit (b .slot) c + cnt c bs)) (leb (a .high) (b .high)) (a ∷ rest (b ∷ bs)) (b ∷ mergeInto a rest bs)
+      cond-both (λ l. cnt c l ≡ hit (a .slot) c + n + (hit (b .slot) c + cnt c bs)) (leb (a .high) (b .high)) (a ∷ rest (b ∷ bs))
+      (b ∷ mergeInto a rest bs)
       (λ u. omega (arith, e (b ∷ bs))) (λ u. omega (arith, cnt-weave a rest n e bs))
 
   pub cnt-merge : (a b : List Range) → cnt c (merge a b) ≡ cnt c a + cnt c b
@@ -91,7 +94,8 @@ module _ (c : ℕ) where
   cnt-split p (x ∷ l) = go (p x) (cnt-split p l)
     where
       go : (t : Bool) → cnt c (filter p l) + cnt c (filter (λ ρ. not (p ρ)) l) ≡ cnt c l
-          → cnt c (cond t (x ∷ filter p l) (filter p l)) + cnt c (cond (not t) (x ∷ filter (λ ρ. not (p ρ)) l) (filter (λ ρ. not (p ρ)) l)) ≡ hit (x .slot) c + cnt c l
+          → cnt c (cond t (x ∷ filter p l) (filter p l)) + cnt c (cond (not t) (x ∷ filter (λ ρ. not (p ρ)) l) (filter (λ ρ. not (p ρ)) l))
+          ≡ hit (x .slot) c + cnt c l
       go true e = omega arith
       go false e = omega arith
 
@@ -117,7 +121,8 @@ module _ (c : ℕ) where
       h : ℕ
       h = (length l + 1) / 2
 
-      go : (t u : Bool) → ltb (2 * b) (length l) ≡ t → ltb b (length l) ≡ u → sumBy (cnt c) (cond t (take h l ∷ drop h l ∷ []) (cond u (l ∷ []) [])) + cnt c (cond u [] l) ≡ cnt c l
+      go : (t u : Bool) → ltb (2 * b) (length l) ≡ t → ltb b (length l) ≡ u
+          → sumBy (cnt c) (cond t (take h l ∷ drop h l ∷ []) (cond u (l ∷ []) [])) + cnt c (cond u [] l) ≡ cnt c l
       go true true e f = omega (arith, cnt-half h l)
       go true false e f = absurd (omega (arith, Tests.ltb-true (2 * b) (length l) e, Tests.ltb-false b (length l) f))
       go false true e f = omega arith
@@ -127,11 +132,13 @@ module _ (c : ℕ) where
 -- What holds of every range
 
 module _ (Q : Range → Type 0) where
-  All-weave : (a : Range) (rest : List Range → List Range) → Q a → ((b : List Range) → All Q b → All Q (rest b)) → (b : List Range) → All Q b → All Q (mergeInto a rest b)
+  All-weave : (a : Range) (rest : List Range → List Range) → Q a → ((b : List Range) → All Q b → All Q (rest b)) → (b : List Range) → All Q b
+      → All Q (mergeInto a rest b)
   unfolding mergeInto
   All-weave a rest x e [] t = (x, e [] tt)
   All-weave a rest x e (b ∷ bs) t =
-      cond-both (All Q) (leb (a .high) (b .high)) (a ∷ rest (b ∷ bs)) (b ∷ mergeInto a rest bs) (λ u. (x, e (b ∷ bs) t)) (λ u. (t .0, All-weave a rest x e bs (t .1)))
+      cond-both (All Q) (leb (a .high) (b .high)) (a ∷ rest (b ∷ bs)) (b ∷ mergeInto a rest bs) (λ u. (x, e (b ∷ bs) t))
+      (λ u. (t .0, All-weave a rest x e bs (t .1)))
 
   pub All-merge : (a b : List Range) → All Q a → All Q b → All Q (merge a b)
   unfolding merge
@@ -197,5 +204,10 @@ not-needed (b ∷ l) ρ e a h t x y =
 
     own : (b ≡ a) × (eqb b a ≡ true) → ⊥
     own u =
-        let z : _≡_ {A = Bool} true false = cc (parts .0, Tests.lt-ltb b absent (omega (arith, u .0)), Tests.le-leb (ρ .low) b (omega (arith, u .0)), Tests.lt-ltb b (ρ .high) (omega (arith, u .0))) in
+        let z : _≡_ {A = Bool} true false = cc (
+          parts .0,
+          Tests.lt-ltb b absent (omega (arith, u .0)),
+          Tests.le-leb (ρ .low) b (omega (arith, u .0)),
+          Tests.lt-ltb b (ρ .high) (omega (arith, u .0)),
+        ) in
         true≢false z

@@ -9,10 +9,12 @@ use native.Mathlib.Omega.{arith}
 use lib.Dec.{eqb}
 use lib.ListN.{length}
 use borrow.Author.Tests as Tests
-use Rattle.model.specs.Store.{absent, Doing, Idle, PutPublish, PutStamp, PutHandIn, FlushTake, FlushRead, FlushFree, OpenAnnounce, OpenPass, ReadEnter, ReadStand, CloseWithdraw, GetShow, Store, workerAt, slotAt}
+use Rattle.model.specs.Store.{absent, PutStamp, Store, workerAt, slotAt}
+use Rattle.model.specs.About.{Effect, NoEffect, ByStamp, ByClock, about}
 use Rattle.model.specs.Answer.{Answer}
-use Rattle.model.specs.Demand.{Ending, Unfinished, RefusedAt, FinishedAt, Call, isUnfinished, runningOf, stampedOver, passed, takesEffect, filterBelow, changeEffects, atEnd, finishes, endEffects, callAt}
+use Rattle.model.specs.Demand.{Ending, Unfinished, RefusedAt, FinishedAt, Call, isUnfinished, runningOf, stampedOver, passed, comes, takesEffect, filterBelow, changeEffects, atEnd, finishes, endEffects, callAt}
 use Rattle.model.proofs.Basic.{eq-cases, le-cases, and-both}
+use Rattle.model.proofs.View.{stamp-is}
 use Rattle.model.proofs.Invariant.{Running}
 
 ------------------------------------------------------------------------
@@ -29,7 +31,9 @@ find : (h : List Call) (w k : ℕ) → k < length h → callAt h k .worker ≡ w
 unfolding runningOf isUnfinished
 find [] w k b a u f = absurd (not-suc-le-zero b)
 find (d ∷ h) w zero b a u f = rw (Tests.eq-eqb (d .worker) w a, u)
-find (d ∷ h) w (suc k) b a u f = go (_&&_ (eqb (d .worker) w) (isUnfinished (d .ending))) refl (find h w k (le-of-suc-le-suc b) a u (λ i z x y. omega (arith, f (suc i) (omega (arith, z)) x y)))
+find (d ∷ h) w (suc k) b a u f =
+    go (_&&_ (eqb (d .worker) w) (isUnfinished (d .ending))) refl
+    (find h w k (le-of-suc-le-suc b) a u (λ i z x y. omega (arith, f (suc i) (omega (arith, z)) x y)))
   where
     go : (t : Bool) → _&&_ (eqb (d .worker) w) (isUnfinished (d .ending)) ≡ t → runningOf h w ≡ k → cond t 0 (suc (runningOf h w)) ≡ suc k
     go true e r =
@@ -74,7 +78,8 @@ unfolding filterBelow
 below-one q zero w b e f = absurd (not-suc-le-zero b)
 below-one q (suc n) w b e f = go (eq-cases n w) (λ z. below-one q n w z e (λ v y. f v (omega (arith, y))))
   where
-    go : ((n ≡ w) × (eqb n w ≡ true)) ⊎ ((n ≢ w) × (eqb n w ≡ false)) → (w < n → filterBelow q n ≡ w ∷ []) → filterBelow q n ++ cond (q n) (n ∷ []) [] ≡ w ∷ []
+    go : ((n ≡ w) × (eqb n w ≡ true)) ⊎ ((n ≢ w) × (eqb n w ≡ false)) → (w < n → filterBelow q n ≡ w ∷ [])
+        → filterBelow q n ++ cond (q n) (n ∷ []) [] ≡ w ∷ []
     go (inl u) r = rw (below-none q n (λ v z. f v (omega (arith, z)) (λ y. omega (arith, y, u .0, z))), u .0, e)
     go (inr u) r = rw (f n (omega arith) (u .0), r (omega (arith, b, u .0)))
 
@@ -84,51 +89,42 @@ below-one q (suc n) w b e f = go (eq-cases n w) (λ z. below-one q n w z e (λ v
 abbrev pub takes : Store → Store → ℕ → Bool
 takes s t v = takesEffect (stampedOver s t) (passed s t) (workerAt s v .announced) (workerAt s v .doing)
 
-pub takes-same : (s t t′ : Store) (v : ℕ) → t′ .clock ≡ t .clock → ((r c : ℕ) → workerAt s v .doing ≡ PutStamp r c → slotAt t′ c .high ≡ slotAt t c .high) → takes s t′ v ≡ takes s t v
-unfolding takesEffect
-takes-same s t t′ v k f = go (workerAt s v .doing) refl
+pub takes-same : (s t t′ : Store) (v : ℕ) → t′ .clock ≡ t .clock
+    → ((r c : ℕ) → workerAt s v .doing ≡ PutStamp r c → slotAt t′ c .high ≡ slotAt t c .high) → takes s t′ v ≡ takes s t v
+takes-same s t t′ v k f = go (about (workerAt s v .doing) .effect) refl
   where
-    go : (d : Doing) → workerAt s v .doing ≡ d → takesEffect (stampedOver s t′) (passed s t′) (workerAt s v .announced) d ≡ takesEffect (stampedOver s t) (passed s t) (workerAt s v .announced) d
-    go Idle e = refl
-    go (PutPublish r y) e = refl
-    go (PutStamp r c) e = rw (f r c e)
-    go (PutHandIn r c) e = refl
-    go FlushTake e = refl
-    go (FlushRead m ts) e = refl
-    go (FlushFree m) e = refl
-    go OpenAnnounce e = refl
-    go OpenPass e = rw k
-    go (ReadEnter r) e = refl
-    go (ReadStand r c) e = refl
-    go CloseWithdraw e = refl
-    go (GetShow r) e = refl
+    a : ℕ
+    a = workerAt s v .announced
+
+    go : (y : Effect) → about (workerAt s v .doing) .effect ≡ y
+        → comes (stampedOver s t′) (passed s t′) a y ≡ comes (stampedOver s t) (passed s t) a y
+    go NoEffect e = refl
+    go (ByStamp c) e = let u = stamp-is (workerAt s v .doing) c e in rw (f (u .0) c (u .1))
+    go ByClock e = rw k
 
 pub never : (t : Bool) → _&&_ t (not t) ≡ false
 never true = refl
 never false = refl
 
 pub takes-self : (s : Store) (v : ℕ) → takes s s v ≡ false
-unfolding takesEffect
-takes-self s v = go (workerAt s v .doing)
+takes-self s v = go (about (workerAt s v .doing) .effect)
   where
-    go : (d : Doing) → takesEffect (stampedOver s s) (passed s s) (workerAt s v .announced) d ≡ false
-    go Idle = refl
-    go (PutPublish r y) = refl
-    go (PutStamp r c) = never (eqb (slotAt s c .high) absent)
-    go (PutHandIn r c) = refl
-    go FlushTake = refl
-    go (FlushRead m ts) = refl
-    go (FlushFree m) = refl
-    go OpenAnnounce = refl
-    go OpenPass = ⊎-elim (λ u. rw (u .1, Tests.le-ltb (workerAt s v .announced) (s .clock) (u .0))) (λ u. rw (u .1)) (le-cases (s .clock) (workerAt s v .announced))
-    go (ReadEnter r) = refl
-    go (ReadStand r c) = refl
-    go CloseWithdraw = refl
-    go (GetShow r) = refl
+    a : ℕ
+    a = workerAt s v .announced
+
+    go : (y : Effect) → comes (stampedOver s s) (passed s s) a y ≡ false
+    go NoEffect = refl
+    go (ByStamp c) = never (eqb (slotAt s c .high) absent)
+    go ByClock = ⊎-elim (λ u. rw (u .1, Tests.le-ltb a (s .clock) (u .0))) (λ u. rw (u .1)) (le-cases (s .clock) a)
 
 -- nothing is stamped and no time is passed
-pub change-none : (h : List Call) (s t : Store) → t .clock ≡ s .clock → ((v r c : ℕ) → v < s .site .P → workerAt s v .doing ≡ PutStamp r c → slotAt t c .high ≡ slotAt s c .high) → changeEffects h s t ≡ []
-change-none h s t k f = ap (map (runningOf h)) (below-none (takes s t) (s .site .P) (λ v z. takes-same s s t v k (λ r c e. f v r c z e) ∙ takes-self s v))
+pub change-none : (h : List Call) (s t : Store) → t .clock ≡ s .clock
+    → ((v r c : ℕ) → v < s .site .P → workerAt s v .doing ≡ PutStamp r c → slotAt t c .high ≡ slotAt s c .high) → changeEffects h s t ≡ []
+change-none h s t k f =
+    ap (map (runningOf h)) (below-none (takes s t) (s .site .P) (λ v z. takes-same s s t v k (λ r c e. f v r c z e) ∙ takes-self s v))
 
-pub change-same : (h : List Call) (s t t′ : Store) → t′ .clock ≡ t .clock → ((v r c : ℕ) → v < s .site .P → workerAt s v .doing ≡ PutStamp r c → slotAt t′ c .high ≡ slotAt t c .high) → changeEffects h s t′ ≡ changeEffects h s t
-change-same h s t t′ k f = ap (map (runningOf h)) (below-same (takes s t) (takes s t′) (s .site .P) (λ v z. takes-same s t t′ v k (λ r c e. f v r c z e)))
+pub change-same : (h : List Call) (s t t′ : Store) → t′ .clock ≡ t .clock
+    → ((v r c : ℕ) → v < s .site .P → workerAt s v .doing ≡ PutStamp r c → slotAt t′ c .high ≡ slotAt t c .high)
+    → changeEffects h s t′ ≡ changeEffects h s t
+change-same h s t t′ k f =
+    ap (map (runningOf h)) (below-same (takes s t) (takes s t′) (s .site .P) (λ v z. takes-same s t t′ v k (λ r c e. f v r c z e)))

@@ -10,7 +10,7 @@ use lib.ListN.{length, getD}
 use lib.Dec.{eqb}
 use Rattle.model.specs.Store.{absent, Store, slotAt}
 use Rattle.model.specs.Answer.{No}
-use Rattle.model.specs.Steps.{putPublish, stepAt}
+use Rattle.model.specs.Steps.{putPublish, timeStep, stepAt}
 use Rattle.model.specs.Demand.{Call, Plain, occurrences}
 use Rattle.model.specs.Reached.{listFrom, registerList, EverySlotListed, Refuses14}
 use Rattle.model.proofs.Basic.{hit-same, hit-eq, hit-other, eq-cases, lt-cases, occurrences-head}
@@ -26,7 +26,8 @@ unfolding occurrences
 times-some [] c h = absurd (omega arith)
 times-some (d ∷ l) c h = go (eq-cases d c) (λ z. times-some l c z)
   where
-    go : ((d ≡ c) × (eqb d c ≡ Bool.true)) ⊎ ((d ≢ c) × (eqb d c ≡ Bool.false)) → (0 < occurrences c l → (i : ℕ) × (i < length l) × (getD l i absent ≡ c)) → (i : ℕ) × (i < suc (length l)) × (getD (d ∷ l) i absent ≡ c)
+    go : ((d ≡ c) × (eqb d c ≡ Bool.true)) ⊎ ((d ≢ c) × (eqb d c ≡ Bool.false))
+        → (0 < occurrences c l → (i : ℕ) × (i < length l) × (getD l i absent ≡ c)) → (i : ℕ) × (i < suc (length l)) × (getD (d ∷ l) i absent ≡ c)
     go (inl e) f = (0, omega arith, e .0)
     go (inr e) f = let a = f (omega (arith, hit-other d c (e .0))) in (suc (a .0), omega (arith, a .1), a .2)
 
@@ -34,7 +35,8 @@ below-one : (c n : ℕ) → c < n → below c n ≡ 1
 below-one c n h = ⊎-elim (λ u. ap {B = ℕ} (λ (t : Bool). cond t 1 0) (u .1)) (λ u. absurd (omega (arith, h, u .0))) (lt-cases c n)
 
 -- following the older neighbours along a linked list
-list-is : (s : Store) (l : List ℕ) (above n : ℕ) → length l ≤ n → s .site .N ≤ absent → Linked (s .slots) above l → ((c : ℕ) → 0 < occurrences c l → c < s .site .N) → listFrom s n (headOr absent l) ≡ l
+list-is : (s : Store) (l : List ℕ) (above n : ℕ) → length l ≤ n → s .site .N ≤ absent → Linked (s .slots) above l
+    → ((c : ℕ) → 0 < occurrences c l → c < s .site .N) → listFrom s n (headOr absent l) ≡ l
 unfolding listFrom occurrences
 list-is s [] above zero h big k b = refl
 list-is s [] above (suc n) h big k b = rw (le-ltb absent (s .site .N) big)
@@ -55,7 +57,8 @@ module _ {now : ℕ} {s : Store} {olds : List (List ℕ)} {h : List Call} {o : L
           (a .0, omega (arith, a .1, I .newestLength), omega (arith, hit-eq (getD (s .newest) (a .0) absent) c (a .2)))
       go (suc n) z = let a = pend-chain I c (omega (arith, z)) in (a .0, a .1, omega (arith, a .2))
 
-  pub not-full : (f : ℕ) (l : List ℕ) → s .free ≡ f ∷ l → (f < length (s .slots)) × ((r : ℕ) → r < s .site .V' → occurrences f (chain (ctx s olds) r) ≡ 0)
+  pub not-full : (f : ℕ) (l : List ℕ) → s .free ≡ f ∷ l
+      → (f < length (s .slots)) × ((r : ℕ) → r < s .site .V' → occurrences f (chain (ctx s olds) r) ≡ 0)
   not-full f l e =
       let z : 0 < occurrences f (s .free) = subst (λ (q : List ℕ). 0 < occurrences f q) (sym e) (occurrences-head f l) in
       (free-in I f z, λ r b. omega (arith, z, chain-once I r b f))
@@ -65,7 +68,8 @@ module _ {now : ℕ} {s : Store} {olds : List (List ℕ)} {h : List Call} {o : L
   unfolding registerList
   register-list r b =
       list-is s (chain (ctx s olds) r) absent (s .site .N)
-      (length-once (s .site .N) (chain (ctx s olds) r) (λ c. omega (arith, chain-once I r b c)) (λ c z. none-past c z (occurrences c (chain (ctx s olds) r)) refl))
+      (length-once (s .site .N) (chain (ctx s olds) r) (λ c. omega (arith, chain-once I r b c))
+      (λ c z. none-past c z (occurrences c (chain (ctx s olds) r)) refl))
       (I .slotsFew) (I .linked r b) (λ c z. omega (arith, I .slotsLength, chain-in I r b c z))
     where
       none-past : (c : ℕ) → s .site .N ≤ c → (n : ℕ) → occurrences c (chain (ctx s olds) r) ≡ n → occurrences c (chain (ctx s olds) r) ≡ 0
@@ -78,7 +82,7 @@ module _ {now : ℕ} {s : Store} {olds : List (List ℕ)} {h : List Call} {o : L
       (a .0, a .1, subst (λ (l : List ℕ). 0 < occurrences c l) (sym (register-list (a .0) (a .1))) (a .2))
 
   pub refuses-14 : Refuses14 s
-  unfolding stepAt putPublish
+  unfolding stepAt timeStep putPublish
   refuses-14 w r x e = go (s .free) refl
     where
       go : (l : List ℕ) → s .free ≡ l → (putPublish s w r x l .answer ≡ No 14) ↔ EverySlotListed s
@@ -104,7 +108,8 @@ module _ {now : ℕ} {s : Store} {olds : List (List ℕ)} {h : List Call} {o : L
   unfolding occurrences
   near c b = in-free (occurrences c (s .free)) refl
     where
-      in-old : (n : ℕ) → pend c (s .workers) (s .queue) ≡ n → occurrences c (s .free) ≡ 0 → Near (nth (s .slots) c .older) × Near (nth (s .slots) c .newer)
+      in-old : (n : ℕ) → pend c (s .workers) (s .queue) ≡ n → occurrences c (s .free) ≡ 0
+          → Near (nth (s .slots) c .older) × Near (nth (s .slots) c .newer)
       in-old zero z y =
           let a = times-some (s .newest) c (omega (arith, z, y, I .once c, below-one c (s .site .N) b)) in
           let r : a .0 < s .site .V' = omega (arith, a .1, I .newestLength) in

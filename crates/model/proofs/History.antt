@@ -3,23 +3,24 @@ use mathlib.Core.Path.{_≡_, refl, sym, ap, _∙_, subst}
 use mathlib.Core.Bool.{true, false, cond}
 use mathlib.Core.Logic.{_≢_, _⊎_, inl, inr, ⊎-elim}
 use mathlib.Core.List.{List, [], _∷_, _++_, map}
-use mathlib.Core.Option.{Option}
+use mathlib.Core.Option.{Option, none, some}
 use Prim.Native.Nat.{ℕ, suc, _+_, _<_}
 use native.Mathlib.Omega.{arith}
 use lib.Dec.{eqb}
 use lib.ListN.{length, length-append, List·getD-append}
 use lib.Seq.{getD-append-seam}
 use Rattle.model.specs.Store.{Reading}
-use Rattle.model.specs.Answer.{Answer, Ok, Going, Freed, At, Value, Done, No}
+use Rattle.model.specs.Answer.{Answer, said}
 use Rattle.model.specs.Record.{Operation}
-use Rattle.model.specs.Demand.{Ending, Unfinished, RefusedAt, FinishedAt, Call, endAs, endOnce, endFor, Plain, feed, shows, call₀, occurrences, Stands, Agrees, callAt}
+use Rattle.model.specs.Demand.{Ending, Unfinished, RefusedAt, FinishedAt, Call, endAs, endOnce, endFor, Plain, feed, shows, call₀, occurrences, Stands, Agrees, callAt, endBy}
 use Rattle.model.proofs.Basic.{hit-other, lt-cases, eq-cases, occurrences-snoc}
 use Rattle.model.proofs.Linear.{Lin, lin-skip, lin-begin, lin-end, lin-end-agree, endOnce-keep, ended-length, ended-same, ended-own, ended-other}
 use Rattle.model.proofs.Invariant.{Running, NoneRunning}
 
 pub record Hist (now w : ℕ) (h : List Call) (o : List ℕ) (p : Plain) (h′ : List Call) (o′ : List ℕ) (p′ : Plain) : Type 0 where
   pub shut : (v : ℕ) → v ≢ w → NoneRunning h v → NoneRunning h′ v
-  pub running : (v : ℕ) → v ≢ w → (k : ℕ) → Running h v k → Running h′ v k × (callAt h′ k .operation ≡ callAt h k .operation) × (occurrences k o′ ≡ occurrences k o)
+  pub running : (v : ℕ) → v ≢ w → (k : ℕ) → Running h v k
+      → Running h′ v k × (callAt h′ k .operation ≡ callAt h k .operation) × (occurrences k o′ ≡ occurrences k o)
   pub linear : Lin now h′ o′ p′
   pub registers : (r : ℕ) → p′ .registers r ≡ p .registers r
   pub copy : (v : ℕ) → v ≢ w → p′ .copy v ≡ p .copy v
@@ -34,7 +35,8 @@ unfolding endFor
 ended-none now w a [] f = refl
 ended-none now w a (c ∷ h) f =
     rw (ended-none now w a h (λ i z. f (suc i) (omega (arith, z))))
-    (ap (λ (e : Ending). record { operation = c .operation; worker = c .worker; begun = c .begun; ending = e } ∷ h) (⊎-elim own other (eq-cases (c .worker) w)))
+    (ap (λ (e : Ending). record { operation = c .operation; worker = c .worker; begun = c .begun; ending = e } ∷ h)
+    (⊎-elim own other (eq-cases (c .worker) w)))
   where
     own : (c .worker ≡ w) × (eqb (c .worker) w ≡ true) → cond (eqb (c .worker) w) (endOnce (c .ending) (endAs now a)) (c .ending) ≡ c .ending
     own u = rw (u .1) (endOnce-keep (c .ending) (endAs now a) (f 0 (omega arith) (u .0)))
@@ -63,7 +65,8 @@ module _ (now w : ℕ) (h : List Call) (o : List ℕ) (p : Plain) (L : Lin now h
     split⁺ : (i : ℕ) → i < length h⁺ → (i < length h) ⊎ (i ≡ length h)
     split⁺ i z = ⊎-elim (λ u. inl (u .0)) (λ u. inr (omega (arith, len⁺, u .0))) (lt-cases i (length h))
 
-    old⁺ : (v : ℕ) → v ≢ w → (i : ℕ) → i < length h⁺ → callAt h⁺ i .worker ≡ v → callAt h⁺ i .ending ≡ Unfinished → (i < length h) × (callAt h i .worker ≡ v) × (callAt h i .ending ≡ Unfinished)
+    old⁺ : (v : ℕ) → v ≢ w → (i : ℕ) → i < length h⁺ → callAt h⁺ i .worker ≡ v → callAt h⁺ i .ending ≡ Unfinished
+        → (i < length h) × (callAt h i .worker ≡ v) × (callAt h i .ending ≡ Unfinished)
     old⁺ v n i z a b =
         ⊎-elim
         (λ u. (u, ap (λ (d : Call). d .worker) (sym (keep⁺ i u)) ∙ a, ap (λ (d : Call). d .ending) (sym (keep⁺ i u)) ∙ b))
@@ -114,14 +117,11 @@ module _ (now w : ℕ) (h : List Call) (o : List ℕ) (p : Plain) (L : Lin now h
   Over (FinishedAt i a) = Unit {0}
 
   over : (i : ℕ) (a : Answer) → Over (endAs i a)
-  unfolding endAs
-  over i Ok = tt
-  over i Going = tt
-  over i (Freed c) = tt
-  over i (At t) = tt
-  over i (Value x) = tt
-  over i Done = tt
-  over i (No k) = tt
+  over i a = go (said a .refusal)
+    where
+      go : (y : Option ℕ) → Over (endBy i a y)
+      go none = tt
+      go (some k) = tt
 
   module _ (a : Answer) (k : ℕ) (K : Running h w k) where
     abbrev h⁻ : List Call
@@ -140,7 +140,8 @@ module _ (now w : ℕ) (h : List Call) (o : List ℕ) (p : Plain) (L : Lin now h
     own⁻ = ended-own now w a h k (K .within) (K .own) (K .unfinished) (K .only)
 
     -- of another worker: as before
-    old⁻ : (v : ℕ) → v ≢ w → (i : ℕ) → i < length h⁻ → callAt h⁻ i .worker ≡ v → callAt h⁻ i .ending ≡ Unfinished → (i < length h) × (callAt h i .worker ≡ v) × (callAt h i .ending ≡ Unfinished)
+    old⁻ : (v : ℕ) → v ≢ w → (i : ℕ) → i < length h⁻ → callAt h⁻ i .worker ≡ v → callAt h⁻ i .ending ≡ Unfinished
+        → (i < length h) × (callAt h i .worker ≡ v) × (callAt h i .ending ≡ Unfinished)
     old⁻ v n i z x y =
         let b : i < length h = omega (arith, len⁻) in
         let q : callAt h i .worker ≡ v = sym (same⁻ i b .1) ∙ x in
@@ -163,7 +164,8 @@ module _ (now w : ℕ) (h : List Call) (o : List ℕ) (p : Plain) (L : Lin now h
           only = λ i z x y. let q = old⁻ v n i z x y in f .only i (q .0) (q .1) (q .2);
         }
 
-    pub hist-end : Stands (endAs now a) (occurrences k o) → ((s : Option Reading) → Agrees (callAt h k .operation) (endAs now a) s) → Hist (now + 1) w h o p h⁻ o p
+    pub hist-end : Stands (endAs now a) (occurrences k o) → ((s : Option Reading) → Agrees (callAt h k .operation) (endAs now a) s)
+        → Hist (now + 1) w h o p h⁻ o p
     hist-end st ag =
         record {
           shut = λ v n f i z x y. let q = old⁻ v n i z x y in f i (q .0) (q .1) (q .2);
@@ -174,7 +176,8 @@ module _ (now w : ℕ) (h : List Call) (o : List ℕ) (p : Plain) (L : Lin now h
         }
 
     pub hist-show : occurrences k o ≡ 0 → Stands (endAs now a) 1 → Agrees (callAt h k .operation) (endAs now a) (shows p w (callAt h k .operation))
-        → ((r : ℕ) → feed p w (callAt h k .operation) .registers r ≡ p .registers r) → ((v : ℕ) → v ≢ w → feed p w (callAt h k .operation) .copy v ≡ p .copy v)
+        → ((r : ℕ) → feed p w (callAt h k .operation) .registers r ≡ p .registers r)
+        → ((v : ℕ) → v ≢ w → feed p w (callAt h k .operation) .copy v ≡ p .copy v)
         → Hist (now + 1) w h o p h⁻ (o ++ (k ∷ [])) (feed p w (callAt h k .operation))
     hist-show nt st ag rg cp =
         record {

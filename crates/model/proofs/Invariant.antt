@@ -5,14 +5,15 @@
 -- Besides the store the invariant speaks of: `olds`, for each register the slots of its versions below the newest, newest first; the calls
 -- of the history so far; their order so far; and the plain registers that this order has led to.
 use mathlib.Core.Path.{_≡_}
-use mathlib.Core.Bool.{cond}
+use mathlib.Core.Bool.{Bool, true, false, cond}
 use mathlib.Core.Logic.{_⊎_}
 use mathlib.Core.List.{List, [], _∷_}
 use mathlib.Core.Option.{some}
 use Prim.Native.Nat.{ℕ, _+_, _≤_, _<_}
 use lib.Dec.{ltb}
 use lib.ListN.{length, getD}
-use Rattle.model.specs.Store.{absent, Reading, Slot, Range, Doing, Idle, PutPublish, PutStamp, PutHandIn, FlushTake, FlushRead, FlushFree, OpenAnnounce, OpenPass, ReadEnter, ReadStand, CloseWithdraw, GetShow, Worker, Store, workerAt, newestOf, holders, held}
+use Rattle.model.specs.Store.{absent, Reading, Slot, Range, TimeStep, OpenAnnounce, OpenPass, CloseWithdraw, Doing, Idle, PutPublish, PutStamp, PutHandIn, FlushTake, FlushRead, FlushFree, OnTime, ReadEnter, ReadStand, GetShow, Worker, Store, workerAt, newestOf, holders, held}
+use Rattle.model.specs.About.{Hand, Empty, Covered, Merged, Needless, about}
 use Rattle.model.specs.Record.{Operation, Put, Open, Read, Close, Get, Collect}
 use Rattle.model.specs.Demand.{Unfinished, Call, Plain, occurrences, All, callAt}
 use Rattle.model.specs.Reached.{sumBy}
@@ -33,7 +34,8 @@ pub record Ctx : Type 0 where
   pub holders : ℕ
 
 abbrev pub ctx : Store → List (List ℕ) → Ctx
-ctx s olds = record { slots = s .slots; clock = s .clock; newest = s .newest; olds = olds; held = held s; registers = s .site .V'; holders = holders s }
+ctx s olds =
+    record { slots = s .slots; clock = s .clock; newest = s .newest; olds = olds; held = held s; registers = s .site .V'; holders = holders s }
 
 -- the slot of register r's newest version
 abbrev pub top : Ctx → ℕ → ℕ
@@ -50,21 +52,16 @@ chain x r = top x r ∷ old x r
 ------------------------------------------------------------------------
 -- Pending versions: covered, and on their way to be freed
 
--- how often slot c is held by a worker's place
+-- how often slot c is in a hand
+abbrev pub inHandOf : ℕ → Hand → ℕ
+inHandOf c Empty = 0
+inHandOf c (Covered d) = hit d c
+inHandOf c (Merged m ts) = cnt c m
+inHandOf c (Needless m) = cnt c m
+
+-- at a worker's place
 abbrev pub inDoing : ℕ → Doing → ℕ
-inDoing c Idle = 0
-inDoing c (PutPublish r y) = 0
-inDoing c (PutStamp r d) = hit d c
-inDoing c (PutHandIn r d) = hit d c
-inDoing c FlushTake = 0
-inDoing c (FlushRead m ts) = cnt c m
-inDoing c (FlushFree m) = cnt c m
-inDoing c OpenAnnounce = 0
-inDoing c OpenPass = 0
-inDoing c (ReadEnter r) = 0
-inDoing c (ReadStand r d) = 0
-inDoing c CloseWithdraw = 0
-inDoing c (GetShow r) = 0
+inDoing c d = inHandOf c (about d .hand)
 
 -- by a worker
 abbrev pub pendW : ℕ → Worker → ℕ
@@ -102,6 +99,12 @@ Spared x ρ = (v : ℕ) → v < x .holders → x .held v < absent → ρ .low �
 abbrev pub Snap : Ctx → Plain → ℕ → ℕ → Type 0
 Snap x p w t = (f : ℕ → Reading) × (p .copy w ≡ some f) × ((r : ℕ) → r < x .registers → Sees (x .slots) t (f r) (chain x r))
 
+-- what holds of the announced time t before a step that moves it
+abbrev pub TimeHolds : Ctx → ℕ → TimeStep → Type 0
+TimeHolds x t OpenAnnounce = t ≡ absent
+TimeHolds x t OpenPass = (t ≤ x .clock) × (t < 4294967295)
+TimeHolds x t CloseWithdraw = t < x .clock
+
 -- what holds at a worker's place, whose announced time is t
 abbrev pub PlaceHolds : Ctx → Plain → ℕ → ℕ → Doing → Type 0
 PlaceHolds x p w t Idle = Settled x t
@@ -111,11 +114,12 @@ PlaceHolds x p w t (PutHandIn r c) = (r < x .registers) × Settled x t × (0 < o
 PlaceHolds x p w t FlushTake = Settled x t
 PlaceHolds x p w t (FlushRead m ts) = Settled x t × All (Good x) m × (length ts ≤ x .holders) × All (Asked x ts) m
 PlaceHolds x p w t (FlushFree m) = Settled x t × All (Good x) m × All (Spared x) m
-PlaceHolds x p w t OpenAnnounce = t ≡ absent
-PlaceHolds x p w t OpenPass = (t ≤ x .clock) × (t < 4294967295)
-PlaceHolds x p w t (ReadEnter r) = (r < x .registers) × (t < x .clock)
-PlaceHolds x p w t (ReadStand r c) = (r < x .registers) × (t < x .clock) × ((f : ℕ → Reading) × (p .copy w ≡ some f) × On (x .slots) t c (f r) (chain x r))
-PlaceHolds x p w t CloseWithdraw = t < x .clock
+PlaceHolds x p w t (OnTime y) = TimeHolds x t y
+PlaceHolds x p w t (ReadEnter g) = (g .register < x .registers) × (t < x .clock)
+PlaceHolds x p w t (ReadStand g c) =
+    (g .register < x .registers)
+    × (t < x .clock)
+    × ((f : ℕ → Reading) × (p .copy w ≡ some f) × On (x .slots) t c (f (g .register)) (chain x (g .register)))
 PlaceHolds x p w t (GetShow r) = (r < x .registers) × Settled x t
 
 -- call k is the one that worker w is performing
@@ -134,40 +138,43 @@ IsPut c = (r : ℕ) × (y : Reading) × (c ≡ Put r y)
 
 -- The operation that is performed fits the worker's place, and n, how often its call stands in the order, says whether it has taken effect: a
 -- put once its version is stamped, an open once the clock is past its time, all others at their end.
+abbrev pub FitsTime : Ctx → ℕ → Operation → TimeStep → ℕ → Type 0
+FitsTime x t c OpenAnnounce n = (c ≡ Open) × (n ≡ 0)
+FitsTime x t c OpenPass n = (c ≡ Open) × (((t ≡ x .clock) × (n ≡ 0)) ⊎ ((t < x .clock) × (n ≡ 1)))
+FitsTime x t c CloseWithdraw n = (c ≡ Close) × (n ≡ 0)
+
+-- a flush ends a put that has taken effect, or is a collect
+abbrev pub FitsFlush : Operation → ℕ → Type 0
+FitsFlush c n = (IsPut c × (n ≡ 1)) ⊎ ((c ≡ Collect) × (n ≡ 0))
+
 abbrev pub Fits : Ctx → ℕ → Operation → Doing → ℕ → Type 0
 Fits x t c Idle n = ⊥
 Fits x t c (PutPublish r y) n = (c ≡ Put r y) × (n ≡ 0)
 Fits x t c (PutStamp r d) n =
-    (y : Reading) × (c ≡ Put r y) × (((nth (x .slots) d .high ≡ absent) × (n ≡ 0) × (nth (x .slots) (top x r) .value ≡ y)) ⊎ ((nth (x .slots) d .high ≤ x .clock) × (n ≡ 1)))
+    (y : Reading)
+    × (c ≡ Put r y)
+    × (((nth (x .slots) d .high ≡ absent) × (n ≡ 0) × (nth (x .slots) (top x r) .value ≡ y))
+    ⊎ ((nth (x .slots) d .high ≤ x .clock) × (n ≡ 1)))
 Fits x t c (PutHandIn r d) n = IsPut c × (n ≡ 1)
-Fits x t c FlushTake n = (IsPut c × (n ≡ 1)) ⊎ ((c ≡ Collect) × (n ≡ 0))
-Fits x t c (FlushRead m ts) n = (IsPut c × (n ≡ 1)) ⊎ ((c ≡ Collect) × (n ≡ 0))
-Fits x t c (FlushFree m) n = (IsPut c × (n ≡ 1)) ⊎ ((c ≡ Collect) × (n ≡ 0))
-Fits x t c OpenAnnounce n = (c ≡ Open) × (n ≡ 0)
-Fits x t c OpenPass n = (c ≡ Open) × (((t ≡ x .clock) × (n ≡ 0)) ⊎ ((t < x .clock) × (n ≡ 1)))
-Fits x t c (ReadEnter r) n = (c ≡ Read r) × (n ≡ 0)
-Fits x t c (ReadStand r d) n = (c ≡ Read r) × (n ≡ 0)
-Fits x t c CloseWithdraw n = (c ≡ Close) × (n ≡ 0)
+Fits x t c FlushTake n = FitsFlush c n
+Fits x t c (FlushRead m ts) n = FitsFlush c n
+Fits x t c (FlushFree m) n = FitsFlush c n
+Fits x t c (OnTime y) n = FitsTime x t c y n
+Fits x t c (ReadEnter g) n = (c ≡ Read (g .register)) × (n ≡ 0)
+Fits x t c (ReadStand g d) n = (c ≡ Read (g .register)) × (n ≡ 0)
 Fits x t c (GetShow r) n = (c ≡ Get r) × (n ≡ 0)
 
 -- a worker that is not idle performs a call that fits its place
 abbrev pub Busy : Ctx → List Call → List ℕ → ℕ → ℕ → Doing → Type 0
 Busy x h o w t d = (k : ℕ) × Running h w k × Fits x t (callAt h k .operation) d (occurrences k o)
 
+-- an idle one performs none
+abbrev pub CurrentOf : Ctx → List Call → List ℕ → ℕ → ℕ → Doing → Bool → Type 0
+CurrentOf x h o w t d true = NoneRunning h w
+CurrentOf x h o w t d false = Busy x h o w t d
+
 abbrev pub Current : Ctx → List Call → List ℕ → ℕ → ℕ → Doing → Type 0
-Current x h o w t Idle = NoneRunning h w
-Current x h o w t (PutPublish r y) = Busy x h o w t (PutPublish r y)
-Current x h o w t (PutStamp r c) = Busy x h o w t (PutStamp r c)
-Current x h o w t (PutHandIn r c) = Busy x h o w t (PutHandIn r c)
-Current x h o w t FlushTake = Busy x h o w t FlushTake
-Current x h o w t (FlushRead m ts) = Busy x h o w t (FlushRead m ts)
-Current x h o w t (FlushFree m) = Busy x h o w t (FlushFree m)
-Current x h o w t OpenAnnounce = Busy x h o w t OpenAnnounce
-Current x h o w t OpenPass = Busy x h o w t OpenPass
-Current x h o w t (ReadEnter r) = Busy x h o w t (ReadEnter r)
-Current x h o w t (ReadStand r c) = Busy x h o w t (ReadStand r c)
-Current x h o w t CloseWithdraw = Busy x h o w t CloseWithdraw
-Current x h o w t (GetShow r) = Busy x h o w t (GetShow r)
+Current x h o w t d = CurrentOf x h o w t d (about d .idle)
 
 -- all of one worker
 pub record Works (x : Ctx) (h : List Call) (o : List ℕ) (p : Plain) (w : ℕ) (y : Worker) : Type 0 where

@@ -1,5 +1,6 @@
 pub mod Cases
 pub mod Basic
+pub mod View
 pub mod Linear
 pub mod Slots
 pub mod Chain

@@ -3,7 +3,7 @@ use mathlib.Core.Path.{_≡_, refl, sym, ap, _∙_, subst}
 use mathlib.Core.Bool.{Bool, true, false, cond}
 use mathlib.Core.Logic.{_≢_, ⊎-elim}
 use mathlib.Core.List.{List, [], _∷_, _++_, map}
-use mathlib.Core.Option.{Option}
+use mathlib.Core.Option.{Option, none, some}
 use Prim.Native.Nat.{ℕ, _+_, _≤_, _<_}
 use native.Mathlib.Omega.{arith}
 use lib.Dec.{ltb, eqb}
@@ -11,10 +11,10 @@ use lib.ListN.{length, length-append, length-map, List·getD-append}
 use lib.Seq.{getD-append-seam}
 use borrow.Author.Tests.{eqb-true, eq-eqb}
 use Rattle.model.specs.Store.{Reading}
-use Rattle.model.specs.Answer.{Answer, Ok, Going, Freed, At, Value, Done, No}
+use Rattle.model.specs.Answer.{Answer, said}
 use Rattle.model.specs.Steps.{answerFor}
-use Rattle.model.specs.Record.{Operation, Put, Open, Read, Close, Get, Collect}
-use Rattle.model.specs.Demand.{Ending, Unfinished, RefusedAt, FinishedAt, Call, ends, endAs, endOnce, endFor, Plain, plain₀, feed, shows, call₀, finishes, occurrences, All, Stands, EndsBefore, Ordered, Agrees, RegistersAgree, IsOrder, callAt}
+use Rattle.model.specs.Record.{Operation}
+use Rattle.model.specs.Demand.{Ending, Unfinished, RefusedAt, FinishedAt, Call, endAs, endOnce, endFor, Plain, plain₀, feed, shows, call₀, finishes, occurrences, All, Stands, EndsBefore, Ordered, Agrees, RegistersAgree, IsOrder, callAt, endBy, showing, AgreesIf}
 use Rattle.model.proofs.Basic.{hit-same, hit-other, occurrences-snoc, eq-cases, lt-cases, All-append, getD-map}
 
 unfoldable pub after : List Call → Plain → List ℕ → Plain
@@ -26,7 +26,8 @@ after h p (i ∷ o) = after h (feed p (callAt h i .worker) (callAt h i .operatio
 
 pub Ordered-mono : (h h′ : List Call) (o : List ℕ)
     → ((i : ℕ) → 0 < occurrences i o → callAt h′ i .begun ≡ callAt h i .begun)
-    → ((i j : ℕ) → 0 < occurrences i o → 0 < occurrences j o → EndsBefore (callAt h i .begun) (callAt h′ j .ending) → EndsBefore (callAt h i .begun) (callAt h j .ending))
+    → ((i j : ℕ) → 0 < occurrences i o → 0 < occurrences j o → EndsBefore (callAt h i .begun) (callAt h′ j .ending)
+    → EndsBefore (callAt h i .begun) (callAt h j .ending))
     → Ordered h o → Ordered h′ o
 unfolding Ordered occurrences
 Ordered-mono h h′ [] b e t = tt
@@ -38,10 +39,12 @@ Ordered-mono h h′ (i ∷ o) b e t = (
     here : 0 < occurrences i (i ∷ o)
     here = omega (arith, hit-same i)
 
-    both : (q : List ℕ) → ((j : ℕ) → 0 < occurrences j q → 0 < occurrences j o) → All (λ j. EndsBefore (callAt h i .begun) (callAt h j .ending) → ⊥) q → All (λ j. EndsBefore (callAt h′ i .begun) (callAt h′ j .ending) → ⊥) q
+    both : (q : List ℕ) → ((j : ℕ) → 0 < occurrences j q → 0 < occurrences j o)
+        → All (λ j. EndsBefore (callAt h i .begun) (callAt h j .ending) → ⊥) q → All (λ j. EndsBefore (callAt h′ i .begun) (callAt h′ j .ending) → ⊥) q
     both [] sub u = tt
     both (j ∷ q) sub u = (
-      (λ z. u .0 (e i j here (omega (arith, sub j (omega (arith, hit-same j)))) (subst (λ (k : ℕ). EndsBefore k (callAt h′ j .ending)) (b i here) z))),
+      (λ z. u .0 (e i j here (omega (arith, sub j (omega (arith, hit-same j))))
+          (subst (λ (k : ℕ). EndsBefore k (callAt h′ j .ending)) (b i here) z))),
       both q (λ k y. sub k (omega arith)) (u .1),
     )
 
@@ -56,13 +59,18 @@ after-mono h h′ p (i ∷ o) c =
 
 pub RegistersAgree-mono : (h h′ : List Call) (p : Plain) (o : List ℕ)
     → ((i : ℕ) → 0 < occurrences i o → (callAt h′ i .operation ≡ callAt h i .operation) × (callAt h′ i .worker ≡ callAt h i .worker))
-    → ((i : ℕ) (s : Option Reading) → 0 < occurrences i o → Agrees (callAt h i .operation) (callAt h i .ending) s → Agrees (callAt h i .operation) (callAt h′ i .ending) s)
+    → ((i : ℕ) (s : Option Reading) → 0 < occurrences i o → Agrees (callAt h i .operation) (callAt h i .ending) s
+    → Agrees (callAt h i .operation) (callAt h′ i .ending) s)
     → RegistersAgree h p o → RegistersAgree h′ p o
 unfolding RegistersAgree occurrences
 RegistersAgree-mono h h′ p [] c a t = tt
 RegistersAgree-mono h h′ p (i ∷ o) c a t =
     let e = c i (omega (arith, hit-same i)) in
-    rw (e .0, e .1) (a i _ (omega (arith, hit-same i)) (t .0), RegistersAgree-mono h h′ (feed p (callAt h i .worker) (callAt h i .operation)) o (λ j x. c j (omega arith)) (λ j s x. a j s (omega arith)) (t .1))
+    rw (e .0, e .1) (
+      a i _ (omega (arith, hit-same i)) (t .0),
+      RegistersAgree-mono h h′ (feed p (callAt h i .worker) (callAt h i .operation)) o
+          (λ j x. c j (omega arith)) (λ j s x. a j s (omega arith)) (t .1),
+    )
 
 ------------------------------------------------------------------------
 -- One more at the end
@@ -75,7 +83,8 @@ Ordered-snoc h [] k n t = (tt, tt)
 Ordered-snoc h (i ∷ o) k n t =
     (All-append _ o (k ∷ []) (t .0) (n i (omega (arith, hit-same i)), tt), Ordered-snoc h o k (λ j x. n j (omega arith)) (t .1))
 
-pub after-snoc : (h : List Call) (p : Plain) (o : List ℕ) (k : ℕ) → after h p (o ++ (k ∷ [])) ≡ feed (after h p o) (callAt h k .worker) (callAt h k .operation)
+pub after-snoc : (h : List Call) (p : Plain) (o : List ℕ) (k : ℕ)
+    → after h p (o ++ (k ∷ [])) ≡ feed (after h p o) (callAt h k .worker) (callAt h k .operation)
 unfolding after
 after-snoc h p [] k = refl
 after-snoc h p (i ∷ o) k = after-snoc h (feed p (callAt h i .worker) (callAt h i .operation)) o k
@@ -100,32 +109,30 @@ pub lin-skip : {now : ℕ} {h : List Call} {o : List ℕ} {p : Plain} → Lin no
 lin-skip L = record { isOrder = L .isOrder; early = λ i x. omega (arith, L .early i x); come = L .come }
 
 agrees-unended : (c : Operation) (s : Option Reading) → Agrees c Unfinished s
-agrees-unended (Put r x) s = tt
-agrees-unended Open s = tt
-agrees-unended (Read r) s = tt
-agrees-unended Close s = tt
-agrees-unended (Get r) s = tt
-agrees-unended Collect s = tt
+agrees-unended c s = go (showing c)
+  where
+    go : (b : Bool) → AgreesIf b Unfinished s
+    go true = tt
+    go false = tt
 
 pub agrees-refused : (c : Operation) (i : ℕ) (s : Option Reading) → Agrees c (RefusedAt i) s
-agrees-refused (Put r x) i s = tt
-agrees-refused Open i s = tt
-agrees-refused (Read r) i s = tt
-agrees-refused Close i s = tt
-agrees-refused (Get r) i s = tt
-agrees-refused Collect i s = tt
+agrees-refused c i s = go (showing c)
+  where
+    go : (b : Bool) → AgreesIf b (RefusedAt i) s
+    go true = tt
+    go false = tt
 
 -- an answer that shows a reading ends its operation as finished, and frees nothing
-pub answerFor-ends : (x : Reading) → ends (answerFor x) ≡ true
-unfolding answerFor ends
+pub answerFor-ends : (x : Reading) → said (answerFor x) .ends ≡ true
+unfolding answerFor
 answerFor-ends x = refl
 
 pub answerFor-finishes : (x : Reading) → finishes (answerFor x) ≡ true
-unfolding answerFor finishes
+unfolding answerFor
 answerFor-finishes x = refl
 
 pub answerFor-end : (i : ℕ) (x : Reading) → endAs i (answerFor x) ≡ FinishedAt i (answerFor x)
-unfolding answerFor endAs
+unfolding answerFor
 answerFor-end i x = refl
 
 module _ {now : ℕ} {h : List Call} {o : List ℕ} {p : Plain} (L : Lin now h o p) where
@@ -140,10 +147,16 @@ module _ {now : ℕ} {h : List Call} {o : List ℕ} {p : Plain} (L : Lin now h o
             record {
               within = λ i x. L .isOrder .within i (omega (arith, length-append h (d ∷ [])));
               stands = λ i x. ⊎-elim (old i) (new i x) (lt-cases i (length h));
-              ordered = Ordered-mono h h′ o (λ i x. ap (λ (v : Call). v .begun) (keep i x)) (λ i j x y z. subst (λ (v : Call). EndsBefore (callAt h i .begun) (v .ending)) (keep j y) z) (L .isOrder .ordered);
-              registersAgree = RegistersAgree-mono h h′ plain₀ o (λ i x. (ap (λ (v : Call). v .operation) (keep i x), ap (λ (v : Call). v .worker) (keep i x))) (λ i s x. subst (λ (v : Call). Agrees (callAt h i .operation) (v .ending) s) (sym (keep i x))) (L .isOrder .registersAgree);
+              ordered =
+                  Ordered-mono h h′ o (λ i x. ap (λ (v : Call). v .begun) (keep i x))
+                  (λ i j x y z. subst (λ (v : Call). EndsBefore (callAt h i .begun) (v .ending)) (keep j y) z) (L .isOrder .ordered);
+              registersAgree =
+                  RegistersAgree-mono h h′ plain₀ o (λ i x. (ap (λ (v : Call). v .operation) (keep i x), ap (λ (v : Call). v .worker) (keep i x)))
+                  (λ i s x. subst (λ (v : Call). Agrees (callAt h i .operation) (v .ending) s) (sym (keep i x))) (L .isOrder .registersAgree);
             };
-        early = λ i x. ⊎-elim (λ u. omega (arith, L .early i (u .0), ap (λ (v : Call). v .begun) (List·getD-append h (d ∷ []) call₀ i (u .0)))) (λ u. omega (arith, b, ap (λ (v : Call). v .begun) (last i x (u .0)))) (lt-cases i (length h));
+        early =
+            λ i x. ⊎-elim (λ u. omega (arith, L .early i (u .0), ap (λ (v : Call). v .begun) (List·getD-append h (d ∷ []) call₀ i (u .0))))
+            (λ u. omega (arith, b, ap (λ (v : Call). v .begun) (last i x (u .0)))) (lt-cases i (length h));
         come = after-mono h h′ plain₀ o (λ i x. (ap (λ (v : Call). v .operation) (keep i x), ap (λ (v : Call). v .worker) (keep i x))) ∙ L .come;
       }
     where
@@ -165,7 +178,8 @@ module _ {now : ℕ} {h : List Call} {o : List ℕ} {p : Plain} (L : Lin now h o
       new i x y = rw (last i x (y .0), u) (omega (arith, L .isOrder .within i (y .0)))
 
   -- operation k, which has not ended, takes effect
-  pub lin-effect : (k : ℕ) → k < length h → callAt h k .ending ≡ Unfinished → occurrences k o ≡ 0 → Lin now h (o ++ (k ∷ [])) (feed p (callAt h k .worker) (callAt h k .operation))
+  pub lin-effect : (k : ℕ) → k < length h → callAt h k .ending ≡ Unfinished → occurrences k o ≡ 0
+      → Lin now h (o ++ (k ∷ [])) (feed p (callAt h k .worker) (callAt h k .operation))
   lin-effect k x u z =
       record {
         isOrder =
@@ -180,7 +194,9 @@ module _ {now : ℕ} {h : List Call} {o : List ℕ} {p : Plain} (L : Lin now h o
       }
     where
       own : (i : ℕ) → (k ≡ i) × (eqb k i ≡ true) → Stands (callAt h i .ending) (occurrences i (o ++ (k ∷ [])))
-      own i e = subst (λ (j : ℕ). Stands (callAt h j .ending) (occurrences j (o ++ (k ∷ [])))) (e .0) (rw u (omega (arith, occurrences-snoc k o k, hit-same k)))
+      own i e =
+          subst (λ (j : ℕ). Stands (callAt h j .ending) (occurrences j (o ++ (k ∷ [])))) (e .0)
+          (rw u (omega (arith, occurrences-snoc k o k, hit-same k)))
 
       other : (i : ℕ) → i < length h → (k ≢ i) × (eqb k i ≡ false) → Stands (callAt h i .ending) (occurrences i (o ++ (k ∷ [])))
       other i y e =
@@ -233,17 +249,11 @@ module _ (now w : ℕ) (a : Answer) (h : List Call) (k : ℕ) (kin : k < length 
       go false e = refl
 
   late : (i : ℕ) → callAt h i .begun < now → EndsBefore (callAt h i .begun) (endAs now a) → ⊥
-  unfolding endAs
-  late i x = go a
+  late i x = go (said a .refusal)
     where
-      go : (b : Answer) → EndsBefore (callAt h i .begun) (endAs now b) → ⊥
-      go Ok z = omega arith
-      go Going z = omega arith
-      go (Freed c) z = omega arith
-      go (At t) z = omega arith
-      go (Value y) z = omega arith
-      go Done z = omega arith
-      go (No y) z = omega arith
+      go : (y : Option ℕ) → EndsBefore (callAt h i .begun) (endBy now a y) → ⊥
+      go none z = omega arith
+      go (some k) z = omega arith
 
   module _ (o : List ℕ) (p : Plain) (L : Lin now h o p) where
     earlyE : (i : ℕ) → i < length ended → callAt ended i .begun < now + 1
@@ -253,7 +263,8 @@ module _ (now w : ℕ) (a : Answer) (h : List Call) (k : ℕ) (kin : k < length 
     orderedE =
         Ordered-mono h ended o (λ i x. ended-begun i (inside L i x))
         (λ i j x y z. ⊎-elim
-        (λ e. absurd (late i (L .early i (inside L i x)) (subst (EndsBefore (callAt h i .begun)) (ap (λ (q : ℕ). callAt ended q .ending) (sym (e .0)) ∙ ended-own) z)))
+        (λ e. absurd (late i (L .early i (inside L i x))
+        (subst (EndsBefore (callAt h i .begun)) (ap (λ (q : ℕ). callAt ended q .ending) (sym (e .0)) ∙ ended-own) z)))
         (λ e. subst (EndsBefore (callAt h i .begun)) (ended-other j (inside L j y) (e .0)) z)
         (eq-cases k j))
         (L .isOrder .ordered)
@@ -262,7 +273,8 @@ module _ (now w : ℕ) (a : Answer) (h : List Call) (k : ℕ) (kin : k < length 
     comeE = after-mono h ended plain₀ o (λ i x. ended-same i (inside L i x)) ∙ L .come
 
     -- it shows nothing, or is refused: it stands in the order as its ending says
-    pub lin-end : Stands (endAs now a) (occurrences k o) → ((s : Option Reading) → Agrees (callAt h k .operation) (endAs now a) s) → Lin (now + 1) ended o p
+    pub lin-end : Stands (endAs now a) (occurrences k o) → ((s : Option Reading) → Agrees (callAt h k .operation) (endAs now a) s)
+        → Lin (now + 1) ended o p
     lin-end st ag =
         record {
           isOrder =
@@ -270,14 +282,16 @@ module _ (now w : ℕ) (a : Answer) (h : List Call) (k : ℕ) (kin : k < length 
                 within = λ i x. L .isOrder .within i (omega (arith, ended-length));
                 stands = λ i x. let y : i < length h = omega (arith, ended-length) in
                     ⊎-elim
-                    (λ e. subst (λ (q : ℕ). Stands (callAt ended q .ending) (occurrences q o)) (e .0) (subst (λ (q : Ending). Stands q (occurrences k o)) (sym ended-own) st))
+                    (λ e. subst (λ (q : ℕ). Stands (callAt ended q .ending) (occurrences q o)) (e .0)
+                    (subst (λ (q : Ending). Stands q (occurrences k o)) (sym ended-own) st))
                     (λ e. subst (λ (q : Ending). Stands q (occurrences i o)) (sym (ended-other i y (e .0))) (L .isOrder .stands i y))
                     (eq-cases k i);
                 ordered = orderedE;
                 registersAgree =
                     RegistersAgree-mono h ended plain₀ o (λ i x. ended-same i (inside L i x))
                     (λ i s x z. ⊎-elim
-                    (λ e. subst (λ (q : ℕ). Agrees (callAt h q .operation) (callAt ended q .ending) s) (e .0) (subst (λ (q : Ending). Agrees (callAt h k .operation) q s) (sym ended-own) (ag s)))
+                    (λ e. subst (λ (q : ℕ). Agrees (callAt h q .operation) (callAt ended q .ending) s) (e .0)
+                    (subst (λ (q : Ending). Agrees (callAt h k .operation) q s) (sym ended-own) (ag s)))
                     (λ e. subst (λ (q : Ending). Agrees (callAt h i .operation) q s) (sym (ended-other i (inside L i x) (e .0))) z)
                     (eq-cases k i))
                     (L .isOrder .registersAgree);
@@ -294,7 +308,14 @@ module _ (now w : ℕ) (a : Answer) (h : List Call) (k : ℕ) (kin : k < length 
         record {
           isOrder =
               record {
-                within = λ i x. omega (arith, occurrences-snoc i o k, L .isOrder .within i (omega (arith, ended-length)), hit-other k i (omega (arith, ended-length)));
+                within =
+                    λ i x. omega (
+                      arith,
+                      occurrences-snoc i o k,
+                      L .isOrder .within i (omega (arith, ended-length)),
+                      hit-other k i
+                          (omega (arith, ended-length)),
+                    );
                 stands = λ i x. let y : i < length h = omega (arith, ended-length) in
                     ⊎-elim
                     (λ e. subst (λ (q : ℕ). Stands (callAt ended q .ending) (occurrences q (o ++ (k ∷ [])))) (e .0)
@@ -304,13 +325,16 @@ module _ (now w : ℕ) (a : Answer) (h : List Call) (k : ℕ) (kin : k < length 
                     (eq-cases k i);
                 ordered =
                     Ordered-snoc ended o k
-                    (λ i x e. late i (L .early i (inside L i x)) (subst (EndsBefore (callAt h i .begun)) ended-own (subst (λ (q : ℕ). EndsBefore q (callAt ended k .ending)) (ended-begun i (inside L i x)) e)))
+                    (λ i x e. late i (L .early i (inside L i x))
+                    (subst (EndsBefore (callAt h i .begun)) ended-own
+                    (subst (λ (q : ℕ). EndsBefore q (callAt ended k .ending)) (ended-begun i (inside L i x)) e)))
                     orderedE;
                 registersAgree =
                     RegistersAgree-snoc ended plain₀ o k
                     (rw (comeE, ended-own, ended-same k kin .0, ended-same k kin .1, kw) ag)
                     (RegistersAgree-mono h ended plain₀ o (λ i x. ended-same i (inside L i x))
-                    (λ i s x g. subst (λ (q : Ending). Agrees (callAt h i .operation) q s) (sym (ended-other i (inside L i x) (λ e. omega (arith, z, subst (λ (q : ℕ). 0 < occurrences q o) (sym e) x)))) g)
+                    (λ i s x g. subst (λ (q : Ending). Agrees (callAt h i .operation) q s)
+                    (sym (ended-other i (inside L i x) (λ e. omega (arith, z, subst (λ (q : ℕ). 0 < occurrences q o) (sym e) x)))) g)
                     (L .isOrder .registersAgree));
               };
           early = earlyE;

@@ -28,12 +28,14 @@ times-set (z ∷ l) zero y c h = omega arith
 times-set (z ∷ l) (suc i) y c h = omega (arith, times-set l i y c (le-of-suc-le-suc h))
 
 -- the ranges of a queue, each with its slot counted
-pub All-queue : {P Q : Range → Type 0} (q : List (List Range)) → ((ρ : Range) → 0 < sumBy (cnt (ρ .slot)) q → P ρ → Q ρ) → All (All P) q → All (All Q) q
+pub All-queue : {P Q : Range → Type 0} (q : List (List Range)) → ((ρ : Range) → 0 < sumBy (cnt (ρ .slot)) q → P ρ → Q ρ) → All (All P) q
+    → All (All Q) q
 unfolding sumBy
 All-queue [] f t = tt
 All-queue (m ∷ q) f t = (All-cnt m (λ ρ z. f ρ (omega (arith, z))) (t .0), All-queue q (λ ρ z. f ρ (omega (arith, z))) (t .1))
 
-module _ (now : ℕ) (s : Store) (olds : List (List ℕ)) (h : List Call) (o : List ℕ) (p : Plain) (I : Inv now s olds h o p) (w : ℕ) (wb : w < s .site .P)
+module _ (now : ℕ) (s : Store) (olds : List (List ℕ)) (h : List Call) (o : List ℕ) (p : Plain) (I : Inv now s olds h o p) (w : ℕ)
+    (wb : w < s .site .P)
     (r : ℕ) (b : r < s .site .V') (y : Reading) (e : workerAt s w .doing ≡ PutPublish r y) (st : nth (s .slots) (newestOf s r) .low ≤ s .clock)
     (f : ℕ) (fs : List ℕ) (fr : s .free ≡ f ∷ fs) where
   abbrev n : ℕ
@@ -137,7 +139,9 @@ module _ (now : ℕ) (s : Store) (olds : List (List ℕ)) (h : List Call) (o : L
   good : (ρ : Range) → ρ .slot ≢ f → Good x ρ → Good x′ ρ
   good ρ z g = (g .0 ∙ sym (lows (ρ .slot) z), g .1 ∙ sym (highs (ρ .slot) z), g .2, g .3)
 
-  mono : (a q : ℕ) → q < s .site .V' → (i : ℕ) → 0 < occurrences i (chain x q) → (nth sl i .low ≤ a → nth sl′ i .low ≤ a) × (a < nth sl i .low → a < nth sl′ i .low) × (a < nth sl i .high → a < nth sl′ i .high) × (nth sl′ i .value ≡ nth sl i .value)
+  mono : (a q : ℕ) → q < s .site .V' → (i : ℕ) → 0 < occurrences i (chain x q)
+      → (nth sl i .low ≤ a → nth sl′ i .low ≤ a) × (a < nth sl i .low → a < nth sl′ i .low) × (a < nth sl i .high → a < nth sl′ i .high)
+      × (nth sl′ i .value ≡ nth sl i .value)
   mono a q d i z =
       let k = chain-f q d i z in
       ((λ u. omega (arith, lows i k)), (λ u. omega (arith, lows i k)), (λ u. omega (arith, highs i k)), values i k)
@@ -146,7 +150,11 @@ module _ (now : ℕ) (s : Store) (olds : List (List ℕ)) (h : List Call) (o : L
   sees a v q d z g =
       let k : Sees sl′ a v (chain x q) = Sees-mono sl sl′ a v (chain x q) (mono a q d) g in
       ⊎-elim
-      (λ u. subst (λ (j : ℕ). Sees sl′ a v (chain x′ j)) (sym (u .0)) (subst (Sees sl′ a v) (sym chain-own) (inr (omega (arith, z, I .clockFits, ap (λ (i : Slot). i .low) is-f), subst (λ (j : ℕ). Sees sl′ a v (chain x j)) (u .0) k))))
+      (λ u. subst (λ (j : ℕ). Sees sl′ a v (chain x′ j)) (sym (u .0))
+      (subst (Sees sl′ a v) (sym chain-own) (inr (
+        omega (arith, z, I .clockFits, ap (λ (i : Slot). i .low) is-f),
+        subst (λ (j : ℕ). Sees sl′ a v (chain x j)) (u .0) k,
+      ))))
       (λ u. subst (Sees sl′ a v) (sym (chain-other q (u .0))) k)
       (eq-cases q r)
 
@@ -154,7 +162,11 @@ module _ (now : ℕ) (s : Store) (olds : List (List ℕ)) (h : List Call) (o : L
   ons a c v q d z g =
       let k : On sl′ a c v (chain x q) = On-mono sl sl′ a c v (chain x q) (mono a q d) g in
       ⊎-elim
-      (λ u. subst (λ (j : ℕ). On sl′ a c v (chain x′ j)) (sym (u .0)) (subst (On sl′ a c v) (sym chain-own) (inr (omega (arith, z, I .clockFits, ap (λ (i : Slot). i .low) is-f), subst (λ (j : ℕ). On sl′ a c v (chain x j)) (u .0) k))))
+      (λ u. subst (λ (j : ℕ). On sl′ a c v (chain x′ j)) (sym (u .0))
+      (subst (On sl′ a c v) (sym chain-own) (inr (
+        omega (arith, z, I .clockFits, ap (λ (i : Slot). i .low) is-f),
+        subst (λ (j : ℕ). On sl′ a c v (chain x j)) (u .0) k,
+      ))))
       (λ u. subst (On sl′ a c v) (sym (chain-other q (u .0))) k)
       (eq-cases q r)
 
@@ -164,7 +176,8 @@ module _ (now : ℕ) (s : Store) (olds : List (List ℕ)) (h : List Call) (o : L
       ⊎-elim
       (λ u. subst (λ (j : ℕ). Linked sl′ absent (chain x′ j)) (sym (u .0))
       (subst (Linked sl′ absent) (sym chain-own)
-      (Linked-link sl n f y (old x r) f-in (I .linked r b) (omega (arith, chain-once I r b f, f-free)) (omega (arith, chain-once I r b n, hit-same n)) (chain-in I r b n n-chain))))
+      (Linked-link sl n f y (old x r) f-in (I .linked r b) (omega (arith, chain-once I r b f, f-free))
+      (omega (arith, chain-once I r b n, hit-same n)) (chain-in I r b n n-chain))))
       (λ u. subst (Linked sl′ absent) (sym (chain-other q (u .0)))
       (Linked-same sl sl′ absent (chain x q)
       (λ i z. (
@@ -180,7 +193,8 @@ module _ (now : ℕ) (s : Store) (olds : List (List ℕ)) (h : List Call) (o : L
       ⊎-elim
       (λ u. subst (λ (j : ℕ). Fine sl′ ck (p .registers j) (chain x′ j)) (sym (u .0)) (subst (Fine sl′ ck (p .registers r)) (sym chain-own) own))
       (λ u. subst (Fine sl′ ck (p .registers q)) (sym (chain-other q (u .0)))
-      (Fine-same sl sl′ ck (p .registers q) (p .registers q) (chain x q) refl (λ i z. (lows i (chain-f q d i z), highs i (chain-f q d i z), values i (chain-f q d i z))) (I .stamps q d)))
+      (Fine-same sl sl′ ck (p .registers q) (p .registers q) (chain x q) refl
+      (λ i z. (lows i (chain-f q d i z), highs i (chain-f q d i z), values i (chain-f q d i z))) (I .stamps q d)))
       (eq-cases q r)
     where
       own : Fine sl′ ck (p .registers r) (f ∷ chain x r)
@@ -192,7 +206,8 @@ module _ (now : ℕ) (s : Store) (olds : List (List ℕ)) (h : List Call) (o : L
             omega (arith, st, lows n n≢f),
             highs n n≢f ∙ I .stamps r b .0,
             values n n≢f ∙ stamped .0,
-            All-occurrences (old x r) (λ i z. let g = All-get (Past sl ck) (old x r) (stamped .1) i z in let k = chain-f r b i (omega (arith, z)) in (omega (arith, g .0, lows i k), omega (arith, g .1, highs i k))),
+            All-occurrences (old x r) (λ i z. let g = All-get (Past sl ck) (old x r) (stamped .1) i z in let k = chain-f r b i
+                (omega (arith, z)) in (omega (arith, g .0, lows i k), omega (arith, g .1, highs i k))),
           ),
         ),
       )
@@ -201,14 +216,16 @@ module _ (now : ℕ) (s : Store) (olds : List (List ℕ)) (h : List Call) (o : L
   unfolding occurrences
   mem q c z =
       ⊎-elim
-      (λ u. subst (λ (j : ℕ). 0 < occurrences c (old x′ j)) (sym (u .0)) (omega (arith, ap (occurrences c) old-own, subst (λ (j : ℕ). 0 < occurrences c (old x j)) (u .0) z)))
+      (λ u. subst (λ (j : ℕ). 0 < occurrences c (old x′ j)) (sym (u .0))
+      (omega (arith, ap (occurrences c) old-own, subst (λ (j : ℕ). 0 < occurrences c (old x j)) (u .0) z)))
       (λ u. subst (λ (l : List ℕ). 0 < occurrences c l) (sym (old-other q (u .0))) z)
       (eq-cases q r)
 
   still : (v : ℕ) → x′ .held v ≡ x .held v
   still v =
       ⊎-elim
-      (λ u. ap (λ (i : ℕ). workerAt linked-store i .announced) (u .0) ∙ ap (λ (z : Worker). z .announced) at-own ∙ ap (λ (i : ℕ). workerAt s i .announced) (sym (u .0)))
+      (λ u. ap (λ (i : ℕ). workerAt linked-store i .announced) (u .0) ∙ ap (λ (z : Worker). z .announced) at-own
+      ∙ ap (λ (i : ℕ). workerAt s i .announced) (sym (u .0)))
       (λ u. ap (λ (z : Worker). z .announced) (at-other v (u .0)))
       (eq-cases v w)
 
@@ -221,7 +238,11 @@ module _ (now : ℕ) (s : Store) (olds : List (List ℕ)) (h : List Call) (o : L
         doing = doing-map x x′ p p v (workerAt s v .announced) refl (workerAt s v .doing) moves (Z .doing);
         current =
             current-map x x′ h h o o v (workerAt s v .announced) (workerAt s v .announced) (workerAt s v .doing) (λ z. z)
-            (λ k K g. (K, fits-map x x′ refl (workerAt s v .announced) (callAt h k .operation) (occurrences k o) (occurrences k o) refl (workerAt s v .doing) covers g))
+            (λ k K g. (
+              K,
+              fits-map x x′ refl (workerAt s v .announced) (callAt h k .operation) (occurrences k o) (occurrences k o) refl
+                  (workerAt s v .doing) covers g,
+            ))
             (Z .current);
       }
     where
@@ -238,7 +259,7 @@ module _ (now : ℕ) (s : Store) (olds : List (List ℕ)) (h : List Call) (o : L
             times′ = λ i z. inl (still i);
             mem = λ q c z u k. mem q c k;
             highs = λ c z k. omega (arith, k, highs c (work-f v vb c (omega (arith, z))));
-            on = λ q c a z u k. ons (workerAt s v .announced) c a q z u;
+            on = λ g c a z u k. ons (workerAt s v .announced) c a (g .register) z u;
           }
 
       covers : (q i : ℕ) → workerAt s v .doing ≡ PutStamp q i → Covers x x′ q i
@@ -247,8 +268,18 @@ module _ (now : ℕ) (s : Store) (olds : List (List ℕ)) (h : List Call) (o : L
           let k : i ≢ f = work-f v vb i (omega (arith, ap (inDoing i) z, hit-same i)) in (
             (λ u.
                 ⊎-elim
-                (λ g. absurd (omega (arith, I .clockFits, u, All-get (Past sl ck) (old x r) (stamped .1) i (subst (λ (j : ℕ). 0 < occurrences i (old x j)) (g .0) (d .2)) .1)))
-                (λ g. (highs i k ∙ u, ap (λ (j : ℕ). nth sl′ j .value) (top-other q (g .0)) ∙ values (top x q) (chain-f q (d .0) (top x q) (occurrences-head (top x q) (old x q)))))
+                (λ g. absurd (omega (
+                  arith,
+                  I .clockFits,
+                  u,
+                  All-get (Past sl ck) (old x r) (stamped .1) i
+                      (subst (λ (j : ℕ). 0 < occurrences i (old x j)) (g .0) (d .2)) .1,
+                )))
+                (λ g. (
+                  highs i k ∙ u,
+                  ap (λ (j : ℕ). nth sl′ j .value) (top-other q (g .0))
+                      ∙ values (top x q) (chain-f q (d .0) (top x q) (occurrences-head (top x q) (old x q))),
+                ))
                 (eq-cases q r)),
             (λ u. omega (arith, u, highs i k)),
           )
@@ -262,8 +293,20 @@ module _ (now : ℕ) (s : Store) (olds : List (List ℕ)) (h : List Call) (o : L
         snapshot = λ z. let a = Z .snapshot z in (a .0, a .1, λ q d. sees (workerAt s w .announced) (a .0 q) q d z (a .2 q d));
         doing = (b, doing-is now s olds h o p I w wb (PutPublish r y) e .1, omega (arith, ap (occurrences n) old-own, hit-same n));
         current =
-            let a = cur-is now s olds h o p I w wb (PutPublish r y) e in
-            (a .0, a .1, (y, a .2 .0, inl (highs n n≢f ∙ I .stamps r b .0, a .2 .1, ap (λ (j : ℕ). nth sl′ j .value) top-own ∙ ap (λ (v : Slot). v .value) is-f)));
+            let a = cur-is now s olds h o p I w wb (PutPublish r y) e in (
+              a .0,
+              a .1,
+              (
+                y,
+                a .2 .0,
+                inl (
+                  highs n n≢f ∙ I .stamps r b .0,
+                  a .2 .1,
+                  ap (λ (j : ℕ). nth sl′ j .value) top-own
+                      ∙ ap (λ (v : Slot). v .value) is-f,
+                ),
+              ),
+            );
       }
     where
       Z : Works x h o p w (workerAt s w)
@@ -274,7 +317,14 @@ module _ (now : ℕ) (s : Store) (olds : List (List ℕ)) (h : List Call) (o : L
 
   alone : (i : ℕ) → 0 < occurrences i fs → (nth sl′ i .older ≡ absent) × (nth sl′ i .newer ≡ absent)
   alone i z =
-      let i≢f : i ≢ f = λ u. omega (arith, I .once f, below≤1 f (s .site .N), free-times f, hit-same f, subst (λ (j : ℕ). 0 < occurrences j fs) u z) in
+      let i≢f : i ≢ f = λ u. omega (
+        arith,
+        I .once f,
+        below≤1 f (s .site .N),
+        free-times f,
+        hit-same f,
+        subst (λ (j : ℕ). 0 < occurrences j fs) u z,
+      ) in
       let i≢n : i ≢ n = λ u. omega (arith, chain-once I r b n, n-chain, free-times n, subst (λ (j : ℕ). 0 < occurrences j fs) u z) in
       let a = I .freeAlone i (omega (arith, z, free-times i)) in
       (link-part sl n f y (λ v. v .older) (λ v k. refl) i i≢f ∙ a .0, link-newer-other sl n f y i i≢f i≢n ∙ a .1)
@@ -295,23 +345,30 @@ module _ (now : ℕ) (s : Store) (olds : List (List ℕ)) (h : List Call) (o : L
               clockFits = I .clockFits;
               freeAlone = alone;
               once = λ c. omega (arith, I .once c, pends c, free-times c, times-set (s .newest) r f c (omega (arith, I .newestLength)));
-              pendingOld = λ c. omega (arith, I .pendingOld c, pends c, sumBy-set (occurrences c) olds r (n ∷ old x r) [] (omega (arith, I .oldsLength)));
+              pendingOld =
+                  λ c. omega (arith, I .pendingOld c, pends c, sumBy-set (occurrences c) olds r (n ∷ old x r) [] (omega (arith, I .oldsLength)));
               linked = linked;
               stamps = fine;
               queue = All-queue (s .queue) (λ ρ z. good ρ (pend-f (ρ .slot) (omega (arith, z)))) (I .queue);
-              workers = λ v vb. ⊎-elim (λ u. subst (λ (i : ℕ). Works x′ h o p i (workerAt linked-store i)) (sym (u .0)) (subst (Works x′ h o p w) (sym at-own) own)) (λ u. subst (Works x′ h o p v) (sym (at-other v (u .0))) (other v vb (u .0))) (eq-cases v w);
+              workers =
+                  λ v vb. ⊎-elim (λ u. subst (λ (i : ℕ). Works x′ h o p i (workerAt linked-store i)) (sym (u .0))
+                  (subst (Works x′ h o p w) (sym at-own) own)) (λ u. subst (Works x′ h o p v) (sym (at-other v (u .0))) (other v vb (u .0)))
+                  (eq-cases v w);
               stamper = λ q d z.
                   ⊎-elim
-                  (λ u. subst (λ (j : ℕ). (v : ℕ) × (v < s .site .P) × (c : ℕ) × (workerAt linked-store v .doing ≡ PutStamp j c) × (nth sl′ c .high ≡ absent)) (sym (u .0))
+                  (λ u. subst (λ (j : ℕ). (v : ℕ) × (v < s .site .P) × (c : ℕ) × (workerAt linked-store v .doing ≡ PutStamp j c)
+                  × (nth sl′ c .high ≡ absent)) (sym (u .0))
                   (w, wb, n, ap (λ (i : Worker). i .doing) at-own, highs n n≢f ∙ I .stamps r b .0))
                   (λ u.
-                  let k : nth sl (top x q) .low ≡ absent = sym (lows (top x q) (chain-f q d (top x q) (omega (arith, hit-same (top x q))))) ∙ ap (λ (j : ℕ). nth sl′ j .low) (sym (top-other q (u .0))) ∙ z in
+                  let k : nth sl (top x q) .low ≡ absent = sym (lows (top x q) (chain-f q d (top x q) (omega (arith, hit-same (top x q)))))
+                  ∙ ap (λ (j : ℕ). nth sl′ j .low) (sym (top-other q (u .0))) ∙ z in
                   let a = I .stamper q d k in
                   let g = subst (PlaceHolds x p (a .0) (workerAt s (a .0) .announced)) (a .3) (I .workers (a .0) (a .1) .doing) in (
                     a .0,
                     a .1,
                     a .2,
-                    ap (λ (i : Worker). i .doing) (at-other (a .0) (λ m. apart (a .2) q (sym (a .3) ∙ ap (λ (j : ℕ). workerAt s j .doing) m ∙ e))) ∙ a .3,
+                    ap (λ (i : Worker). i .doing) (at-other (a .0) (λ m. apart (a .2) q (sym (a .3) ∙ ap (λ (j : ℕ). workerAt s j .doing) m ∙ e)))
+                        ∙ a .3,
                     highs (a .2) (chain-f q d (a .2) (omega (arith, g .2))) ∙ a .4,
                   ))
                   (eq-cases q r);

@@ -24,7 +24,8 @@ record Result (now : ℕ) (free : List ℕ) (es : List Event) (h : List Call) (o
   again : (c j : ℕ) → 0 < occurrences c free → j < length es → getD es j event₀ .answer ≡ Freed c → (k : ℕ) × (k < j) × Took c (getD es k event₀)
   once : FreedOnce es
 
-run : (bs : List Ruled) (now : ℕ) (s : Store) (olds : List (List ℕ)) (h : List Call) (o : List ℕ) (p : Plain) → Inv now s olds h o p → Result now (s .free) (events (up s) bs) h o
+run : (bs : List Ruled) (now : ℕ) (s : Store) (olds : List (List ℕ)) (h : List Call) (o : List ℕ) (p : Plain) → Inv now s olds h o p
+    → Result now (s .free) (events (up s) bs) h o
 unfolding events history StepsTaken order
 run [] now s olds h o p I =
     record {
@@ -69,7 +70,8 @@ run (b ∷ bs) now s olds h o p I = join (run bs (now + 1) (A .store) (A .kept .
         R : Result (now + 1) (A .store .free) es h′ o′
         R = subst (λ (q : Hub). Result (now + 1) (A .store .free) (events q bs) h′ o′) (sym (A .is)) R₀
 
-        again : (c j : ℕ) → 0 < occurrences c (s .free) → j < length (e₀ ∷ es) → getD (e₀ ∷ es) j event₀ .answer ≡ Freed c → (k : ℕ) × (k < j) × Took c (getD (e₀ ∷ es) k event₀)
+        again : (c j : ℕ) → 0 < occurrences c (s .free) → j < length (e₀ ∷ es) → getD (e₀ ∷ es) j event₀ .answer ≡ Freed c
+            → (k : ℕ) × (k < j) × Took c (getD (e₀ ∷ es) k event₀)
         again c zero z d f = absurd (omega (arith, z, A .frees c f .0))
         again c (suc j) z d f =
             ⊎-elim

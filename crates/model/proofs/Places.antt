@@ -10,13 +10,14 @@ use native.Mathlib.Nat.{not-suc-le-zero}
 use lib.Dec.{ltb}
 use lib.ListN.{length, getD, drop, length-append}
 use borrow.Author.Tests as Tests
-use Rattle.model.specs.Store.{absent, Reading, Slot, Range, Doing, Idle, PutPublish, PutStamp, PutHandIn, FlushTake, FlushRead, FlushFree, OpenAnnounce, OpenPass, ReadEnter, ReadStand, CloseWithdraw, GetShow, Worker, Store, workerAt, slotAt, newestOf, holders, held, rangeOf, withQueue, withWorker, withDoing, place}
+use Rattle.model.specs.Store.{absent, Reading, Slot, Range, OpenAnnounce, OpenPass, CloseWithdraw, Goal, Doing, Idle, PutPublish, PutStamp, PutHandIn, FlushTake, FlushRead, FlushFree, OnTime, ReadEnter, ReadStand, GetShow, Worker, Store, workerAt, slotAt, newestOf, holders, held, rangeOf, withQueue, withWorker, withDoing, place}
+use Rattle.model.specs.About.{Effect, NoEffect, ByStamp, ByClock, about}
 use Rattle.model.specs.Answer.{Done, No}
 use Rattle.model.specs.Ranges.{needed, filter, merge, firstTwo, neededPools, joining, queuedPool}
 use Rattle.model.specs.Steps.{readTimes, answerFor}
 use Rattle.model.specs.Record.{Operation, Put, Open, Read, Close, Get, Collect}
-use Rattle.model.specs.Apply.{firstPlace, registerBelow, mayOpen, mayUseTime}
-use Rattle.model.specs.Demand.{Ending, Unfinished, FinishedAt, Call, endAs, endFor, Plain, feed, inCopy, shows, atEnd, finishes, endEffects, occurrences, All, Stands, Agrees, callAt}
+use Rattle.model.specs.Apply.{terms, registerBelow, mayOpen, mayUseTime}
+use Rattle.model.specs.Demand.{Ending, Unfinished, FinishedAt, Call, endFor, Plain, feed, inCopy, shows, atEnd, endEffects, occurrences, All, Stands, Agrees, callAt}
 use Rattle.model.specs.Reached.{sumBy}
 use Rattle.model.proofs.Basic.{lt-cases, All-append, All-get, All-map, All-take, All-drop, occurrences-append, occurrences-at}
 use Rattle.model.proofs.Linear.{agrees-refused, answerFor-end, answerFor-finishes}
@@ -46,7 +47,8 @@ one-more {now} {s} {h} o e k z K = subst (λ (q : List ℕ). Kept now s h (o ++ 
 pub fine-low : (s : List Slot) (t : ℕ) (x : Reading) (n c : ℕ) (l : List ℕ) → Fine s t x (n ∷ l) → 0 < occurrences c l → nth s c .low ≤ t
 fine-low s t x n c l f z = ⊎-elim (λ u. All-get (Past s t) l (u .2) c z .0) (λ u. next-low s t x c l (u .1) z) (f .1)
 
-pub fine-high : (s : List Slot) (t : ℕ) (x : Reading) (n c : ℕ) (l : List ℕ) → Fine s t x (n ∷ l) → 0 < occurrences c l → nth s c .high ≢ absent → nth s c .high ≤ t
+pub fine-high : (s : List Slot) (t : ℕ) (x : Reading) (n c : ℕ) (l : List ℕ) → Fine s t x (n ∷ l) → 0 < occurrences c l → nth s c .high ≢ absent
+    → nth s c .high ≤ t
 fine-high s t x n c l f z e =
     ⊎-elim (λ u. All-get (Past s t) l (u .2) c z .1)
     (λ u. next-high s t x c l (u .1) z (λ v. e (ap (λ (i : ℕ). nth s i .high) (sym v) ∙ next-open s t x l (u .1)))) (f .1)
@@ -63,7 +65,8 @@ reads s k b = (omega arith, go)
     go zero z = ap (held s) (let e : k ≡ k + 0 = omega arith in e)
     go (suc i) z = absurd (omega (arith, z))
 
-module _ (now : ℕ) (s : Store) (olds : List (List ℕ)) (h : List Call) (o : List ℕ) (p : Plain) (I : Inv now s olds h o p) (w : ℕ) (wb : w < s .site .P) where
+module _ (now : ℕ) (s : Store) (olds : List (List ℕ)) (h : List Call) (o : List ℕ) (p : Plain) (I : Inv now s olds h o p) (w : ℕ)
+    (wb : w < s .site .P) where
   abbrev x : Ctx
   x = ctx s olds
 
@@ -84,7 +87,8 @@ module _ (now : ℕ) (s : Store) (olds : List (List ℕ)) (h : List Call) (o : L
   Calm = (r c : ℕ) → workerAt s w .doing ≡ PutStamp r c → nth (s .slots) c .high ≡ absent → ⊥
 
   -- the worker goes on to place d, its time and its pool as before
-  pub place-inv : (d d′ : Doing) → workerAt s w .doing ≡ d → ((c : ℕ) → inDoing c d′ ≡ inDoing c d) → Calm → (h′ : List Call) (o′ : List ℕ) (p′ : Plain) → Hist (now + 1) w h o p h′ o′ p′ → p′ .copy w ≡ p .copy w
+  pub place-inv : (d d′ : Doing) → workerAt s w .doing ≡ d → ((c : ℕ) → inDoing c d′ ≡ inDoing c d) → Calm
+      → (h′ : List Call) (o′ : List ℕ) (p′ : Plain) → Hist (now + 1) w h o p h′ o′ p′ → p′ .copy w ≡ p .copy w
       → PlaceHolds (ctx (to d′) olds) p′ w t d′ → Current (ctx (to d′) olds) h′ o′ w t d′ → Kept now (to d′) h′ o′
   place-inv d d′ e m nc h′ o′ p′ H cp dk ck =
       record {
@@ -93,26 +97,26 @@ module _ (now : ℕ) (s : Store) (olds : List (List ℕ)) (h : List Call) (o : L
         inv =
             work-inv now s olds h o p I w wb (withDoing (workerAt s w) d′) (s .queue) (now + 1) h′ o′ p′
             (λ c. omega (arith, m c, ap (inDoing c) e)) (I .queue) (inl refl) nc H
-            (record { pool = Z .pool; announced = Z .announced; snapshot = λ z. let a = Z .snapshot z in (a .0, cp ∙ a .1, a .2); doing = dk; current = ck });
+            (record {
+              pool = Z .pool;
+              announced = Z .announced;
+              snapshot = λ z. let a = Z .snapshot z in (a .0, cp ∙ a .1, a .2);
+              doing = dk;
+              current = ck;
+            });
       }
     where
       Z : Works x h o p w (workerAt s w)
       Z = I .workers w wb
 
+  -- no put before its second step
+  abbrev Unstamping : Effect → Type 0
+  Unstamping NoEffect = Unit {0}
+  Unstamping (ByStamp c) = ⊥
+  Unstamping ByClock = Unit {0}
+
   abbrev Plainly : Doing → Type 0
-  Plainly Idle = Unit {0}
-  Plainly (PutPublish r y) = Unit {0}
-  Plainly (PutStamp r c) = ⊥
-  Plainly (PutHandIn r c) = Unit {0}
-  Plainly FlushTake = Unit {0}
-  Plainly (FlushRead m ts) = Unit {0}
-  Plainly (FlushFree m) = Unit {0}
-  Plainly OpenAnnounce = Unit {0}
-  Plainly OpenPass = Unit {0}
-  Plainly (ReadEnter r) = Unit {0}
-  Plainly (ReadStand r c) = Unit {0}
-  Plainly CloseWithdraw = Unit {0}
-  Plainly (GetShow r) = Unit {0}
+  Plainly d = Unstamping (about d .effect)
 
   pub calm : (d : Doing) → Plainly d → workerAt s w .doing ≡ d → Calm
   calm d a e r c z y = subst Plainly (sym e ∙ z) a
@@ -126,9 +130,9 @@ module _ (now : ℕ) (s : Store) (olds : List (List ℕ)) (h : List Call) (o : L
   has-time : ltb t absent ≡ true → Settled x t → t < s .clock
   has-time e = ⊎-elim (λ u. absurd (omega (arith, u, Tests.ltb-true t absent e))) (λ u. u)
 
-  pub begin-kept : (c : Operation) → workerAt s w .doing ≡ Idle → registerBelow (s .site .V') c ≡ true → mayOpen c (ltb t absent) ≡ true → mayUseTime c (ltb t absent) ≡ true
-      → Kept now (place s w (firstPlace c)) (h ++ (record { operation = c; worker = w; begun = now; ending = Unfinished } ∷ [])) o
-  unfolding firstPlace registerBelow mayOpen mayUseTime
+  pub begin-kept : (c : Operation) → workerAt s w .doing ≡ Idle → registerBelow (s .site .V') (terms c .register) ≡ true
+      → mayOpen (terms c .time) (ltb t absent) ≡ true → mayUseTime (terms c .time) (ltb t absent) ≡ true
+      → Kept now (place s w (terms c .first)) (h ++ (record { operation = c; worker = w; begun = now; ending = Unfinished } ∷ [])) o
   begin-kept c e rg fresh has = go c rg (ltb t absent) refl fresh has
     where
       st : Settled x t
@@ -138,7 +142,8 @@ module _ (now : ℕ) (s : Store) (olds : List (List ℕ)) (h : List Call) (o : L
       no-open = cur-is Idle e
 
       begun : (c : Operation) (d : Doing) → ((i : ℕ) → inDoing i d ≡ 0) → PlaceHolds (ctx (to d) olds) p w t d
-          → (Busy (ctx (to d) olds) (h ++ (record { operation = c; worker = w; begun = now; ending = Unfinished } ∷ [])) o w t d → Current (ctx (to d) olds) (h ++ (record { operation = c; worker = w; begun = now; ending = Unfinished } ∷ [])) o w t d)
+          → (Busy (ctx (to d) olds) (h ++ (record { operation = c; worker = w; begun = now; ending = Unfinished } ∷ [])) o w t d
+          → Current (ctx (to d) olds) (h ++ (record { operation = c; worker = w; begun = now; ending = Unfinished } ∷ [])) o w t d)
           → Fits (ctx (to d) olds) t c d 0
           → Kept now (to d) (h ++ (record { operation = c; worker = w; begun = now; ending = Unfinished } ∷ [])) o
       begun c d m dk f ft =
@@ -150,16 +155,19 @@ module _ (now : ℕ) (s : Store) (olds : List (List ℕ)) (h : List Call) (o : L
                 (subst (Fits (ctx (to d) olds) t c d) (sym (begin-not now w h o p (I .linear) c)) ft),
           ))
 
-      go : (c : Operation) → registerBelow (s .site .V') c ≡ true → (b : Bool) → ltb t absent ≡ b → mayOpen c b ≡ true → mayUseTime c b ≡ true → Kept now (place s w (firstPlace c)) (h ++ (record { operation = c; worker = w; begun = now; ending = Unfinished } ∷ [])) o
+      go : (c : Operation) → registerBelow (s .site .V') (terms c .register) ≡ true → (b : Bool) → ltb t absent ≡ b
+          → mayOpen (terms c .time) b ≡ true → mayUseTime (terms c .time) b ≡ true
+          → Kept now (place s w (terms c .first)) (h ++ (record { operation = c; worker = w; begun = now; ending = Unfinished } ∷ [])) o
       go (Put r y) rg b eb fresh has = begun (Put r y) (PutPublish r y) (λ i. refl) (Tests.ltb-true r (s .site .V') rg, st) (λ a. a) (refl, refl)
       go Open rg true eb fresh has = absurd (true≢false (sym fresh))
       go Open rg false eb fresh has =
-          begun Open OpenAnnounce (λ i. refl)
+          begun Open (OnTime OpenAnnounce) (λ i. refl)
           (⊎-elim (λ u. u) (λ u. absurd (omega (arith, u, I .clockFits, Tests.ltb-false t absent eb))) st)
           (λ a. a) (refl, refl)
-      go (Read r) rg true eb fresh has = begun (Read r) (ReadEnter r) (λ i. refl) (Tests.ltb-true r (s .site .V') rg, has-time eb st) (λ a. a) (refl, refl)
+      go (Read r) rg true eb fresh has =
+          begun (Read r) (ReadEnter (record { register = r })) (λ i. refl) (Tests.ltb-true r (s .site .V') rg, has-time eb st) (λ a. a) (refl, refl)
       go (Read r) rg false eb fresh has = absurd (true≢false (sym has))
-      go Close rg true eb fresh has = begun Close CloseWithdraw (λ i. refl) (has-time eb st) (λ a. a) (refl, refl)
+      go Close rg true eb fresh has = begun Close (OnTime CloseWithdraw) (λ i. refl) (has-time eb st) (λ a. a) (refl, refl)
       go Close rg false eb fresh has = absurd (true≢false (sym has))
       go (Get r) rg b eb fresh has = begun (Get r) (GetShow r) (λ i. refl) (Tests.ltb-true r (s .site .V') rg, st) (λ a. a) (refl, refl)
       go Collect rg b eb fresh has = begun Collect FlushTake (λ i. refl) st (λ a. a) (inr (refl, refl))
@@ -170,7 +178,6 @@ module _ (now : ℕ) (s : Store) (olds : List (List ℕ)) (h : List Call) (o : L
   -- the operation is refused, and nothing else changes
   pub refuse-kept : (k : ℕ) (d : Doing) → workerAt s w .doing ≡ d → Plainly d → ((c : ℕ) → inDoing c d ≡ 0) → Settled x t
       → ((j : ℕ) × Running h w j × (occurrences j o ≡ 0)) → Kept now (to Idle) (map (endFor now w (No k)) h) o
-  unfolding endAs
   refuse-kept k d e pl m st a =
       place-inv d Idle e (λ c. sym (m c)) (calm d pl e) _ o p
       (hist-end now w h o p (I .linear) (No k) (a .0) (a .1) (a .2) (agrees-refused (callAt h (a .0) .operation) now))
@@ -181,8 +188,10 @@ module _ (now : ℕ) (s : Store) (olds : List (List ℕ)) (h : List Call) (o : L
       let a = cur-is (PutPublish r y) e in
       refuse-kept 14 (PutPublish r y) e tt (λ c. refl) (doing-is (PutPublish r y) e .1) (a .0, a .1, a .2 .1)
 
-  pub refuse-open : workerAt s w .doing ≡ OpenAnnounce → Kept now (to Idle) (map (endFor now w (No 15)) h) o
-  refuse-open e = let a = cur-is OpenAnnounce e in refuse-kept 15 OpenAnnounce e tt (λ c. refl) (inl (doing-is OpenAnnounce e)) (a .0, a .1, a .2 .1)
+  pub refuse-open : workerAt s w .doing ≡ OnTime OpenAnnounce → Kept now (to Idle) (map (endFor now w (No 15)) h) o
+  refuse-open e =
+      let a = cur-is (OnTime OpenAnnounce) e in refuse-kept 15 (OnTime OpenAnnounce) e tt (λ c. refl) (inl (doing-is (OnTime OpenAnnounce) e))
+      (a .0, a .1, a .2 .1)
 
   -- a put or a collect is done
   put-agrees : (c : Operation) → IsPut c → (e : Ending) (q : Option Reading) → Agrees c e q
@@ -190,21 +199,25 @@ module _ (now : ℕ) (s : Store) (olds : List (List ℕ)) (h : List Call) (o : L
 
   -- what a flush ends with: nothing is left to free
   pub flush-done : workerAt s w .doing ≡ FlushFree [] → Kept now (to Idle) (map (endFor now w Done) h) (o ++ endEffects h w Done)
-  unfolding endAs cnt feed finishes atEnd
+  unfolding cnt feed atEnd
   flush-done e = ⊎-elim for-put for-collect (a .2)
     where
       a : Busy x h o w t (FlushFree [])
       a = cur-is (FlushFree []) e
 
-      for-put : IsPut (callAt h (a .0) .operation) × (occurrences (a .0) o ≡ 1) → Kept now (to Idle) (map (endFor now w Done) h) (o ++ endEffects h w Done)
+      for-put : IsPut (callAt h (a .0) .operation) × (occurrences (a .0) o ≡ 1)
+          → Kept now (to Idle) (map (endFor now w Done) h) (o ++ endEffects h w Done)
       for-put u =
-          none-more o (endEffects h w Done) (own-not (a .1) Done (ap atEnd (u .0 .2))) (place-inv (FlushFree []) Idle e (λ c. refl) (calm (FlushFree []) tt e) _ o p
+          none-more o (endEffects h w Done) (own-not (a .1) Done (ap atEnd (u .0 .2)))
+          (place-inv (FlushFree []) Idle e (λ c. refl) (calm (FlushFree []) tt e) _ o p
           (hist-end now w h o p (I .linear) Done (a .0) (a .1) (u .1) (put-agrees (callAt h (a .0) .operation) (u .0) (FinishedAt now Done)))
           refl (doing-is (FlushFree []) e .0) (end-shut now w h o p (I .linear) Done (a .0) (a .1)))
 
-      for-collect : (callAt h (a .0) .operation ≡ Collect) × (occurrences (a .0) o ≡ 0) → Kept now (to Idle) (map (endFor now w Done) h) (o ++ endEffects h w Done)
+      for-collect : (callAt h (a .0) .operation ≡ Collect) × (occurrences (a .0) o ≡ 0)
+          → Kept now (to Idle) (map (endFor now w Done) h) (o ++ endEffects h w Done)
       for-collect u =
-          one-more o (endEffects h w Done) (a .0) (own-is (a .1) Done refl (ap atEnd (u .0))) (place-inv (FlushFree []) Idle e (λ c. refl) (calm (FlushFree []) tt e) _ (o ++ (a .0 ∷ [])) (feed p w (callAt h (a .0) .operation))
+          one-more o (endEffects h w Done) (a .0) (own-is (a .1) Done refl (ap atEnd (u .0)))
+          (place-inv (FlushFree []) Idle e (λ c. refl) (calm (FlushFree []) tt e) _ (o ++ (a .0 ∷ [])) (feed p w (callAt h (a .0) .operation))
           (hist-show now w h o p (I .linear) Done (a .0) (a .1) (u .1) refl
           (subst (λ (z : Operation). Agrees z (FinishedAt now Done) (shows p w z)) (sym (u .0)) tt)
           (λ r. rw (u .0)) (λ v n. rw (u .0)))
@@ -224,12 +237,14 @@ module _ (now : ℕ) (s : Store) (olds : List (List ℕ)) (h : List Call) (o : L
         All-append (Good x) (workerAt s w .pool) (rangeOf s c ∷ []) (I .workers w wb .pool)
         ((refl, refl, d .3, fine-low (s .slots) (s .clock) (p .registers r) (newestOf s r) c (old x r) (I .stamps r (d .0)) (d .2)), tt)
 
-    pend⁺ : (d : Doing) → ((i : ℕ) → inDoing i d ≡ 0) → (i : ℕ) → inDoing i d + cnt i pool⁺ + sumBy (cnt i) (s .queue) ≡ pendW i (workerAt s w) + sumBy (cnt i) (s .queue)
+    pend⁺ : (d : Doing) → ((i : ℕ) → inDoing i d ≡ 0) → (i : ℕ)
+        → inDoing i d + cnt i pool⁺ + sumBy (cnt i) (s .queue) ≡ pendW i (workerAt s w) + sumBy (cnt i) (s .queue)
     unfolding rangeOf cnt
     pend⁺ d m i = omega (arith, m i, cnt-append i (workerAt s w .pool) (rangeOf s c ∷ []), ap (inDoing i) e)
 
-    pub hand-done : Kept now (withWorker s w (record { doing = Idle; announced = t; pool = pool⁺ })) (map (endFor now w Done) h) (o ++ endEffects h w Done)
-    unfolding endAs atEnd
+    pub hand-done : Kept now (withWorker s w (record { doing = Idle; announced = t; pool = pool⁺ })) (map (endFor now w Done) h)
+        (o ++ endEffects h w Done)
+    unfolding atEnd
     hand-done =
         let a = cur-is (PutHandIn r c) e in
         none-more o (endEffects h w Done) (own-not (a .1) Done (ap atEnd (a .2 .0 .2))) (record {
@@ -238,7 +253,8 @@ module _ (now : ℕ) (s : Store) (olds : List (List ℕ)) (h : List Call) (o : L
           inv =
               work-inv now s olds h o p I w wb (record { doing = Idle; announced = t; pool = pool⁺ }) (s .queue) (now + 1) _ o p
               (pend⁺ Idle (λ i. refl)) (I .queue) (inl refl) (calm (PutHandIn r c) tt e)
-              (hist-end now w h o p (I .linear) Done (a .0) (a .1) (a .2 .1) (put-agrees (callAt h (a .0) .operation) (a .2 .0) (FinishedAt now Done)))
+              (hist-end now w h o p (I .linear) Done (a .0) (a .1) (a .2 .1)
+              (put-agrees (callAt h (a .0) .operation) (a .2 .0) (FinishedAt now Done)))
               (record {
                 pool = good⁺;
                 announced = I .workers w wb .announced;
@@ -328,7 +344,8 @@ module _ (now : ℕ) (s : Store) (olds : List (List ℕ)) (h : List Call) (o : L
         one : (ρ : Range) → Good x ρ → Asked x ts ρ → Asked x⁺ ts⁺ ρ
         one ρ g k v z =
             ⊎-elim
-            (λ u. ⊎-elim inl (⊎-elim (λ y. inr (inl (omega (arith, y, occurrences-append (x⁺ .held v) ts (readTimes s (length ts)))))) (λ y. inr (inr y)))
+            (λ u. ⊎-elim inl (⊎-elim (λ y. inr (inl (omega (arith, y, occurrences-append (x⁺ .held v) ts (readTimes s (length ts))))))
+            (λ y. inr (inr y)))
             (asked x x⁺ ts ρ (d₀ .2) (λ i _. still i) (g .2) k v (u .0)))
             (λ u.
             let i : v ≡ length ts + (v - length ts) = omega (arith, u .0) in
@@ -402,7 +419,8 @@ module _ (now : ℕ) (s : Store) (olds : List (List ℕ)) (h : List Call) (o : L
         still : (v : ℕ) → (x⁺ .held v ≡ x .held v) ⊎ ((x⁺ .held v ≡ absent) ⊎ (x .clock ≤ x⁺ .held v))
         still = after-times now s olds h o p I w wb y⁺ q⁺ (inl refl)
 
-        zip : (q : List Range) → All (λ ρ. not (needed ts ρ) ≡ true) q → All (Good x) q → All (Asked x ts) q → All (λ ρ. (not (needed ts ρ) ≡ true) × (Good x ρ) × (Asked x ts ρ)) q
+        zip : (q : List Range) → All (λ ρ. not (needed ts ρ) ≡ true) q → All (Good x) q → All (Asked x ts) q
+            → All (λ ρ. (not (needed ts ρ) ≡ true) × (Good x ρ) × (Asked x ts ρ)) q
         zip [] f g k = tt
         zip (ρ ∷ q) f g k = ((f .0, g .0, k .0), zip q (f .1) (g .1) (k .1))
 
@@ -422,15 +440,17 @@ module _ (now : ℕ) (s : Store) (olds : List (List ℕ)) (h : List Call) (o : L
   ------------------------------------------------------------------------
   -- Open, read, close
 
-  pub announce-kept : workerAt s w .doing ≡ OpenAnnounce → s .clock ≢ 4294967295 → Kept now (withWorker s w (record { doing = OpenPass; announced = s .clock; pool = workerAt s w .pool })) h o
+  pub announce-kept : workerAt s w .doing ≡ OnTime OpenAnnounce → s .clock ≢ 4294967295
+      → Kept now (withWorker s w (record { doing = OnTime OpenPass; announced = s .clock; pool = workerAt s w .pool })) h o
   announce-kept e n =
-      let a = cur-is OpenAnnounce e in
+      let a = cur-is (OnTime OpenAnnounce) e in
       record {
         olds = olds;
         p = p;
         inv =
-            work-inv now s olds h o p I w wb (record { doing = OpenPass; announced = s .clock; pool = workerAt s w .pool }) (s .queue) (now + 1) h o p
-            (λ c. omega (arith, ap (inDoing c) e)) (I .queue) (inr (inr (omega arith))) (calm OpenAnnounce tt e) skip
+            work-inv now s olds h o p I w wb (record { doing = OnTime OpenPass; announced = s .clock; pool = workerAt s w .pool }) (s .queue)
+            (now + 1) h o p
+            (λ c. omega (arith, ap (inDoing c) e)) (I .queue) (inr (inr (omega arith))) (calm (OnTime OpenAnnounce) tt e) skip
             (record {
               pool = I .workers w wb .pool;
               announced = inr (omega arith, omega (arith, I .clockFits));
@@ -440,16 +460,19 @@ module _ (now : ℕ) (s : Store) (olds : List (List ℕ)) (h : List Call) (o : L
             });
       }
 
-  pub withdraw-kept : workerAt s w .doing ≡ CloseWithdraw → Kept now (withWorker s w (record { doing = Idle; announced = absent; pool = workerAt s w .pool })) (map (endFor now w Done) h) (o ++ endEffects h w Done)
-  unfolding endAs feed finishes atEnd
+  pub withdraw-kept : workerAt s w .doing ≡ OnTime CloseWithdraw
+      → Kept now (withWorker s w (record { doing = Idle; announced = absent; pool = workerAt s w .pool })) (map (endFor now w Done) h)
+      (o ++ endEffects h w Done)
+  unfolding feed atEnd
   withdraw-kept e =
-      let a = cur-is CloseWithdraw e in
+      let a = cur-is (OnTime CloseWithdraw) e in
       one-more o (endEffects h w Done) (a .0) (own-is (a .1) Done refl (ap atEnd (a .2 .0))) (record {
         olds = olds;
         p = feed p w (callAt h (a .0) .operation);
         inv =
-            work-inv now s olds h o p I w wb (record { doing = Idle; announced = absent; pool = workerAt s w .pool }) (s .queue) (now + 1) _ (o ++ (a .0 ∷ [])) (feed p w (callAt h (a .0) .operation))
-            (λ c. omega (arith, ap (inDoing c) e)) (I .queue) (inr (inl refl)) (calm CloseWithdraw tt e)
+            work-inv now s olds h o p I w wb (record { doing = Idle; announced = absent; pool = workerAt s w .pool }) (s .queue)
+            (now + 1) _ (o ++ (a .0 ∷ [])) (feed p w (callAt h (a .0) .operation))
+            (λ c. omega (arith, ap (inDoing c) e)) (I .queue) (inr (inl refl)) (calm (OnTime CloseWithdraw) tt e)
             (hist-show now w h o p (I .linear) Done (a .0) (a .1) (a .2 .1) refl
             (subst (λ (z : Operation). Agrees z (FinishedAt now Done) (shows p w z)) (sym (a .2 .0)) tt)
             (λ r. rw (a .2 .0)) (λ v n. rw (a .2 .0) (put-at-other (p .copy) w mathlib.Core.Option.none v n)))
@@ -462,27 +485,33 @@ module _ (now : ℕ) (s : Store) (olds : List (List ℕ)) (h : List Call) (o : L
             });
       })
 
-  module _ (r c : ℕ) (e : workerAt s w .doing ≡ ReadStand r c) where
-    pub found-kept : slotAt s c .low ≤ t → Kept now (to Idle) (map (endFor now w (answerFor (slotAt s c .value))) h) (o ++ endEffects h w (answerFor (slotAt s c .value)))
+  module _ (g : Goal) (c : ℕ) (e : workerAt s w .doing ≡ ReadStand g c) where
+    abbrev r : ℕ
+    r = g .register
+
+    pub found-kept : slotAt s c .low ≤ t → Kept now (to Idle) (map (endFor now w (answerFor (slotAt s c .value))) h)
+        (o ++ endEffects h w (answerFor (slotAt s c .value)))
     unfolding feed shows inCopy atEnd answerFor
     found-kept z =
-        let a = cur-is (ReadStand r c) e in
-        let d = doing-is (ReadStand r c) e in
+        let a = cur-is (ReadStand g c) e in
+        let d = doing-is (ReadStand g c) e in
         let f = d .2 in
-        one-more o (endEffects h w (answerFor (slotAt s c .value))) (a .0) (own-is (a .1) (answerFor (slotAt s c .value)) (answerFor-finishes (slotAt s c .value)) (ap atEnd (a .2 .0)))
-        (place-inv (ReadStand r c) Idle e (λ i. refl) (calm (ReadStand r c) tt e) _ (o ++ (a .0 ∷ [])) (feed p w (callAt h (a .0) .operation))
+        one-more o (endEffects h w (answerFor (slotAt s c .value))) (a .0)
+        (own-is (a .1) (answerFor (slotAt s c .value)) (answerFor-finishes (slotAt s c .value)) (ap atEnd (a .2 .0)))
+        (place-inv (ReadStand g c) Idle e (λ i. refl) (calm (ReadStand g c) tt e) _ (o ++ (a .0 ∷ [])) (feed p w (callAt h (a .0) .operation))
         (hist-show now w h o p (I .linear) (answerFor (slotAt s c .value)) (a .0) (a .1) (a .2 .1)
         (subst (λ (q : Ending). Stands q 1) (sym (answerFor-end now (slotAt s c .value))) refl)
-        (subst (λ (q : Ending). Agrees (callAt h (a .0) .operation) q (shows p w (callAt h (a .0) .operation))) (sym (answerFor-end now (slotAt s c .value)))
+        (subst (λ (q : Ending). Agrees (callAt h (a .0) .operation) q (shows p w (callAt h (a .0) .operation)))
+        (sym (answerFor-end now (slotAt s c .value)))
         (subst (λ (q : Operation). Agrees q (FinishedAt now (answerFor (slotAt s c .value))) (shows p w q)) (sym (a .2 .0))
         (f .0 r, ap (λ q. inCopy q r) (f .1), ap answerFor (On-found (s .slots) t c (f .0 r) (chain x r) (f .2) z))))
         (λ i. rw (a .2 .0)) (λ v n. rw (a .2 .0)))
         (rw (a .2 .0)) (inr (d .1)) (end-shut now w h o p (I .linear) (answerFor (slotAt s c .value)) (a .0) (a .1)))
 
-    pub on-kept : t < slotAt s c .low → Kept now (to (ReadStand r (slotAt s c .older))) h o
+    pub on-kept : t < slotAt s c .low → Kept now (to (ReadStand g (slotAt s c .older))) h o
     on-kept z =
-        let a = cur-is (ReadStand r c) e in
-        let d = doing-is (ReadStand r c) e in
-        place-inv (ReadStand r c) (ReadStand r (slotAt s c .older)) e (λ i. refl) (calm (ReadStand r c) tt e) h o p skip refl
+        let a = cur-is (ReadStand g c) e in
+        let d = doing-is (ReadStand g c) e in
+        place-inv (ReadStand g c) (ReadStand g (slotAt s c .older)) e (λ i. refl) (calm (ReadStand g c) tt e) h o p skip refl
         (d .0, d .1, (d .2 .0, d .2 .1, On-on (s .slots) absent t c (d .2 .0 r) (chain x r) (I .linked r (d .0)) (d .2 .2) z))
         (a .0, a .1, a .2)

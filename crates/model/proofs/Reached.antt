@@ -7,19 +7,21 @@ use native.Mathlib.Omega.{arith}
 use lib.Dec.{ltb, leb, eqb}
 use lib.ListN.{length, replicate}
 use borrow.Author.Tests as Tests
-use Rattle.model.specs.Store.{absent, lastClock, Reading, Slot, Range, Doing, Idle, PutPublish, PutStamp, PutHandIn, FlushTake, FlushRead, FlushFree, OpenAnnounce, OpenPass, ReadEnter, ReadStand, CloseWithdraw, GetShow, startWorker, Site, Store, Hub, blank, up, workerAt, slotAt, place}
+use Rattle.model.specs.Store.{absent, lastClock, Reading, Slot, Range, OpenAnnounce, OpenPass, CloseWithdraw, Doing, Idle, PutPublish, PutStamp, PutHandIn, FlushTake, FlushRead, FlushFree, OnTime, ReadEnter, ReadStand, GetShow, startWorker, Site, Store, Hub, blank, up, workerAt, slotAt, place}
+use Rattle.model.specs.About.{about}
 use Rattle.model.specs.Rules.{Rules, Allowed, Ruled}
 use Rattle.model.specs.Answer.{Ok, Stepped, Applied}
 use Rattle.model.specs.Versions.{stamp}
-use Rattle.model.specs.Steps.{putPublish, putStamp, putHandIn, flushTake, flushSplit, flushRead, flushFree, openAnnounce, openPass, readEnter, readStand, getShow, closeWithdraw, stepAt}
+use Rattle.model.specs.Steps.{putPublish, putStamp, putHandIn, flushTake, flushSplit, flushRead, flushFree, openAnnounce, openPass, readEnter, readStand, getShow, closeWithdraw, timeStep, stepAt}
 use Rattle.model.specs.Record.{SetUp, Begin, Step, Decoded, Asks, Refuses, decode}
-use Rattle.model.specs.Apply.{refuse, fresh, setUp, registerBelow, isIdle, mayOpen, mayUseTime, firstPlace, begin, step, obey, applyDecoded, apply, applyRuled}
+use Rattle.model.specs.Apply.{refuse, fresh, setUp, registerBelow, isIdle, mayOpen, mayUseTime, terms, begin, step, obey, applyDecoded, apply, applyRuled}
 use Rattle.model.specs.Demand.{Call, Plain, plain₀, events, observe, effects, All}
 use Rattle.model.specs.Reached.{sumBy, inHand, Bounds, SoundHub, Throughout, Sound}
 use Rattle.model.specs.Figure.{HandByHigh, WorkerByHigh, StoreByHigh, FigureHub, AsPublished}
 use Rattle.model.proofs.Basic.{cond-both, All-map, All-nth, up-inj}
 use Rattle.model.proofs.Invariant.{Inv}
-use Rattle.model.proofs.Record.{Holds, apply-holds, idle-is}
+use Rattle.model.proofs.View.{idle-is}
+use Rattle.model.proofs.Record.{Holds, apply-holds}
 use Rattle.model.proofs.Setup.{Accepted, accepts, accepted-inv}
 use Rattle.model.proofs.Bounds.{Sized, Within, Fit, FitW, step-within, begin-within}
 use Rattle.model.proofs.Total.{total}
@@ -44,7 +46,7 @@ free-site s w [] = refl
 free-site s w (ρ ∷ m) = refl
 
 pub step-site : (s : Store) (w : ℕ) (d : Doing) → SameSite s (stepAt s w d .store)
-unfolding stepAt putStamp putHandIn flushTake flushRead flushSplit openAnnounce openPass readEnter readStand getShow closeWithdraw stamp
+unfolding stepAt timeStep putStamp putHandIn flushTake flushRead flushSplit openAnnounce openPass readEnter readStand getShow closeWithdraw stamp
 step-site s w Idle = refl
 step-site s w (PutPublish r x) = put-site s w r x (s .free)
 step-site s w (PutStamp r c) = cond-both (SameSite s) (eqb (slotAt s c .high) absent) (stamp s r) s (λ u. refl) (λ u. refl)
@@ -52,18 +54,19 @@ step-site s w (PutHandIn r c) = refl
 step-site s w FlushTake = refl
 step-site s w (FlushRead m ts) = cond-both (λ (q : Stepped). SameSite s (q .store)) (ltb (length ts) (s .site .P)) _ _ (λ u. refl) (λ u. refl)
 step-site s w (FlushFree m) = free-site s w m
-step-site s w OpenAnnounce = cond-both (λ (q : Stepped). SameSite s (q .store)) (eqb (s .clock) lastClock) _ _ (λ u. refl) (λ u. refl)
-step-site s w OpenPass = refl
-step-site s w (ReadEnter r) = refl
-step-site s w (ReadStand r c) =
+step-site s w (OnTime OpenAnnounce) = cond-both (λ (q : Stepped). SameSite s (q .store)) (eqb (s .clock) lastClock) _ _ (λ u. refl) (λ u. refl)
+step-site s w (OnTime OpenPass) = refl
+step-site s w (ReadEnter g) = refl
+step-site s w (ReadStand g c) =
     cond-both (λ (q : Stepped). SameSite s (q .store)) (leb (slotAt s c .low) (workerAt s w .announced)) _ _ (λ u. refl) (λ u. refl)
-step-site s w CloseWithdraw = refl
+step-site s w (OnTime CloseWithdraw) = refl
 step-site s w (GetShow r) = refl
 
 ------------------------------------------------------------------------
 -- One record keeps the bounds, and the pools sorted
 
-module _ (now : ℕ) (s : Store) (olds : List (List ℕ)) (h : List Call) (o : List ℕ) (p : Plain) (I : Inv now s olds h o p) (pos : 0 < s .site .B) (W : Within (s .site .B) s) (S : StoreByHigh s) where
+module _ (now : ℕ) (s : Store) (olds : List (List ℕ)) (h : List Call) (o : List ℕ) (p : Plain) (I : Inv now s olds h o p) (pos : 0 < s .site .B)
+    (W : Within (s .site .B) s) (S : StoreByHigh s) where
   abbrev Bounded : Applied → Type 0
   Bounded a = (t : Store) × (a .hub ≡ up t) × SameSite s t × Within (s .site .B) t × StoreByHigh t
 
@@ -75,12 +78,12 @@ module _ (now : ℕ) (s : Store) (olds : List (List ℕ)) (h : List Call) (o : L
   decoded-bounded rules (Asks (SetUp z)) = unchanged 9
   decoded-bounded rules (Asks (Begin w c)) =
       cond-both Bounded (ltb w (s .site .P)) _ _
-      (λ e₁. cond-both Bounded (registerBelow (s .site .V') c) _ _
+      (λ e₁. cond-both Bounded (registerBelow (s .site .V') (terms c .register)) _ _
       (λ e₂. cond-both Bounded (isIdle (workerAt s w .doing)) _ _
-      (λ e₃. cond-both Bounded (mayOpen c (ltb (workerAt s w .announced) absent)) _ _
-      (λ e₄. cond-both Bounded (mayUseTime c (ltb (workerAt s w .announced) absent)) _ _
+      (λ e₃. cond-both Bounded (mayOpen (terms c .time) (ltb (workerAt s w .announced) absent)) _ _
+      (λ e₄. cond-both Bounded (mayUseTime (terms c .time) (ltb (workerAt s w .announced) absent)) _ _
       (λ e₅. (
-        place s w (firstPlace c),
+        place s w (terms c .first),
         refl,
         refl,
         begin-within s pos W w c (idle-is (workerAt s w .doing) e₃),
@@ -148,7 +151,9 @@ reached-apply {first} rules s R b = (
     calls = calls;
     order = order;
     plain = A .kept .p;
-    inv = subst (λ (q : Store). Inv (R .now + 1) q (A .kept .olds) calls order (A .kept .p)) (up-inj (A .store) (F .0) (sym (A .is) ∙ F .1)) (A .kept .inv);
+    inv =
+        subst (λ (q : Store). Inv (R .now + 1) q (A .kept .olds) calls order (A .kept .p)) (up-inj (A .store) (F .0) (sym (A .is) ∙ F .1))
+        (A .kept .inv);
     within = subst (λ (q : Site). Within (q .B) (F .0)) (sym (F .2)) (F .3);
     byHigh = F .4;
     fits = subst (SiteFits first) (sym (F .2)) (R .fits);
@@ -221,7 +226,7 @@ reached row b allowed e bs =
 -- What specs/Reached.antt claims
 
 module _ (b : ℕ) where
-  fit-local : (n : ℕ) (d : Doing) → Fit b n d → (n ≤ b) × (inHand d ≤ 4 * b)
+  fit-local : (n : ℕ) (d : Doing) → Fit b n d → (n ≤ b) × (inHand (about d .hand) ≤ 4 * b)
   fit-local n Idle a = (omega (arith, a), omega arith)
   fit-local n (PutPublish r x) a = (omega (arith, a), omega arith)
   fit-local n (PutStamp r c) a = (omega (arith, a), omega (arith, a))
@@ -229,11 +234,9 @@ module _ (b : ℕ) where
   fit-local n FlushTake a = (a, omega arith)
   fit-local n (FlushRead m ts) a = a
   fit-local n (FlushFree m) a = (omega (arith, a .0), a .1)
-  fit-local n OpenAnnounce a = (omega (arith, a), omega arith)
-  fit-local n OpenPass a = (omega (arith, a), omega arith)
-  fit-local n (ReadEnter r) a = (omega (arith, a), omega arith)
-  fit-local n (ReadStand r c) a = (omega (arith, a), omega arith)
-  fit-local n CloseWithdraw a = (omega (arith, a), omega arith)
+  fit-local n (OnTime y) a = (omega (arith, a), omega arith)
+  fit-local n (ReadEnter g) a = (omega (arith, a), omega arith)
+  fit-local n (ReadStand g c) a = (omega (arith, a), omega arith)
   fit-local n (GetShow r) a = (omega (arith, a), omega arith)
 
   pools-few : (q : List (List Range)) → All (Sized (2 * b)) q → length q ≤ sumBy length q
@@ -278,5 +281,6 @@ as-published row b allowed e bs =
           byHigh = a .byHigh;
           split = λ w m ts i us.
               split-is-figure s w m us
-              (subst (HandByHigh (s .slots) (workerAt s w .pool)) i (All-nth (WorkerByHigh (s .slots)) (s .workers) w startWorker (record { local = tt; hand = tt }) (a .byHigh .workers) .hand));
+              (subst (λ d. HandByHigh (s .slots) (workerAt s w .pool) (about d .hand)) i
+              (All-nth (WorkerByHigh (s .slots)) (s .workers) w startWorker (record { local = tt; hand = tt }) (a .byHigh .workers) .hand));
         }

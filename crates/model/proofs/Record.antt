@@ -1,20 +1,21 @@
 -- One record, refused or not, keeps the invariant.
 use mathlib.Core.Path.{_≡_, refl, sym, ap, _∙_, subst}
-use mathlib.Core.Bool.{Bool, true, false, true≢false, not, _&&_}
+use mathlib.Core.Bool.{Bool, true, false, not, _&&_}
 use mathlib.Core.Logic.{_⊎_, inl}
 use mathlib.Core.List.{List, [], _++_}
 use Prim.Native.Nat.{ℕ, _<_}
 use lib.Dec.{ltb}
 use borrow.Author.Tests as Tests
-use Rattle.model.specs.Store.{absent, Doing, Idle, PutPublish, PutStamp, PutHandIn, FlushTake, FlushRead, FlushFree, OpenAnnounce, OpenPass, ReadEnter, ReadStand, CloseWithdraw, GetShow, Store, up, workerAt, place}
+use Rattle.model.specs.Store.{absent, Idle, Store, up, workerAt, place}
 use Rattle.model.specs.Rules.{Rules}
 use Rattle.model.specs.Answer.{Freed, No, Applied}
 use Rattle.model.specs.Steps.{stepAt}
 use Rattle.model.specs.Record.{Operation, SetUp, Begin, Step, Decoded, Asks, Refuses, decode}
-use Rattle.model.specs.Apply.{refuse, setUp, registerBelow, isIdle, mayOpen, mayUseTime, firstPlace, begin, step, takesStep, obey, applyDecoded, apply}
-use Rattle.model.specs.Demand.{Call, isOk, ends, observe, Performs, StepTaken, Plain, endEffects, stepEffects, effects, occurrences, FreesNothingNeeded, TookBy}
+use Rattle.model.specs.Apply.{refuse, setUp, registerBelow, isIdle, mayOpen, mayUseTime, terms, begin, step, takesStep, obey, applyDecoded, apply}
+use Rattle.model.specs.Demand.{Call, observe, Performs, StepTaken, Plain, endEffects, stepEffects, effects, occurrences, FreesNothingNeeded, TookBy}
 use Rattle.model.proofs.Basic.{cond-both}
 use Rattle.model.proofs.Invariant.{NoneRunning, Inv}
+use Rattle.model.proofs.View.{idle-is}
 use Rattle.model.proofs.Places.{Kept, none-more, cur-is, begin-kept}
 use Rattle.model.proofs.History.{ended-none}
 use Rattle.model.proofs.Step.{NotFreed, inv-skip, step-after, change-still, own-refused}
@@ -27,22 +28,6 @@ pub record Holds (now : ℕ) (s : Store) (d : Decoded) (h : List Call) (o : List
   pub safe : FreesNothingNeeded (up s) (a .answer)
   pub frees : (c : ℕ) → a .answer ≡ Freed c → (occurrences c (s .free) ≡ 0) × (0 < occurrences c (store .free))
   pub stays : (c : ℕ) → 0 < occurrences c (s .free) → (0 < occurrences c (store .free)) ⊎ TookBy c d (up s) (a .answer) (up store)
-
-pub idle-is : (d : Doing) → isIdle d ≡ true → d ≡ Idle
-unfolding isIdle
-idle-is Idle e = refl
-idle-is (PutPublish r y) e = absurd (true≢false (sym e))
-idle-is (PutStamp r c) e = absurd (true≢false (sym e))
-idle-is (PutHandIn r c) e = absurd (true≢false (sym e))
-idle-is FlushTake e = absurd (true≢false (sym e))
-idle-is (FlushRead m ts) e = absurd (true≢false (sym e))
-idle-is (FlushFree m) e = absurd (true≢false (sym e))
-idle-is OpenAnnounce e = absurd (true≢false (sym e))
-idle-is OpenPass e = absurd (true≢false (sym e))
-idle-is (ReadEnter r) e = absurd (true≢false (sym e))
-idle-is (ReadStand r c) e = absurd (true≢false (sym e))
-idle-is CloseWithdraw e = absurd (true≢false (sym e))
-idle-is (GetShow r) e = absurd (true≢false (sym e))
 
 module _ (now : ℕ) (s : Store) (olds : List (List ℕ)) (h : List Call) (o : List ℕ) (p : Plain) (I : Inv now s olds h o p) where
   -- a refusal on reading begins nothing and takes no step
@@ -58,20 +43,20 @@ module _ (now : ℕ) (s : Store) (olds : List (List ℕ)) (h : List Call) (o : L
       }
 
   not-begun : (w : ℕ) (c : Operation) (k : ℕ) → Holds now s (Asks (Begin w c)) h o (refuse (up s) k)
-  unfolding observe isOk effects
+  unfolding observe effects
   not-begun w c k = refused-holds (Asks (Begin w c)) k refl refl
 
   begin-holds : (w : ℕ) (c : Operation) → Holds now s (Asks (Begin w c)) h o (begin s w c)
-  unfolding begin observe isOk effects
+  unfolding begin observe effects
   begin-holds w c =
       cond-both H (ltb w (s .site .P)) _ _
-      (λ e₁. cond-both H (registerBelow (s .site .V') c) _ _
+      (λ e₁. cond-both H (registerBelow (s .site .V') (terms c .register)) _ _
       (λ e₂. cond-both H (isIdle (workerAt s w .doing)) _ _
-      (λ e₃. cond-both H (mayOpen c has) _ _
-      (λ e₄. cond-both H (mayUseTime c has) _ _
+      (λ e₃. cond-both H (mayOpen (terms c .time) has) _ _
+      (λ e₄. cond-both H (mayUseTime (terms c .time) has) _ _
       (λ e₅.
       record {
-        store = place s w (firstPlace c);
+        store = place s w (terms c .first);
         is = refl;
         kept =
             none-more o [] refl
@@ -93,7 +78,7 @@ module _ (now : ℕ) (s : Store) (olds : List (List ℕ)) (h : List Call) (o : L
       has = ltb (workerAt s w .announced) absent
 
   step-holds : (w : ℕ) → Holds now s (Asks (Step w)) h o (step s w)
-  unfolding step observe ends effects stepEffects
+  unfolding step observe effects stepEffects
   step-holds w =
       cond-both (Holds now s (Asks (Step w)) h o) (ltb w (s .site .P)) _ _
       (λ e.

@@ -6,12 +6,12 @@ use Prim.Native.Nat.{ℕ, _<_}
 use native.Mathlib.Omega.{arith}
 use lib.Dec.{ltb, leb, eqb}
 use lib.ListN.{length, getD}
-use Rattle.model.specs.Store.{absent, lastClock, Reading, Slot, Range, Doing, Idle, PutPublish, PutStamp, PutHandIn, FlushTake, FlushRead, FlushFree, OpenAnnounce, OpenPass, ReadEnter, ReadStand, CloseWithdraw, GetShow, Store, Hub, blank, up, workerAt, slotAt, holders, rangeOf, withWorker, place}
+use Rattle.model.specs.Store.{absent, lastClock, Reading, Slot, Range, OpenAnnounce, OpenPass, CloseWithdraw, Doing, Idle, PutPublish, PutStamp, PutHandIn, FlushTake, FlushRead, FlushFree, OnTime, ReadEnter, ReadStand, GetShow, Store, Hub, blank, up, workerAt, slotAt, holders, rangeOf, withWorker, place}
 use Rattle.model.specs.Rules.{Rules}
 use Rattle.model.specs.Answer.{Going, Done, No, Stepped, Applied}
-use Rattle.model.specs.Steps.{putPublish, putStamp, putHandIn, flushTake, flushSplit, flushRead, flushFree, openAnnounce, openPass, answerFor, readEnter, readStand, getShow, closeWithdraw, stepAt}
+use Rattle.model.specs.Steps.{putPublish, putStamp, putHandIn, flushTake, flushSplit, flushRead, flushFree, openAnnounce, openPass, answerFor, readEnter, readStand, getShow, closeWithdraw, timeStep, stepAt}
 use Rattle.model.specs.Record.{Operation, Sizes, SetUp, Begin, Step, Decoded, Asks, Refuses, decode, commandOf, unusedZero}
-use Rattle.model.specs.Apply.{refuse, inRanges, setUp, registerBelow, isIdle, mayOpen, mayUseTime, begin, step, takesStep, obey, applyDecoded, apply}
+use Rattle.model.specs.Apply.{terms, refuse, inRanges, setUp, registerBelow, isIdle, mayOpen, mayUseTime, begin, step, takesStep, obey, applyDecoded, apply}
 use Rattle.model.specs.Demand.{occurrences}
 use Rattle.model.specs.Refusals.{onReading, atStep, idled, Refused, EndsWell, Demand1}
 use Rattle.model.proofs.Basic.{cond-both}
@@ -44,7 +44,11 @@ module _ (s : Store) (w : ℕ) (wb : ltb w (s .site .P) ≡ true) where
   unfolding putHandIn
   hand-well c = go (eqb (length (workerAt s w .pool ++ (rangeOf s c ∷ []))) (s .site .B))
     where
-      go : (full : Bool) → Well (record { store = withWorker s w (record { doing = cond full FlushTake Idle; announced = workerAt s w .announced; pool = workerAt s w .pool ++ (rangeOf s c ∷ []) }); answer = cond full Going Done })
+      go : (full : Bool) → Well (record {
+        store = withWorker s w
+            (record { doing = cond full FlushTake Idle; announced = workerAt s w .announced; pool = workerAt s w .pool ++ (rangeOf s c ∷ []) });
+        answer = cond full Going Done;
+      })
       go true = tt
       go false = tt
 
@@ -54,7 +58,7 @@ module _ (s : Store) (w : ℕ) (wb : ltb w (s .site .P) ≡ true) where
   free-well (ρ ∷ m) = tt
 
   step-well : (d : Doing) → workerAt s w .doing ≡ d → Well (stepAt s w d)
-  unfolding stepAt putStamp flushTake flushRead flushSplit openAnnounce openPass readEnter readStand getShow closeWithdraw answerFor isIdle occurrences
+  unfolding stepAt timeStep putStamp flushTake flushRead flushSplit openAnnounce openPass readEnter readStand getShow closeWithdraw answerFor occurrences
   step-well Idle e = on-reading (up s) (Asks (Step w)) 11 (takes Idle e) (omega arith)
   step-well (PutPublish r x) e = put-well r x (takes (PutPublish r x) e) (s .free)
   step-well (PutStamp r c) e = tt
@@ -62,11 +66,12 @@ module _ (s : Store) (w : ℕ) (wb : ltb w (s .site .P) ≡ true) where
   step-well FlushTake e = tt
   step-well (FlushRead m ts) e = cond-both Well (ltb (length ts) (holders s)) _ _ (λ u. tt) (λ u. tt)
   step-well (FlushFree m) e = free-well m
-  step-well OpenAnnounce e = cond-both Well (eqb (s .clock) lastClock) _ _ (λ u. at-step 15 (takes OpenAnnounce e) (omega arith)) (λ u. tt)
-  step-well OpenPass e = tt
-  step-well (ReadEnter r) e = tt
-  step-well (ReadStand r c) e = cond-both Well (leb (slotAt s c .low) (workerAt s w .announced)) _ _ (λ u. tt) (λ u. tt)
-  step-well CloseWithdraw e = tt
+  step-well (OnTime OpenAnnounce) e =
+      cond-both Well (eqb (s .clock) lastClock) _ _ (λ u. at-step 15 (takes (OnTime OpenAnnounce) e) (omega arith)) (λ u. tt)
+  step-well (OnTime OpenPass) e = tt
+  step-well (ReadEnter g) e = tt
+  step-well (ReadStand g c) e = cond-both Well (leb (slotAt s c .low) (workerAt s w .announced)) _ _ (λ u. tt) (λ u. tt)
+  step-well (OnTime CloseWithdraw) e = tt
   step-well (GetShow r) e = tt
 
 ------------------------------------------------------------------------
@@ -85,10 +90,10 @@ begin-well : (s : Store) (w : ℕ) (c : Operation) → Ends (up s) (Asks (Begin 
 unfolding begin takesStep occurrences
 begin-well s w c =
     cond-both E (ltb w (s .site .P)) _ _
-    (λ e₁. cond-both E (registerBelow (s .site .V') c) _ _
+    (λ e₁. cond-both E (registerBelow (s .site .V') (terms c .register)) _ _
     (λ e₂. cond-both E (isIdle (workerAt s w .doing)) _ _
-    (λ e₃. cond-both E (mayOpen c (ltb (workerAt s w .announced) absent)) _ _
-    (λ e₄. cond-both E (mayUseTime c (ltb (workerAt s w .announced) absent)) _ _
+    (λ e₃. cond-both E (mayOpen (terms c .time) (ltb (workerAt s w .announced) absent)) _ _
+    (λ e₄. cond-both E (mayUseTime (terms c .time) (ltb (workerAt s w .announced) absent)) _ _
     (λ e₅. tt)
     (λ e₅. no 13 (omega arith)))
     (λ e₄. no 12 (omega arith)))
@@ -112,7 +117,8 @@ unfolding decode occurrences
 decode-read b =
     cond-both Read (ltb (length b) 16) (Refuses 6) _ (λ e. refusal 6 (omega arith))
     (λ e. cond-both Read (ltb 7 (getD b 0 0)) (Refuses 1) _ (λ f. refusal 1 (omega arith))
-    (λ f. cond-both Read (unusedZero b (commandOf b (getD b 0 0))) (Asks (commandOf b (getD b 0 0))) (Refuses 2) (λ g. tt) (λ g. refusal 2 (omega arith))))
+    (λ f. cond-both Read (unusedZero b (commandOf b (getD b 0 0))) (Asks (commandOf b (getD b 0 0))) (Refuses 2) (λ g. tt)
+    (λ g. refusal 2 (omega arith))))
   where
     refusal : (k : ℕ) → 0 < occurrences k onReading → Read (Refuses k)
     refusal k n = n

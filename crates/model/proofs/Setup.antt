@@ -60,14 +60,16 @@ first-length v [] = refl
 first-length zero (z ∷ l) = ap suc (first-length zero l)
 first-length (suc v) (z ∷ l) = ap suc (first-length v l)
 
-first-at : (v : ℕ) (l : List Slot) (r : ℕ) → r < v → r < length l → nth (firstSlots v l) r ≡ record { value = reading₀; low = 0; high = absent; older = absent; newer = absent }
+first-at : (v : ℕ) (l : List Slot) (r : ℕ) → r < v → r < length l
+    → nth (firstSlots v l) r ≡ record { value = reading₀; low = 0; high = absent; older = absent; newer = absent }
 unfolding firstSlots
 first-at v [] r h k = absurd (not-suc-le-zero k)
 first-at zero (z ∷ l) r h k = absurd (not-suc-le-zero h)
 first-at (suc v) (z ∷ l) zero h k = refl
 first-at (suc v) (z ∷ l) (suc r) h k = first-at v l r (le-of-suc-le-suc h) (le-of-suc-le-suc k)
 
-first-rest : (v : ℕ) (l : List Slot) (r : ℕ) → v ≤ r → r < length l → (nth (firstSlots v l) r .older ≡ absent) × (nth (firstSlots v l) r .newer ≡ absent)
+first-rest : (v : ℕ) (l : List Slot) (r : ℕ) → v ≤ r → r < length l
+    → (nth (firstSlots v l) r .older ≡ absent) × (nth (firstSlots v l) r .newer ≡ absent)
 unfolding firstSlots
 first-rest v [] r h k = absurd (not-suc-le-zero k)
 first-rest zero (z ∷ l) zero h k = (refl, refl)
@@ -110,11 +112,31 @@ module _ (size : ℕ) (z : Sizes) (row : List Slot) (long : z .N ≤ length row)
         freeAlone = λ i z. alone i z (lt-cases i v) (lt-cases i n);
         once = count;
         pendingOld = λ i. sum-replicate (occurrences i) [] refl v ∙ sym (none-pend i);
-        linked = λ r b. subst (Linked (firstSlots v (take n row)) absent) (sym (chain-is r b)) (ap (λ (z : Slot). z .newer) (at r b), ap (λ (z : Slot). z .older) (at r b), tt);
-        stamps = λ r b. subst (Fine (firstSlots v (take n row)) c reading₀) (sym (chain-is r b)) (ap (λ (z : Slot). z .high) (at r b), inl (omega (arith, ap (λ (z : Slot). z .low) (at r b)), ap (λ (z : Slot). z .value) (at r b), tt));
+        linked =
+            λ r b. subst (Linked (firstSlots v (take n row)) absent) (sym (chain-is r b))
+            (ap (λ (z : Slot). z .newer) (at r b), ap (λ (z : Slot). z .older) (at r b), tt);
+        stamps =
+            λ r b. subst (Fine (firstSlots v (take n row)) c reading₀) (sym (chain-is r b))
+            (ap (λ (z : Slot). z .high) (at r b), inl (omega (arith, ap (λ (z : Slot). z .low) (at r b)), ap (λ (z : Slot). z .value) (at r b), tt));
         queue = tt;
-        workers = λ w b. subst (Works (ctx (fresh size z row) olds) [] [] plain₀ w) (sym (getD-replicate p w startWorker startWorker b)) (record { pool = tt; announced = inl refl; snapshot = λ z. absurd (omega (arith, z, c<)); doing = inl refl; current = λ i z. absurd (not-suc-le-zero z) });
-        stamper = λ r b z. absurd (omega (arith, z, ap (λ (i : ℕ). nth (firstSlots v (take n row)) i .low) (top-is r b), ap (λ (q : Slot). q .low) (at r b)));
+        workers =
+            λ w b. subst (Works (ctx (fresh size z row) olds) [] [] plain₀ w) (sym (getD-replicate p w startWorker startWorker b))
+            (record {
+              pool = tt;
+              announced = inl refl;
+              snapshot = λ z. absurd (omega (arith, z, c<));
+              doing = inl refl;
+              current = λ i z. absurd
+                  (not-suc-le-zero z);
+            });
+        stamper =
+            λ r b z. absurd (omega (
+              arith,
+              z,
+              ap (λ (i : ℕ). nth (firstSlots v (take n row)) i .low) (top-is r b),
+              ap (λ (q : Slot). q .low)
+                  (at r b),
+            ));
         outside = λ w b i z. absurd (not-suc-le-zero z);
         linear = first-lin;
       }
@@ -126,13 +148,35 @@ module _ (size : ℕ) (z : Sizes) (row : List Slot) (long : z .N ≤ length row)
       count i =
           ⊎-elim
           (λ a. ⊎-elim
-          (λ b. omega (arith, none-pend i, up-low v (n - v) i (b .0), up-in 0 v i (omega arith) (omega (arith, b .0)), ap {B = ℕ} (λ (t : Bool). cond t 1 0) (a .1)))
-          (λ b. omega (arith, none-pend i, up-in v (n - v) i (b .0) (omega (arith, a .0)), up-high 0 v i (omega (arith, b .0)), ap {B = ℕ} (λ (t : Bool). cond t 1 0) (a .1)))
+          (λ b. omega (
+            arith,
+            none-pend i,
+            up-low v (n - v) i (b .0),
+            up-in 0 v i (omega arith) (omega (arith, b .0)),
+            ap {B = ℕ}
+                (λ (t : Bool). cond t 1 0) (a .1),
+          ))
+          (λ b. omega (
+            arith,
+            none-pend i,
+            up-in v (n - v) i (b .0) (omega (arith, a .0)),
+            up-high 0 v i (omega (arith, b .0)),
+            ap {B = ℕ}
+                (λ (t : Bool). cond t 1 0) (a .1),
+          ))
           (lt-cases i v))
-          (λ a. omega (arith, none-pend i, up-high v (n - v) i (omega (arith, a .0)), up-high 0 v i (omega (arith, a .0)), ap {B = ℕ} (λ (t : Bool). cond t 1 0) (a .1)))
+          (λ a. omega (
+            arith,
+            none-pend i,
+            up-high v (n - v) i (omega (arith, a .0)),
+            up-high 0 v i (omega (arith, a .0)),
+            ap {B = ℕ}
+                (λ (t : Bool). cond t 1 0) (a .1),
+          ))
           (lt-cases i n)
 
-      alone : (i : ℕ) → 0 < occurrences i (upFrom v (n - v)) → ((i < v) × (ltb i v ≡ true)) ⊎ ((v ≤ i) × (ltb i v ≡ false)) → ((i < n) × (ltb i n ≡ true)) ⊎ ((n ≤ i) × (ltb i n ≡ false))
+      alone : (i : ℕ) → 0 < occurrences i (upFrom v (n - v)) → ((i < v) × (ltb i v ≡ true)) ⊎ ((v ≤ i) × (ltb i v ≡ false))
+          → ((i < n) × (ltb i n ≡ true)) ⊎ ((n ≤ i) × (ltb i n ≡ false))
           → (nth (firstSlots v (take n row)) i .older ≡ absent) × (nth (firstSlots v (take n row)) i .newer ≡ absent)
       alone i z (inl a) b = absurd (omega (arith, z, up-low v (n - v) i (a .0)))
       alone i z (inr a) (inr b) = absurd (omega (arith, z, up-high v (n - v) i (omega (arith, b .0))))
@@ -150,7 +194,14 @@ module _ (size : ℕ) (z : Sizes) (row : List Slot) (long : z .N ≤ length row)
       first-lin : Lin 0 [] [] plain₀
       first-lin =
           record {
-            isOrder = record { within = λ i z. refl; stands = λ i z. absurd (not-suc-le-zero z); ordered = unfold Ordered in tt; registersAgree = unfold RegistersAgree in tt };
+            isOrder =
+                record {
+                  within = λ i z. refl;
+                  stands = λ i z. absurd
+                      (not-suc-le-zero z);
+                  ordered = unfold Ordered in tt;
+                  registersAgree = unfold RegistersAgree in tt;
+                };
             early = λ i z. absurd (not-suc-le-zero z);
             come = unfold after in refl;
           }
@@ -171,7 +222,8 @@ pub record InRanges (z : Sizes) : Type 0 where
 pub in-ranges : (z : Sizes) → inRanges z ≡ true → InRanges z
 unfolding inRanges
 in-ranges z e =
-    let d = and-both (leb 1 (z .P) && leb (z .P) 16 && (leb 1 (z .V') && leb (z .V') 256) && (leb (z .V') (z .N) && leb (z .N) 2048)) (leb 1 (z .clock) && leb (z .clock) lastClock) e in
+    let d = and-both (leb 1 (z .P) && leb (z .P) 16 && (leb 1 (z .V') && leb (z .V') 256) && (leb (z .V') (z .N) && leb (z .N) 2048))
+    (leb 1 (z .clock) && leb (z .clock) lastClock) e in
     let c = and-both (leb 1 (z .P) && leb (z .P) 16 && (leb 1 (z .V') && leb (z .V') 256)) (leb (z .V') (z .N) && leb (z .N) 2048) (d .0) in
     let b = and-both (leb 1 (z .P) && leb (z .P) 16) (leb 1 (z .V') && leb (z .V') 256) (c .0) in
     let a₁ = and-both (leb 1 (z .P)) (leb (z .P) 16) (b .0) in
@@ -221,7 +273,8 @@ obeys rules row (Asks (Begin w o)) = refuses rules (blank row) 8
 obeys rules row (Asks (Step w)) = refuses rules (blank row) 8
 obeys rules row (Refuses k) = refuses rules (blank row) k
 
-pub accepts : (rules : Rules) (row : List Slot) (b : List ℕ) → apply rules (blank row) b .answer ≡ Ok → Accepted rules (apply rules (blank row) b .hub)
+pub accepts : (rules : Rules) (row : List Slot) (b : List ℕ) → apply rules (blank row) b .answer ≡ Ok
+    → Accepted rules (apply rules (blank row) b .hub)
 unfolding apply
 accepts rules row b = obeys rules row (decode b)
 

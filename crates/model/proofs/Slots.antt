@@ -25,13 +25,15 @@ pub change-length : (l : List Slot) (c : ℕ) (f : Slot → Slot) → length (ch
 change-length l c f = length-set l c (f (nth l c))
 
 -- a part that the change leaves
-pub change-part : {A : Type 0} (π : Slot → A) (l : List Slot) (c : ℕ) (f : Slot → Slot) → ((v : Slot) → π (f v) ≡ π v) → (d : ℕ) → π (nth (change l c f) d) ≡ π (nth l d)
+pub change-part : {A : Type 0} (π : Slot → A) (l : List Slot) (c : ℕ) (f : Slot → Slot) → ((v : Slot) → π (f v) ≡ π v) → (d : ℕ)
+    → π (nth (change l c f) d) ≡ π (nth l d)
 change-part π l c f k d = ⊎-elim same (λ e. ap π (change-other l c f d (e .0))) (eq-cases d c)
   where
     same : (d ≡ c) × (eqb d c ≡ true) → π (nth (change l c f) d) ≡ π (nth l d)
     same e =
         subst (λ (i : ℕ). π (nth (change l c f) i) ≡ π (nth l i)) (sym (e .0))
-        (⊎-elim (λ u. ap π (change-same l c f (u .0)) ∙ k (nth l c)) (λ u. ap (λ (q : List Slot). π (nth q c)) (set-out l c (f (nth l c)) (u .0))) (lt-cases c (length l)))
+        (⊎-elim (λ u. ap π (change-same l c f (u .0)) ∙ k (nth l c)) (λ u. ap (λ (q : List Slot). π (nth q c)) (set-out l c (f (nth l c)) (u .0)))
+        (lt-cases c (length l)))
 
 ------------------------------------------------------------------------
 -- Stamping
@@ -128,7 +130,8 @@ module _ (l : List Slot) (c f : ℕ) (x : Reading) where
   unfolding linkSlots
   link-new h = getD-set-same (change l c fF) f new slot₀ (subst (λ (k : ℕ). f < k) (sym (change-length l c fF)) h)
 
-  pub link-part : {A : Type 0} (π : Slot → A) → ((v : Slot) (y : ℕ) → π (setNewer v y) ≡ π v) → (d : ℕ) → d ≢ f → π (nth (linkSlots l c f x) d) ≡ π (nth l d)
+  pub link-part : {A : Type 0} (π : Slot → A) → ((v : Slot) (y : ℕ) → π (setNewer v y) ≡ π v) → (d : ℕ) → d ≢ f
+      → π (nth (linkSlots l c f x) d) ≡ π (nth l d)
   unfolding linkSlots
   link-part π k d n = ap π (getD-set-other (change l c fF) f d new slot₀ n) ∙ change-part π l c fF (λ v. k v f) d
 
@@ -190,7 +193,8 @@ module _ (l : List Slot) (c : ℕ) where
       ∙ change-part π l oc fN (λ v. a v nc) d
 
   pub unlink-older-own : nth l c .newer ≢ c → nth l c .newer < length l → nth (unlinkSlots l c) (nth l c .newer) .older ≡ nth l c .older
-  unlink-older-own m h = ap (λ (v : Slot). v .older) (off-c nc m ∙ change-same lN nc fO (subst (λ (k : ℕ). nth l c .newer < k) (sym (change-length l oc fN)) h))
+  unlink-older-own m h =
+      ap (λ (v : Slot). v .older) (off-c nc m ∙ change-same lN nc fO (subst (λ (k : ℕ). nth l c .newer < k) (sym (change-length l oc fN)) h))
 
   pub unlink-older-other : (d : ℕ) → d ≢ c → d ≢ nth l c .newer → nth (unlinkSlots l c) d .older ≡ nth l d .older
   unlink-older-other d m n = ap (λ (v : Slot). v .older) (off-c d m ∙ change-other lN nc fO d n) ∙ change-part (λ v. v .older) l oc fN (λ v. refl) d

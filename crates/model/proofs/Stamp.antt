@@ -11,7 +11,7 @@ use borrow.Author.Tests as Tests
 use Rattle.model.specs.Store.{absent, Reading, Slot, Range, Doing, PutStamp, startWorker, Store, workerAt, newestOf, withSlots}
 use Rattle.model.specs.Versions.{stampSlots, stamp}
 use Rattle.model.specs.Record.{Operation, Put}
-use Rattle.model.specs.Demand.{Call, Plain, update, feed, runningOf, takesEffect, changeEffects, occurrences, callAt}
+use Rattle.model.specs.Demand.{Call, Plain, update, feed, runningOf, changeEffects, occurrences, callAt}
 use Rattle.model.proofs.Basic.{hit, hit-same, hit-eq, hit-other, eq-cases, All-map, All-get, All-occurrences, occurrences-snoc}
 use Rattle.model.proofs.Effect.{running-is, change-none, below-one, takes, takes-same, takes-self}
 use Rattle.model.proofs.Linear.{Lin, lin-effect}
@@ -32,7 +32,8 @@ pub next-open : (s : List Slot) (t : ℕ) (x : Reading) (l : List ℕ) → Next 
 next-open s t x [] a = absurd a
 next-open s t x (d ∷ l) a = a .1
 
-next-head : (s : List Slot) (t : ℕ) (x : Reading) (c : ℕ) (l : List ℕ) → t < absent → Next s t x l → 0 < occurrences c l → nth s c .high ≡ absent → headOr absent l ≡ c
+next-head : (s : List Slot) (t : ℕ) (x : Reading) (c : ℕ) (l : List ℕ) → t < absent → Next s t x l → 0 < occurrences c l → nth s c .high ≡ absent
+    → headOr absent l ≡ c
 unfolding occurrences
 next-head s t x c [] b a h e = absurd a
 next-head s t x c (d ∷ l) b a h e =
@@ -42,9 +43,11 @@ pub next-low : (s : List Slot) (t : ℕ) (x : Reading) (c : ℕ) (l : List ℕ) 
 unfolding occurrences
 next-low s t x c [] a h = absurd a
 next-low s t x c (d ∷ l) a h =
-    ⊎-elim (λ u. subst (λ (i : ℕ). nth s i .low ≤ t) (u .0) (a .0)) (λ u. All-get (Past s t) l (a .3) c (omega (arith, hit-other d c (u .0))) .0) (eq-cases d c)
+    ⊎-elim (λ u. subst (λ (i : ℕ). nth s i .low ≤ t) (u .0) (a .0)) (λ u. All-get (Past s t) l (a .3) c (omega (arith, hit-other d c (u .0))) .0)
+    (eq-cases d c)
 
-pub next-high : (s : List Slot) (t : ℕ) (x : Reading) (c : ℕ) (l : List ℕ) → Next s t x l → 0 < occurrences c l → headOr absent l ≢ c → nth s c .high ≤ t
+pub next-high : (s : List Slot) (t : ℕ) (x : Reading) (c : ℕ) (l : List ℕ) → Next s t x l → 0 < occurrences c l → headOr absent l ≢ c
+    → nth s c .high ≤ t
 unfolding occurrences
 next-high s t x c [] a h n = absurd a
 next-high s t x c (d ∷ l) a h n =
@@ -57,7 +60,8 @@ pub record Stamped (now : ℕ) (s : Store) (r : ℕ) (olds : List (List ℕ)) (h
   pub inv : Inv now (stamp s r) olds h o p
   pub low : nth (stamp s r .slots) (newestOf s r) .low ≤ s .clock
 
-module _ (now : ℕ) (s : Store) (olds : List (List ℕ)) (h : List Call) (o : List ℕ) (p : Plain) (I : Inv now s olds h o p) (r : ℕ) (b : r < s .site .V') where
+module _ (now : ℕ) (s : Store) (olds : List (List ℕ)) (h : List Call) (o : List ℕ) (p : Plain) (I : Inv now s olds h o p) (r : ℕ)
+    (b : r < s .site .V') where
   abbrev n : ℕ
   n = newestOf s r
 
@@ -76,7 +80,9 @@ module _ (now : ℕ) (s : Store) (olds : List (List ℕ)) (h : List Call) (o : L
   stamp-had e =
       record {
         o = o;
-        grown = sym (append-nil o) ∙ ap (λ (q : List ℕ). o ++ q) (sym (change-none h s (stamp s r) refl (λ v q c z y. ap (λ (i : Store). nth (i .slots) c .high) same)));
+        grown =
+            sym (append-nil o) ∙ ap (λ (q : List ℕ). o ++ q)
+            (sym (change-none h s (stamp s r) refl (λ v q c z y. ap (λ (i : Store). nth (i .slots) c .high) same)));
         p = p;
         inv = subst (λ (q : Store). Inv now q olds h o p) (sym same) I;
         low = subst (λ (q : Store). nth (q .slots) n .low ≤ ck) (sym same) (⊎-elim (λ u. u .0) (λ u. absurd (e (u .0))) (I .stamps r b .1));
@@ -86,7 +92,8 @@ module _ (now : ℕ) (s : Store) (olds : List (List ℕ)) (h : List Call) (o : L
       same = ap (withSlots s) (stamp-not sl n ck e)
 
   module _ (e : nth sl n .low ≡ absent) (w : ℕ) (wb : w < s .site .P) (c : ℕ) (dw : workerAt s w .doing ≡ PutStamp r c) (hc : nth sl c .high ≡ absent)
-      (k : ℕ) (kOpen : Running h w k) (y : Reading) (kCall : callAt h k .operation ≡ Put r y) (kNot : occurrences k o ≡ 0) (kVal : nth sl n .value ≡ y) where
+      (k : ℕ) (kOpen : Running h w k) (y : Reading) (kCall : callAt h k .operation ≡ Put r y) (kNot : occurrences k o ≡ 0)
+      (kVal : nth sl n .value ≡ y) where
     abbrev sl′ : List Slot
     sl′ = stampSlots sl n ck
 
@@ -144,9 +151,11 @@ module _ (now : ℕ) (s : Store) (olds : List (List ℕ)) (h : List Call) (o : L
     high≤ : (d : ℕ) → nth sl d .high ≤ ck → nth sl′ d .high ≤ ck
     high≤ d z = ⊎-elim (λ u. omega (arith, high-c, ap (λ (i : ℕ). nth sl′ i .high) (u .0))) (λ u. omega (arith, highs d (u .0))) (eq-cases d c)
 
-    mono : (a : ℕ) → a < ck → (d : ℕ) → (nth sl d .low ≤ a → nth sl′ d .low ≤ a) × (a < nth sl d .low → a < nth sl′ d .low) × (a < nth sl d .high → a < nth sl′ d .high) × (nth sl′ d .value ≡ nth sl d .value)
+    mono : (a : ℕ) → a < ck → (d : ℕ) → (nth sl d .low ≤ a → nth sl′ d .low ≤ a) × (a < nth sl d .low → a < nth sl′ d .low)
+        × (a < nth sl d .high → a < nth sl′ d .high) × (nth sl′ d .value ≡ nth sl d .value)
     mono a z d = (
-      (λ v. ⊎-elim (λ u. absurd (omega (arith, I .clockFits, v, e, ap (λ (i : ℕ). nth sl i .low) (u .0)))) (λ u. omega (arith, v, lows d (u .0))) (eq-cases d n)),
+      (λ v. ⊎-elim (λ u. absurd (omega (arith, I .clockFits, v, e, ap (λ (i : ℕ). nth sl i .low) (u .0)))) (λ u. omega (arith, v, lows d (u .0)))
+          (eq-cases d n)),
       (λ v. ⊎-elim (λ u. omega (arith, low-n, ap (λ (i : ℕ). nth sl′ i .low) (u .0))) (λ u. omega (arith, v, lows d (u .0))) (eq-cases d n)),
       (λ v. ⊎-elim (λ u. omega (arith, high-c, ap (λ (i : ℕ). nth sl′ i .high) (u .0))) (λ u. omega (arith, v, highs d (u .0))) (eq-cases d c)),
       values d,
@@ -177,7 +186,8 @@ module _ (now : ℕ) (s : Store) (olds : List (List ℕ)) (h : List Call) (o : L
         past i z =
             let i≢n : i ≢ n = λ v. omega (arith, chain-once I r b i, z, hit-eq n i (sym v)) in (
               omega (arith, lows i i≢n, next-low sl ck (p .registers r) i (old x r) next z),
-              ⊎-elim (λ u. omega (arith, high-c, ap (λ (j : ℕ). nth sl′ j .high) (u .0))) (λ u. omega (arith, highs i (u .0), next-high sl ck (p .registers r) i (old x r) next z (λ v. u .0 (sym v ∙ head)))) (eq-cases i c),
+              ⊎-elim (λ u. omega (arith, high-c, ap (λ (j : ℕ). nth sl′ j .high) (u .0)))
+                  (λ u. omega (arith, highs i (u .0), next-high sl ck (p .registers r) i (old x r) next z (λ v. u .0 (sym v ∙ head)))) (eq-cases i c),
             )
 
     fine : (q : ℕ) → q < s .site .V' → Fine sl′ ck (p′ .registers q) (chain x q)
@@ -205,7 +215,7 @@ module _ (now : ℕ) (s : Store) (olds : List (List ℕ)) (h : List Call) (o : L
           times′ = λ v z. inl refl;
           mem = λ q i z u v. v;
           highs = λ i z. high≤ i;
-          on = λ q i a z u v. On-mono sl sl′ t i a (chain x q) (λ j _. mono t u j);
+          on = λ g i a z u v. On-mono sl sl′ t i a (chain x (g .register)) (λ j _. mono t u j);
         }
 
     -- no other put covers c
@@ -213,7 +223,17 @@ module _ (now : ℕ) (s : Store) (olds : List (List ℕ)) (h : List Call) (o : L
     apart-c v vb vw q i dv u =
         let a : pendW c (workerAt s v) ≡ hit i c + cnt c (workerAt s v .pool) = ap (λ (d : Doing). inDoing c d + cnt c (workerAt s v .pool)) dv in
         let z : pendW c (workerAt s w) ≡ hit c c + cnt c (workerAt s w .pool) = ap (λ (d : Doing). inDoing c d + cnt c (workerAt s w .pool)) dw in
-        omega (arith, a, z, hit-eq i c u, hit-same c, sumBy-two (pendW c) (s .workers) v w startWorker (omega (arith, I .workersLength)) (omega (arith, I .workersLength)) vw, I .once c, below≤1 c (s .site .N))
+        omega (
+          arith,
+          a,
+          z,
+          hit-eq i c u,
+          hit-same c,
+          sumBy-two (pendW c) (s .workers) v w startWorker (omega (arith, I .workersLength))
+              (omega (arith, I .workersLength)) vw,
+          I .once c,
+          below≤1 c (s .site .N),
+        )
 
     covers : (v : ℕ) → v < s .site .P → v ≢ w → (q i : ℕ) → workerAt s v .doing ≡ PutStamp q i → Covers x x′ q i
     covers v vb vw q i dv = ((λ z. (highs i (apart-c v vb vw q i dv) ∙ z, values (top x q))), high≤ i)
@@ -223,16 +243,28 @@ module _ (now : ℕ) (s : Store) (olds : List (List ℕ)) (h : List Call) (o : L
         record {
           pool = All-map good (workerAt s v .pool) (Z .pool);
           announced = Z .announced;
-          snapshot = λ z. let q = Z .snapshot z in (q .0, q .1, λ i d. Sees-mono sl sl′ (workerAt s v .announced) (q .0 i) (chain x i) (λ j _. mono (workerAt s v .announced) z j) (q .2 i d));
-          doing = doing-map x x′ p p′ v (workerAt s v .announced) refl (workerAt s v .doing) (moves (workerAt s v .announced) (workerAt s v .doing)) (Z .doing);
-          current = ⊎-elim (λ u. subst (λ (i : ℕ). Current x′ h o′ i (workerAt s i .announced) (workerAt s i .doing)) (sym (u .0)) own) other (eq-cases v w);
+          snapshot =
+              λ z. let q = Z .snapshot z in (
+                q .0,
+                q .1,
+                λ i d. Sees-mono sl sl′ (workerAt s v .announced) (q .0 i) (chain x i)
+                    (λ j _. mono (workerAt s v .announced) z j) (q .2 i d),
+              );
+          doing =
+              doing-map x x′ p p′ v (workerAt s v .announced) refl (workerAt s v .doing) (moves (workerAt s v .announced) (workerAt s v .doing))
+              (Z .doing);
+          current =
+              ⊎-elim (λ u. subst (λ (i : ℕ). Current x′ h o′ i (workerAt s i .announced) (workerAt s i .doing)) (sym (u .0)) own) other
+              (eq-cases v w);
         }
       where
         Z : Works x h o p v (workerAt s v)
         Z = I .workers v vb
 
         own : Current x′ h o′ w (workerAt s w .announced) (workerAt s w .doing)
-        own = subst (Current x′ h o′ w (workerAt s w .announced)) (sym dw) (k, kOpen, (y, kCall, inr (omega (arith, high-c), omega (arith, occurrences-snoc k o k, hit-same k, kNot))))
+        own =
+            subst (Current x′ h o′ w (workerAt s w .announced)) (sym dw)
+            (k, kOpen, (y, kCall, inr (omega (arith, high-c), omega (arith, occurrences-snoc k o k, hit-same k, kNot))))
 
         other : (v ≢ w) × (eqb v w ≡ false) → Current x′ h o′ v (workerAt s v .announced) (workerAt s v .doing)
         other u =
@@ -240,12 +272,18 @@ module _ (now : ℕ) (s : Store) (olds : List (List ℕ)) (h : List Call) (o : L
             (λ j jo f. (
               jo,
               fits-map x x′ refl (workerAt s v .announced) (callAt h j .operation) (occurrences j o) (occurrences j o′)
-                  (omega (arith, occurrences-snoc j o k, hit-other k j (λ z. u .0 (sym (jo .own) ∙ ap (λ (i : ℕ). callAt h i .worker) (sym z) ∙ kOpen .own))))
+                  (omega (
+                    arith,
+                    occurrences-snoc j o k,
+                    hit-other k j
+                        (λ z. u .0 (sym (jo .own) ∙ ap (λ (i : ℕ). callAt h i .worker) (sym z) ∙ kOpen .own)),
+                  ))
                   (workerAt s v .doing) (covers v vb (u .0)) f,
             ))
             (Z .current)
 
-    owner : (q : ℕ) → q < s .site .V' → nth sl′ (newestOf s q) .low ≡ absent → (v : ℕ) × (v < s .site .P) × (i : ℕ) × (workerAt s v .doing ≡ PutStamp q i) × (nth sl′ i .high ≡ absent)
+    owner : (q : ℕ) → q < s .site .V' → nth sl′ (newestOf s q) .low ≡ absent
+        → (v : ℕ) × (v < s .site .P) × (i : ℕ) × (workerAt s v .doing ≡ PutStamp q i) × (nth sl′ i .high ≡ absent)
     unfolding occurrences
     owner q d z =
         ⊎-elim
@@ -258,15 +296,20 @@ module _ (now : ℕ) (s : Store) (olds : List (List ℕ)) (h : List Call) (o : L
           a .1,
           a .2,
           a .3,
-          highs (a .2) (λ v. omega (arith, c-old, subst (λ (j : ℕ). occurrences j (chain x r) ≡ 0) v (chain-apart I q r d b (u .0) (a .2) (omega (arith, f .2))))) ∙ a .4,
+          highs (a .2) (λ v. omega (
+            arith,
+            c-old,
+            subst (λ (j : ℕ). occurrences j (chain x r) ≡ 0) v
+                (chain-apart I q r d b (u .0) (a .2) (omega (arith, f .2))),
+          )) ∙ a .4,
         ))
         (eq-cases q r)
 
     -- the put takes effect, and nothing else
     change-k : changeEffects h s s′ ≡ k ∷ []
-    unfolding takesEffect
     change-k =
-        ap (map (runningOf h)) (below-one (takes s s′) (s .site .P) w wb yes (λ v vb vw. takes-same s s s′ v refl (λ q i dv. highs i (apart-c v vb vw q i dv)) ∙ takes-self s v))
+        ap (map (runningOf h)) (below-one (takes s s′) (s .site .P) w wb yes
+        (λ v vb vw. takes-same s s s′ v refl (λ q i dv. highs i (apart-c v vb vw q i dv)) ∙ takes-self s v))
         ∙ ap (λ (i : ℕ). i ∷ []) (running-is kOpen)
       where
         yes : takes s s′ w ≡ true

@@ -6,7 +6,7 @@ use mathlib.Core.List.{List, [], _∷_, _++_, map, append-assoc}
 use Prim.Native.Nat.{ℕ, _≤_, _<_}
 use native.Mathlib.Omega.{arith}
 use lib.Dec.{eqb}
-use Rattle.model.specs.Store.{absent, Reading, Idle, PutStamp, PutHandIn, ReadEnter, ReadStand, GetShow, Store, workerAt, slotAt, newestOf, place}
+use Rattle.model.specs.Store.{absent, Reading, Idle, PutStamp, PutHandIn, Goal, ReadEnter, ReadStand, GetShow, Store, workerAt, slotAt, newestOf, place}
 use Rattle.model.specs.Versions.{stamp}
 use Rattle.model.specs.Steps.{answerFor}
 use Rattle.model.specs.Record.{Operation}
@@ -33,8 +33,11 @@ cover-on now s olds h o p I w wb r c e hi =
     (d .0, d .1, d .2, hi)
     (a .0, a .1, ((r, a .2 .0, a .2 .1), ⊎-elim (λ u. absurd (omega (arith, u .0, hi, I .clockFits))) (λ u. u .1) (a .2 .2)))
 
-module _ (now : ℕ) (s : Store) (olds : List (List ℕ)) (h : List Call) (o : List ℕ) (p : Plain) (I : Inv now s olds h o p) (w : ℕ) (wb : w < s .site .P) where
-  pub cover-kept : (r c : ℕ) → workerAt s w .doing ≡ PutStamp r c → Kept now (place (cond (eqb (slotAt s c .high) absent) (stamp s r) s) w (PutHandIn r c)) h (o ++ changeEffects h s (cond (eqb (slotAt s c .high) absent) (stamp s r) s))
+module _ (now : ℕ) (s : Store) (olds : List (List ℕ)) (h : List Call) (o : List ℕ) (p : Plain) (I : Inv now s olds h o p) (w : ℕ)
+    (wb : w < s .site .P) where
+  pub cover-kept : (r c : ℕ) → workerAt s w .doing ≡ PutStamp r c
+      → Kept now (place (cond (eqb (slotAt s c .high) absent) (stamp s r) s) w (PutHandIn r c)) h
+      (o ++ changeEffects h s (cond (eqb (slotAt s c .high) absent) (stamp s r) s))
   unfolding stamp
   cover-kept r c e = ⊎-elim (λ u. rw (u .1) first) (λ u. rw (u .1) (second (u .0))) (eq-cases (slotAt s c .high) absent)
     where
@@ -48,23 +51,32 @@ module _ (now : ℕ) (s : Store) (olds : List (List ℕ)) (h : List Call) (o : L
       first =
           subst (Kept now (place (stamp s r) w (PutHandIn r c)) h) (T .grown)
           (cover-on now (stamp s r) olds h (T .o) (T .p) (T .inv) w wb r c e
-          (⊎-elim (λ u. All-get (Past (stamp s r .slots) (s .clock)) (old (ctx s olds) r) (u .2) c (d .2) .1) (λ u. absurd (omega (arith, T .low, u .0, I .clockFits))) (T .inv .stamps r (d .0) .1)))
+          (⊎-elim (λ u. All-get (Past (stamp s r .slots) (s .clock)) (old (ctx s olds) r) (u .2) c (d .2) .1)
+          (λ u. absurd (omega (arith, T .low, u .0, I .clockFits))) (T .inv .stamps r (d .0) .1)))
 
       second : slotAt s c .high ≢ absent → Kept now (place s w (PutHandIn r c)) h (o ++ changeEffects h s s)
-      second n = none-more o (changeEffects h s s) (change-none h s s refl (λ v q i z y. refl)) (cover-on now s olds h o p I w wb r c e (fine-high (s .slots) (s .clock) (p .registers r) (newestOf s r) c (old (ctx s olds) r) (I .stamps r (d .0)) (d .2) n))
+      second n =
+          none-more o (changeEffects h s s) (change-none h s s refl (λ v q i z y. refl))
+          (cover-on now s olds h o p I w wb r c e (fine-high (s .slots) (s .clock) (p .registers r) (newestOf s r) c (old (ctx s olds) r)
+          (I .stamps r (d .0)) (d .2) n))
 
-  pub enter-kept : (r : ℕ) → workerAt s w .doing ≡ ReadEnter r → Kept now (place (stamp s r) w (ReadStand r (newestOf s r))) h (o ++ changeEffects h s (stamp s r))
+  pub enter-kept : (g : Goal) → workerAt s w .doing ≡ ReadEnter g
+      → Kept now (place (stamp s (g .register)) w (ReadStand g (newestOf s (g .register)))) h (o ++ changeEffects h s (stamp s (g .register)))
   unfolding stamp
-  enter-kept r e =
-      let a = cur-is now (stamp s r) olds h (T .o) (T .p) (T .inv) w wb (ReadEnter r) e in
-      subst (Kept now (place (stamp s r) w (ReadStand r (newestOf s r))) h) (T .grown)
-      (place-inv now (stamp s r) olds h (T .o) (T .p) (T .inv) w wb (ReadEnter r) (ReadStand r (newestOf s r)) e (λ i. refl) (calm now (stamp s r) olds h (T .o) (T .p) (T .inv) w wb (ReadEnter r) tt e)
+  enter-kept g e =
+      let a = cur-is now (stamp s r) olds h (T .o) (T .p) (T .inv) w wb (ReadEnter g) e in
+      subst (Kept now (place (stamp s r) w (ReadStand g (newestOf s r))) h) (T .grown)
+      (place-inv now (stamp s r) olds h (T .o) (T .p) (T .inv) w wb (ReadEnter g) (ReadStand g (newestOf s r)) e (λ i. refl)
+      (calm now (stamp s r) olds h (T .o) (T .p) (T .inv) w wb (ReadEnter g) tt e)
       h (T .o) (T .p) (hist-skip now w h (T .o) (T .p) (T .inv .linear)) refl
       (d .0, d .1, (S .0, S .1, inl (refl, S .2 r (d .0))))
       (a .0, a .1, a .2))
     where
-      d : PlaceHolds (ctx s olds) p w (workerAt s w .announced) (ReadEnter r)
-      d = doing-is now s olds h o p I w wb (ReadEnter r) e
+      r : ℕ
+      r = g .register
+
+      d : PlaceHolds (ctx s olds) p w (workerAt s w .announced) (ReadEnter g)
+      d = doing-is now s olds h o p I w wb (ReadEnter g) e
 
       T : Stamped now s r olds h o
       T = stamp-inv now s olds h o p I r (d .0)
@@ -72,19 +84,24 @@ module _ (now : ℕ) (s : Store) (olds : List (List ℕ)) (h : List Call) (o : L
       S : Snap (ctx (stamp s r) olds) (T .p) w (workerAt s w .announced)
       S = T .inv .workers w wb .snapshot (d .1)
 
-  pub show-kept : (r : ℕ) → workerAt s w .doing ≡ GetShow r → Kept now (place (stamp s r) w Idle) (map (endFor now w (answerFor (slotAt s (newestOf s r) .value))) h) (o ++ (changeEffects h s (stamp s r) ++ endEffects h w (answerFor (slotAt s (newestOf s r) .value))))
+  pub show-kept : (r : ℕ) → workerAt s w .doing ≡ GetShow r
+      → Kept now (place (stamp s r) w Idle) (map (endFor now w (answerFor (slotAt s (newestOf s r) .value))) h)
+      (o ++ (changeEffects h s (stamp s r) ++ endEffects h w (answerFor (slotAt s (newestOf s r) .value))))
   unfolding stamp feed shows atEnd answerFor
   show-kept r e =
       let a = cur-is now (stamp s r) olds h (T .o) (T .p) (T .inv) w wb (GetShow r) e in
-      subst (Kept now (place (stamp s r) w Idle) (map (endFor now w (answerFor v)) h)) (append-assoc o (changeEffects h s (stamp s r)) (endEffects h w (answerFor v)))
+      subst (Kept now (place (stamp s r) w Idle) (map (endFor now w (answerFor v)) h))
+      (append-assoc o (changeEffects h s (stamp s r)) (endEffects h w (answerFor v)))
       (subst (λ (q : List ℕ). Kept now (place (stamp s r) w Idle) (map (endFor now w (answerFor v)) h) (q ++ endEffects h w (answerFor v))) (T .grown)
       (one-more (T .o) (endEffects h w (answerFor v)) (a .0) (own-is (a .1) (answerFor v) (answerFor-finishes v) (ap atEnd (a .2 .0)))
-      (place-inv now (stamp s r) olds h (T .o) (T .p) (T .inv) w wb (GetShow r) Idle e (λ i. refl) (calm now (stamp s r) olds h (T .o) (T .p) (T .inv) w wb (GetShow r) tt e)
+      (place-inv now (stamp s r) olds h (T .o) (T .p) (T .inv) w wb (GetShow r) Idle e (λ i. refl)
+      (calm now (stamp s r) olds h (T .o) (T .p) (T .inv) w wb (GetShow r) tt e)
       _ (T .o ++ (a .0 ∷ [])) (feed (T .p) w (callAt h (a .0) .operation))
       (hist-show now w h (T .o) (T .p) (T .inv .linear) (answerFor v) (a .0) (a .1) (a .2 .1)
       (subst (λ (q : Ending). Stands q 1) (sym (answerFor-end now v)) refl)
       (subst (λ (q : Ending). Agrees (callAt h (a .0) .operation) q (shows (T .p) w (callAt h (a .0) .operation))) (sym (answerFor-end now v))
-      (subst (λ (q : Operation). Agrees q (FinishedAt now (answerFor v)) (shows (T .p) w q)) (sym (a .2 .0)) (T .p .registers r, refl, ap answerFor val)))
+      (subst (λ (q : Operation). Agrees q (FinishedAt now (answerFor v)) (shows (T .p) w q)) (sym (a .2 .0))
+      (T .p .registers r, refl, ap answerFor val)))
       (λ i. rw (a .2 .0)) (λ i n. rw (a .2 .0)))
       (rw (a .2 .0)) (d .1) (end-shut now w h (T .o) (T .p) (T .inv .linear) (answerFor v) (a .0) (a .1)))))
     where

@@ -3,17 +3,18 @@ use mathlib.Core.Path.{_≡_, refl, sym, ap, _∙_, subst}
 use mathlib.Core.Bool.{Bool, true, false, cond}
 use mathlib.Core.Logic.{_⊎_, inl, inr, ⊎-elim}
 use mathlib.Core.List.{List, [], _∷_, _++_, map, append-nil}
+use mathlib.Core.Option.{Option, none, some}
 use Prim.Native.Nat.{ℕ, _≤_, _<_}
 use native.Mathlib.Omega.{arith}
 use lib.Dec.{ltb, leb, eqb}
 use lib.ListN.{length}
 use lib.Seq.{getD-set-same}
 use borrow.Author.Tests as Tests
-use Rattle.model.specs.Store.{absent, Reading, Slot, Range, Doing, Idle, PutPublish, PutStamp, PutHandIn, FlushTake, FlushRead, FlushFree, OpenAnnounce, OpenPass, ReadEnter, ReadStand, CloseWithdraw, GetShow, Store, workerAt, slotAt, newestOf, holders, rangeOf, withWorker, place, up}
-use Rattle.model.specs.Answer.{Answer, Ok, Going, Freed, At, Value, Done, No, Stepped}
+use Rattle.model.specs.Store.{absent, Reading, Slot, Range, OpenAnnounce, OpenPass, CloseWithdraw, Doing, Idle, PutPublish, PutStamp, PutHandIn, FlushTake, FlushRead, FlushFree, OnTime, ReadEnter, ReadStand, GetShow, Store, workerAt, slotAt, newestOf, holders, rangeOf, withWorker, place, up}
+use Rattle.model.specs.Answer.{Answer, Going, Freed, Done, No, Stepped, said}
 use Rattle.model.specs.Versions.{stamp}
-use Rattle.model.specs.Steps.{putPublish, putStamp, putHandIn, flushTake, flushSplit, flushRead, flushFree, openAnnounce, openPass, answerFor, readEnter, readStand, getShow, closeWithdraw, stepAt}
-use Rattle.model.specs.Demand.{Call, ends, endFor, Plain, changeEffects, finishes, endEffects, occurrences, FreesNothingNeeded, TookIn}
+use Rattle.model.specs.Steps.{putPublish, putStamp, putHandIn, flushTake, flushSplit, flushRead, flushFree, openAnnounce, openPass, answerFor, readEnter, readStand, getShow, closeWithdraw, timeStep, stepAt}
+use Rattle.model.specs.Demand.{Call, endFor, Plain, changeEffects, endEffects, occurrences, FreesNothingNeeded, TookIn}
 use Rattle.model.proofs.Basic.{hit-same, hit-other, eq-cases, cond-both}
 use Rattle.model.proofs.Slots.{nth, link-new, unlink-part}
 use Rattle.model.proofs.Effect.{change-none, change-same}
@@ -30,7 +31,7 @@ use Rattle.model.proofs.Tick.{pass-kept}
 
 -- the operations after a step of worker w with answer a
 abbrev pub seen : ℕ → ℕ → Answer → List Call → List Call
-seen now w a h = cond (ends a) (map (endFor now w a) h) h
+seen now w a h = cond (said a .ends) (map (endFor now w a) h) h
 
 pub record After (now : ℕ) (s : Store) (w : ℕ) (h : List Call) (o : List ℕ) (t : Stepped) : Type 0 where
   pub kept : Kept now (t .store) (seen now w (t .answer) h) (o ++ (changeEffects h s (t .store) ++ endEffects h w (t .answer)))
@@ -38,17 +39,16 @@ pub record After (now : ℕ) (s : Store) (w : ℕ) (h : List Call) (o : List ℕ
   pub frees : (c : ℕ) → t .answer ≡ Freed c → (occurrences c (s .free) ≡ 0) × (0 < occurrences c (t .store .free))
   pub stays : (c : ℕ) → 0 < occurrences c (s .free) → (0 < occurrences c (t .store .free)) ⊎ TookIn c w (up s) (t .answer) (up (t .store))
 
+abbrev pub IsNone : Option ℕ → Type 0
+IsNone none = Unit {0}
+IsNone (some c) = ⊥
+
 abbrev pub NotFreed : Answer → Type 0
-NotFreed Ok = Unit {0}
-NotFreed Going = Unit {0}
-NotFreed (Freed c) = ⊥
-NotFreed (At t) = Unit {0}
-NotFreed (Value x) = Unit {0}
-NotFreed Done = Unit {0}
-NotFreed (No k) = Unit {0}
+NotFreed a = IsNone (said a .freed)
 
 -- a step that frees nothing and takes no slot
-quiet : {now : ℕ} {s : Store} {w : ℕ} {h : List Call} {o : List ℕ} {t : Stepped} → Kept now (t .store) (seen now w (t .answer) h) (o ++ (changeEffects h s (t .store) ++ endEffects h w (t .answer)))
+quiet : {now : ℕ} {s : Store} {w : ℕ} {h : List Call} {o : List ℕ} {t : Stepped}
+    → Kept now (t .store) (seen now w (t .answer) h) (o ++ (changeEffects h s (t .store) ++ endEffects h w (t .answer)))
     → t .store .free ≡ s .free → NotFreed (t .answer) → After now s w h o t
 quiet K e n =
     record {
@@ -68,33 +68,40 @@ change-still h s t k e = change-none h s t k (λ v r c z y. ap (λ (l : List Slo
 
 module _ {now : ℕ} (s : Store) {w : ℕ} {h : List Call} {o : List ℕ} where
   -- no put is stamped and no time passed, and the operation that ends, if any, takes effect
-  ended : (t : Store) (a : Answer) → t .clock ≡ s .clock → t .slots ≡ s .slots → Kept now t (seen now w a h) (o ++ endEffects h w a) → t .free ≡ s .free → NotFreed a → After now s w h o (record { store = t; answer = a })
-  ended t a k l K e n = quiet (subst (λ (q : List ℕ). Kept now t (seen now w a h) (o ++ (q ++ endEffects h w a))) (sym (change-still h s t k l)) K) e n
+  ended : (t : Store) (a : Answer) → t .clock ≡ s .clock → t .slots ≡ s .slots → Kept now t (seen now w a h) (o ++ endEffects h w a)
+      → t .free ≡ s .free → NotFreed a → After now s w h o (record { store = t; answer = a })
+  ended t a k l K e n =
+      quiet (subst (λ (q : List ℕ). Kept now t (seen now w a h) (o ++ (q ++ endEffects h w a))) (sym (change-still h s t k l)) K) e n
 
   -- nothing takes effect
-  plain : (t : Store) (a : Answer) → t .clock ≡ s .clock → t .slots ≡ s .slots → endEffects h w a ≡ [] → Kept now t (seen now w a h) o → t .free ≡ s .free → NotFreed a → After now s w h o (record { store = t; answer = a })
+  plain : (t : Store) (a : Answer) → t .clock ≡ s .clock → t .slots ≡ s .slots → endEffects h w a ≡ [] → Kept now t (seen now w a h) o
+      → t .free ≡ s .free → NotFreed a → After now s w h o (record { store = t; answer = a })
   plain t a k l y K e n = ended t a k l (none-more o (endEffects h w a) y K) e n
 
   -- only puts and opens take effect
-  spreads : (t : Store) (a : Answer) → endEffects h w a ≡ [] → Kept now t (seen now w a h) (o ++ changeEffects h s t) → t .free ≡ s .free → NotFreed a → After now s w h o (record { store = t; answer = a })
+  spreads : (t : Store) (a : Answer) → endEffects h w a ≡ [] → Kept now t (seen now w a h) (o ++ changeEffects h s t) → t .free ≡ s .free
+      → NotFreed a → After now s w h o (record { store = t; answer = a })
   spreads t a y K e n =
-      quiet (subst (λ (q : List ℕ). Kept now t (seen now w a h) (o ++ q)) (sym (ap (λ (q : List ℕ). changeEffects h s t ++ q) y ∙ append-nil (changeEffects h s t))) K) e n
+      quiet (subst (λ (q : List ℕ). Kept now t (seen now w a h) (o ++ q))
+      (sym (ap (λ (q : List ℕ). changeEffects h s t ++ q) y ∙ append-nil (changeEffects h s t))) K) e n
 
   -- a step that shows a reading
-  shows-it : (x : Reading) (t : Store) → Kept now t (map (endFor now w (answerFor x)) h) (o ++ (changeEffects h s t ++ endEffects h w (answerFor x))) → t .free ≡ s .free → After now s w h o (record { store = t; answer = answerFor x })
+  shows-it : (x : Reading) (t : Store) → Kept now t (map (endFor now w (answerFor x)) h) (o ++ (changeEffects h s t ++ endEffects h w (answerFor x)))
+      → t .free ≡ s .free → After now s w h o (record { store = t; answer = answerFor x })
   shows-it x t K e =
-      quiet (subst (λ (b : Bool). Kept now t (cond b (map (endFor now w (answerFor x)) h) h) (o ++ (changeEffects h s t ++ endEffects h w (answerFor x)))) (sym (answerFor-ends x)) K) e (answerFor-frees-not x)
+      quiet (subst (λ (b : Bool). Kept now t (cond b (map (endFor now w (answerFor x)) h) h)
+      (o ++ (changeEffects h s t ++ endEffects h w (answerFor x)))) (sym (answerFor-ends x)) K) e (answerFor-frees-not x)
 
 own-going : (h : List Call) (w : ℕ) → endEffects h w Going ≡ []
-unfolding endEffects finishes
+unfolding endEffects
 own-going h w = refl
 
 own-freed : (h : List Call) (w c : ℕ) → endEffects h w (Freed c) ≡ []
-unfolding endEffects finishes
+unfolding endEffects
 own-freed h w c = refl
 
 pub own-refused : (h : List Call) (w k : ℕ) → endEffects h w (No k) ≡ []
-unfolding endEffects finishes
+unfolding endEffects
 own-refused h w k = refl
 
 pub inv-skip : (now : ℕ) (s : Store) (olds : List (List ℕ)) (h : List Call) (o : List ℕ) (p : Plain) → Inv now s olds h o p → Kept now s h o
@@ -128,9 +135,10 @@ pub no-step : (now : ℕ) (s : Store) (olds : List (List ℕ)) (h : List Call) (
     → (w k : ℕ) → NoneRunning h w → Kept now s (map (endFor now w (No k)) h) o
 no-step now s olds h o p I w k f = subst (λ (q : List Call). Kept now s q o) (sym (ended-none now w (No k) h f)) (inv-skip now s olds h o p I)
 
-module _ (now : ℕ) (s : Store) (olds : List (List ℕ)) (h : List Call) (o : List ℕ) (p : Plain) (I : Inv now s olds h o p) (w : ℕ) (wb : w < s .site .P) where
+module _ (now : ℕ) (s : Store) (olds : List (List ℕ)) (h : List Call) (o : List ℕ) (p : Plain) (I : Inv now s olds h o p) (w : ℕ)
+    (wb : w < s .site .P) where
   put-after : (r : ℕ) (y : Reading) → workerAt s w .doing ≡ PutPublish r y → (l : List ℕ) → s .free ≡ l → After now s w h o (putPublish s w r y l)
-  unfolding putPublish ends stamp occurrences
+  unfolding putPublish stamp occurrences
   put-after r y e [] fr = plain s (place s w Idle) (No 14) refl refl (own-refused h w 14) (refuse-put now s olds h o p I w wb r y e) refl tt
   put-after r y e (f ∷ fs) fr =
       record {
@@ -180,22 +188,40 @@ module _ (now : ℕ) (s : Store) (olds : List (List ℕ)) (h : List Call) (o : L
   free-pick false r = refl
 
   hand-after : (r c : ℕ) → workerAt s w .doing ≡ PutHandIn r c → After now s w h o (putHandIn s w c)
-  unfolding putHandIn ends
+  unfolding putHandIn
   hand-after r c e = go (eqb (length (workerAt s w .pool ++ (rangeOf s c ∷ []))) (s .site .B))
     where
       go : (full : Bool) → After now s w h o
-          (record { store = withWorker s w (record { doing = cond full FlushTake Idle; announced = workerAt s w .announced; pool = workerAt s w .pool ++ (rangeOf s c ∷ []) }); answer = cond full Going Done })
-      go true = plain s (withWorker s w (record { doing = FlushTake; announced = workerAt s w .announced; pool = workerAt s w .pool ++ (rangeOf s c ∷ []) })) Going refl refl (own-going h w) (hand-full now s olds h o p I w wb r c e) refl tt
-      go false = ended s (withWorker s w (record { doing = Idle; announced = workerAt s w .announced; pool = workerAt s w .pool ++ (rangeOf s c ∷ []) })) Done refl refl (hand-done now s olds h o p I w wb r c e) refl tt
+          (record {
+            store = withWorker s w (record {
+              doing = cond full FlushTake Idle;
+              announced = workerAt s w .announced;
+              pool = workerAt s w .pool
+                  ++ (rangeOf s c ∷ []);
+            });
+            answer = cond full Going Done;
+          })
+      go true =
+          plain s (withWorker s w (record {
+            doing = FlushTake;
+            announced = workerAt s w .announced;
+            pool = workerAt s w .pool
+                ++ (rangeOf s c ∷ []);
+          })) Going refl refl (own-going h w) (hand-full now s olds h o p I w wb r c e) refl tt
+      go false =
+          ended s (withWorker s w (record { doing = Idle; announced = workerAt s w .announced; pool = workerAt s w .pool ++ (rangeOf s c ∷ []) }))
+          Done refl refl (hand-done now s olds h o p I w wb r c e) refl tt
 
   give-after : (m : List Range) → workerAt s w .doing ≡ FlushFree m → After now s w h o (flushFree s w m)
-  unfolding flushFree ends occurrences rangeOf
+  unfolding flushFree occurrences rangeOf
   give-after [] e = ended s (place s w Idle) Done refl refl (flush-done now s olds h o p I w wb e) refl tt
   give-after (ρ ∷ l) e =
       record {
         kept =
             none-more o _
-            (ap (λ (q : List ℕ). q ++ endEffects h w (Freed (ρ .slot))) (change-none h s (freed-store now s olds h o p I w wb ρ l e) refl (λ v r c z d. unlink-part (s .slots) (ρ .slot) (λ i. i .high) (λ i j. refl) (λ i j. refl) c))
+            (ap (λ (q : List ℕ). q ++ endEffects h w (Freed (ρ .slot)))
+            (change-none h s (freed-store now s olds h o p I w wb ρ l e) refl
+            (λ v r c z d. unlink-part (s .slots) (ρ .slot) (λ i. i .high) (λ i j. refl) (λ i j. refl) c))
             ∙ own-freed h w (ρ .slot))
             (unlink-kept now s olds h o p I w wb ρ l e);
         safe = λ c z v vb a b d.
@@ -205,35 +231,42 @@ module _ (now : ℕ) (s : Store) (olds : List (List ℕ)) (h : List Call) (o : L
             (subst (λ (k : ℕ). workerAt s v .announced < slotAt s k .high) i d);
         frees = λ c z.
             let i : ρ .slot ≡ c = cc in
-            subst (λ (k : ℕ). (occurrences k (s .free) ≡ 0) × (0 < occurrences k (ρ .slot ∷ s .free))) i
-            (omega (arith, I .once (ρ .slot), below≤1 (ρ .slot) (s .site .N), c-pend now s olds h o p I w wb ρ l e), omega (arith, hit-same (ρ .slot)));
+            subst (λ (k : ℕ). (occurrences k (s .free) ≡ 0) × (0 < occurrences k (ρ .slot ∷ s .free))) i (
+              omega (arith, I .once (ρ .slot), below≤1 (ρ .slot) (s .site .N), c-pend now s olds h o p I w wb ρ l e),
+              omega (arith, hit-same (ρ .slot)),
+            );
         stays = λ c z. inl (omega (arith, z));
       }
 
   pub step-after : (d : Doing) → workerAt s w .doing ≡ d → After now s w h o (stepAt s w d)
-  unfolding stepAt ends putStamp flushTake flushRead flushSplit openAnnounce openPass readEnter readStand getShow closeWithdraw stamp
-  step-after Idle e = plain s s (No 11) refl refl (own-refused h w 11) (no-step now s olds h o p I w 11 (cur-is now s olds h o p I w wb Idle e)) refl tt
+  unfolding stepAt timeStep putStamp flushTake flushRead flushSplit openAnnounce openPass readEnter readStand getShow closeWithdraw stamp
+  step-after Idle e =
+      plain s s (No 11) refl refl (own-refused h w 11) (no-step now s olds h o p I w 11 (cur-is now s olds h o p I w wb Idle e)) refl tt
   step-after (PutPublish r y) e = put-after r y e (s .free) refl
-  step-after (PutStamp r c) e = spreads s _ Going (own-going h w) (cover-kept now s olds h o p I w wb r c e) (free-pick (eqb (slotAt s c .high) absent) r) tt
+  step-after (PutStamp r c) e =
+      spreads s _ Going (own-going h w) (cover-kept now s olds h o p I w wb r c e) (free-pick (eqb (slotAt s c .high) absent) r) tt
   step-after (PutHandIn r c) e = hand-after r c e
   step-after FlushTake e = plain s _ Going refl refl (own-going h w) (take-kept now s olds h o p I w wb e) refl tt
   step-after (FlushRead m ts) e =
       cond-both (After now s w h o) (ltb (length ts) (holders s)) _ _
       (λ u. plain s _ Going refl refl (own-going h w) (ask-kept now s olds h o p I w wb m ts e (Tests.ltb-true (length ts) (holders s) u)) refl tt)
-      (λ u. plain s _ Going refl refl (own-going h w) (split-kept now s olds h o p I w wb m ts e (s .site .B) (Tests.ltb-false (length ts) (holders s) u)) refl tt)
+      (λ u. plain s _ Going refl refl (own-going h w) (split-kept now s olds h o p I w wb m ts e (s .site .B)
+      (Tests.ltb-false (length ts) (holders s) u)) refl tt)
   step-after (FlushFree m) e = give-after m e
-  step-after OpenAnnounce e =
+  step-after (OnTime OpenAnnounce) e =
       cond-both (After now s w h o) (eqb (s .clock) 4294967295) _ _
       (λ u. plain s _ (No 15) refl refl (own-refused h w 15) (refuse-open now s olds h o p I w wb e) refl tt)
       (λ u. plain s _ Going refl refl (own-going h w) (announce-kept now s olds h o p I w wb e (Tests.eqb-false (s .clock) 4294967295 u)) refl tt)
-  step-after OpenPass e = quiet (pass-kept now s olds h o p I w wb e) refl tt
-  step-after (ReadEnter r) e = spreads s _ Going (own-going h w) (enter-kept now s olds h o p I w wb r e) refl tt
-  step-after (ReadStand r c) e =
+  step-after (OnTime OpenPass) e = quiet (pass-kept now s olds h o p I w wb e) refl tt
+  step-after (ReadEnter g) e = spreads s _ Going (own-going h w) (enter-kept now s olds h o p I w wb g e) refl tt
+  step-after (ReadStand g c) e =
       cond-both (After now s w h o) (leb (slotAt s c .low) (workerAt s w .announced)) _ _
       (λ u. shows-it s (slotAt s c .value) (place s w Idle)
-      (subst (λ (q : List ℕ). Kept now (place s w Idle) (map (endFor now w (answerFor (slotAt s c .value))) h) (o ++ (q ++ endEffects h w (answerFor (slotAt s c .value))))) (sym (change-still h s (place s w Idle) refl refl))
-      (found-kept now s olds h o p I w wb r c e (Tests.leb-true (slotAt s c .low) (workerAt s w .announced) u)))
+      (subst (λ (q : List ℕ). Kept now (place s w Idle) (map (endFor now w (answerFor (slotAt s c .value))) h)
+      (o ++ (q ++ endEffects h w (answerFor (slotAt s c .value))))) (sym (change-still h s (place s w Idle) refl refl))
+      (found-kept now s olds h o p I w wb g c e (Tests.leb-true (slotAt s c .low) (workerAt s w .announced) u)))
       refl)
-      (λ u. plain s _ Going refl refl (own-going h w) (on-kept now s olds h o p I w wb r c e (Tests.leb-false (slotAt s c .low) (workerAt s w .announced) u)) refl tt)
-  step-after CloseWithdraw e = ended s _ Done refl refl (withdraw-kept now s olds h o p I w wb e) refl tt
+      (λ u. plain s _ Going refl refl (own-going h w) (on-kept now s olds h o p I w wb g c e
+      (Tests.leb-false (slotAt s c .low) (workerAt s w .announced) u)) refl tt)
+  step-after (OnTime CloseWithdraw) e = ended s _ Done refl refl (withdraw-kept now s olds h o p I w wb e) refl tt
   step-after (GetShow r) e = shows-it s (slotAt s (newestOf s r) .value) (place (stamp s r) w Idle) (show-kept now s olds h o p I w wb r e) refl

@@ -1,6 +1,6 @@
 -- Open (2): the clock passes a time, and every open that announced that time takes effect.
 use mathlib.Core.Path.{_≡_, refl, sym, ap, _∙_, subst}
-use mathlib.Core.Bool.{Bool, true, false, true≢false, cond}
+use mathlib.Core.Bool.{Bool, true, false, cond}
 use mathlib.Core.Logic.{_≢_, _⊎_, inl, inr, ⊎-elim}
 use mathlib.Core.List.{List, [], _∷_, _++_, map, append-nil, append-assoc}
 use mathlib.Core.Option.{some}
@@ -9,68 +9,44 @@ use native.Mathlib.Omega.{arith}
 use lib.Dec.{ltb, eqb}
 use lib.ListN.{getD}
 use borrow.Author.Tests as Tests
-use Rattle.model.specs.Store.{absent, Reading, Slot, Range, Doing, Idle, PutPublish, PutStamp, PutHandIn, FlushTake, FlushRead, FlushFree, OpenAnnounce, OpenPass, ReadEnter, ReadStand, CloseWithdraw, GetShow, Store, workerAt, slotAt, withClock, place}
+use Rattle.model.specs.Store.{absent, Reading, Slot, Range, OpenAnnounce, OpenPass, CloseWithdraw, Doing, Idle, PutPublish, PutStamp, PutHandIn, FlushTake, FlushRead, FlushFree, OnTime, ReadEnter, ReadStand, GetShow, Store, workerAt, slotAt, withClock, place}
+use Rattle.model.specs.About.{Effect, NoEffect, ByStamp, ByClock, about}
 use Rattle.model.specs.Answer.{At}
 use Rattle.model.specs.Record.{Operation, Open}
-use Rattle.model.specs.Demand.{FinishedAt, Call, endAs, endFor, Plain, feed, runningOf, stampedOver, passed, takesEffect, filterBelow, changeEffects, atEnd, endEffects, occurrences, Agrees, callAt}
+use Rattle.model.specs.Demand.{FinishedAt, Call, endFor, Plain, feed, runningOf, stampedOver, passed, comes, filterBelow, changeEffects, atEnd, endEffects, occurrences, Agrees, callAt}
 use Rattle.model.proofs.Basic.{hit-same, hit-other, eq-cases, lt-cases, le-cases, All-map, occurrences-snoc, map-app}
 use Rattle.model.proofs.Effect.{running-is, own-not, takes, never, change-none}
 use Rattle.model.proofs.Linear.{Lin, lin-effect}
 use Rattle.model.proofs.Slots.{nth}
 use Rattle.model.proofs.Chain.{Sees, Fine, Fine-sees, Past, Next}
-use Rattle.model.proofs.Invariant.{Ctx, ctx, top, old, chain, Good, Snap, PlaceHolds, Running, Fits, Current, Works, Inv}
-use Rattle.model.proofs.Transport.{Moves, doing-map, current-map}
+use Rattle.model.proofs.View.{ByClockOf, clock-is}
+use Rattle.model.proofs.Invariant.{Ctx, ctx, top, old, chain, Good, Settled, Snap, PlaceHolds, Running, Fits, Current, Works, Inv}
+use Rattle.model.proofs.Transport.{Moves, doing-map, fits-on, current-map}
 use Rattle.model.proofs.Stamp.{put-at-other}
 use Rattle.model.proofs.History.{hist-end, end-shut}
 use Rattle.model.proofs.Places.{Kept, none-more, place-inv, doing-is, cur-is, calm}
 
-isPassing : Doing → Bool
-isPassing Idle = false
-isPassing (PutPublish r y) = false
-isPassing (PutStamp r c) = false
-isPassing (PutHandIn r c) = false
-isPassing FlushTake = false
-isPassing (FlushRead m ts) = false
-isPassing (FlushFree m) = false
-isPassing OpenAnnounce = false
-isPassing OpenPass = true
-isPassing (ReadEnter r) = false
-isPassing (ReadStand r c) = false
-isPassing CloseWithdraw = false
-isPassing (GetShow r) = false
-
-passes : (d : Doing) → isPassing d ≡ true → d ≡ OpenPass
-unfolding isPassing
-passes Idle e = absurd (true≢false (sym e))
-passes (PutPublish r y) e = absurd (true≢false (sym e))
-passes (PutStamp r c) e = absurd (true≢false (sym e))
-passes (PutHandIn r c) e = absurd (true≢false (sym e))
-passes FlushTake e = absurd (true≢false (sym e))
-passes (FlushRead m ts) e = absurd (true≢false (sym e))
-passes (FlushFree m) e = absurd (true≢false (sym e))
-passes OpenAnnounce e = absurd (true≢false (sym e))
-passes OpenPass e = refl
-passes (ReadEnter r) e = absurd (true≢false (sym e))
-passes (ReadStand r c) e = absurd (true≢false (sym e))
-passes CloseWithdraw e = absurd (true≢false (sym e))
-passes (GetShow r) e = absurd (true≢false (sym e))
-
 -- only an open that has announced stands at the clock's time
-at-clock : (x : Ctx) (p : Plain) (w t : ℕ) (d : Doing) → x .clock < absent → t ≡ x .clock → PlaceHolds x p w t d → isPassing d ≡ true
-unfolding isPassing
-at-clock x p w t Idle b e a = absurd (⊎-elim (λ u. omega (arith, b, e, u)) (λ u. omega (arith, e, u)) a)
-at-clock x p w t (PutPublish r y) b e a = absurd (⊎-elim (λ u. omega (arith, b, e, u)) (λ u. omega (arith, e, u)) (a .1))
-at-clock x p w t (PutStamp r c) b e a = absurd (⊎-elim (λ u. omega (arith, b, e, u)) (λ u. omega (arith, e, u)) (a .1))
-at-clock x p w t (PutHandIn r c) b e a = absurd (⊎-elim (λ u. omega (arith, b, e, u)) (λ u. omega (arith, e, u)) (a .1))
-at-clock x p w t FlushTake b e a = absurd (⊎-elim (λ u. omega (arith, b, e, u)) (λ u. omega (arith, e, u)) a)
-at-clock x p w t (FlushRead m ts) b e a = absurd (⊎-elim (λ u. omega (arith, b, e, u)) (λ u. omega (arith, e, u)) (a .0))
-at-clock x p w t (FlushFree m) b e a = absurd (⊎-elim (λ u. omega (arith, b, e, u)) (λ u. omega (arith, e, u)) (a .0))
-at-clock x p w t OpenAnnounce b e a = absurd (omega (arith, b, e, a))
-at-clock x p w t OpenPass b e a = refl
-at-clock x p w t (ReadEnter r) b e a = absurd (omega (arith, e, a .1))
-at-clock x p w t (ReadStand r c) b e a = absurd (omega (arith, e, a .1))
-at-clock x p w t CloseWithdraw b e a = absurd (omega (arith, e, a))
-at-clock x p w t (GetShow r) b e a = absurd (⊎-elim (λ u. omega (arith, b, e, u)) (λ u. omega (arith, e, u)) (a .1))
+at-clock : (x : Ctx) (p : Plain) (w t : ℕ) (d : Doing) → x .clock < absent → t ≡ x .clock → PlaceHolds x p w t d → d ≡ OnTime OpenPass
+at-clock x p w t d b e = go d
+  where
+    not-settled : {d : Doing} → Settled x t → d ≡ OnTime OpenPass
+    not-settled a = absurd (⊎-elim (λ u. omega (arith, b, e, u)) (λ u. omega (arith, e, u)) a)
+
+    go : (d : Doing) → PlaceHolds x p w t d → d ≡ OnTime OpenPass
+    go Idle a = not-settled a
+    go (PutPublish r y) a = not-settled (a .1)
+    go (PutStamp r c) a = not-settled (a .1)
+    go (PutHandIn r c) a = not-settled (a .1)
+    go FlushTake a = not-settled a
+    go (FlushRead m ts) a = not-settled (a .0)
+    go (FlushFree m) a = not-settled (a .0)
+    go (OnTime OpenAnnounce) a = absurd (omega (arith, b, e, a))
+    go (OnTime OpenPass) a = refl
+    go (OnTime CloseWithdraw) a = absurd (omega (arith, e, a))
+    go (ReadEnter g) a = absurd (omega (arith, e, a .1))
+    go (ReadStand g c) a = absurd (omega (arith, e, a .1))
+    go (GetShow r) a = not-settled (a .1)
 
 Fine-tick : (s : List Slot) (t : ℕ) (x x′ : Reading) (l : List ℕ) → x′ ≡ x → Fine s t x l → Fine s (t + 1) x′ l
 Fine-tick s t x x′ [] e f = f
@@ -84,27 +60,18 @@ Fine-tick s t x x′ (c ∷ l) e f =
     next [] z = z
     next (d ∷ m) z = (omega (arith, z .0), z .1, z .2 ∙ sym e, All-map past m (z .3))
 
-fits-tick : (x x′ : Ctx) → x .clock ≤ x′ .clock → x′ .slots ≡ x .slots → x′ .newest ≡ x .newest → (t : ℕ) (c : Operation) (n n′ : ℕ) → n′ ≡ n → (d : Doing) → (d ≡ OpenPass → t ≢ x .clock) → Fits x t c d n → Fits x′ t c d n′
-fits-tick x x′ k es en t c n n′ q Idle v a = a
-fits-tick x x′ k es en t c n n′ q (PutPublish r y) v a = (a .0, q ∙ a .1)
-fits-tick x x′ k es en t c n n′ q (PutStamp r e) v a = (
-  a .0,
-  a .1,
-  ⊎-elim
-      (λ z. inl (ap (λ (l : List Slot). nth l e .high) es ∙ z .0, q ∙ z .1, ap (λ (l : List Slot). nth l (top x′ r) .value) es ∙ ap (λ (l : List ℕ). nth (x .slots) (getD l r absent) .value) en ∙ z .2))
-      (λ z. inr (omega (arith, k, z .0, ap (λ (l : List Slot). nth l e .high) es), q ∙ z .1))
-      (a .2),
-)
-fits-tick x x′ k es en t c n n′ q (PutHandIn r e) v a = (a .0, q ∙ a .1)
-fits-tick x x′ k es en t c n n′ q FlushTake v a = ⊎-elim (λ z. inl (z .0, q ∙ z .1)) (λ z. inr (z .0, q ∙ z .1)) a
-fits-tick x x′ k es en t c n n′ q (FlushRead m ts) v a = ⊎-elim (λ z. inl (z .0, q ∙ z .1)) (λ z. inr (z .0, q ∙ z .1)) a
-fits-tick x x′ k es en t c n n′ q (FlushFree m) v a = ⊎-elim (λ z. inl (z .0, q ∙ z .1)) (λ z. inr (z .0, q ∙ z .1)) a
-fits-tick x x′ k es en t c n n′ q OpenAnnounce v a = (a .0, q ∙ a .1)
-fits-tick x x′ k es en t c n n′ q OpenPass v a = (a .0, ⊎-elim (λ z. absurd (v refl (z .0))) (λ z. inr (omega (arith, k, z .0), q ∙ z .1)) (a .1))
-fits-tick x x′ k es en t c n n′ q (ReadEnter r) v a = (a .0, q ∙ a .1)
-fits-tick x x′ k es en t c n n′ q (ReadStand r e) v a = (a .0, q ∙ a .1)
-fits-tick x x′ k es en t c n n′ q CloseWithdraw v a = (a .0, q ∙ a .1)
-fits-tick x x′ k es en t c n n′ q (GetShow r) v a = (a .0, q ∙ a .1)
+fits-tick : (x x′ : Ctx) → x .clock ≤ x′ .clock → x′ .slots ≡ x .slots → x′ .newest ≡ x .newest → (t : ℕ) (c : Operation) (n n′ : ℕ) → n′ ≡ n
+    → (d : Doing) → (d ≡ OnTime OpenPass → t ≢ x .clock) → Fits x t c d n → Fits x′ t c d n′
+fits-tick x x′ k es en t c n n′ q d v =
+    fits-on x x′ t c n n′ q d
+    (λ r e z. (
+      (λ u. (high e ∙ u, ap (λ (l : List Slot). nth l (top x′ r) .value) es ∙ ap (λ (l : List ℕ). nth (x .slots) (getD l r absent) .value) en)),
+      (λ u. omega (arith, k, u, high e)),
+    ))
+    (λ e. ((λ z. absurd (v e z)), (λ z. omega (arith, k, z))))
+  where
+    high : (e : ℕ) → nth (x′ .slots) e .high ≡ nth (x .slots) e .high
+    high e = ap (λ (l : List Slot). nth l e .high) es
 
 module _ (now : ℕ) (s : Store) (olds : List (List ℕ)) (h : List Call) (o : List ℕ) (p : Plain) (I : Inv now s olds h o p) where
   abbrev x : Ctx
@@ -112,45 +79,44 @@ module _ (now : ℕ) (s : Store) (olds : List (List ℕ)) (h : List Call) (o : L
 
   -- the open of worker v takes effect as the clock ticks
   abbrev Ready : ℕ → Type 0
-  Ready v = (workerAt s v .doing ≡ OpenPass) × (workerAt s v .announced ≡ s .clock)
+  Ready v = (workerAt s v .doing ≡ OnTime OpenPass) × (workerAt s v .announced ≡ s .clock)
 
   ready : (v : ℕ) → Ready v ⊎ (Ready v → ⊥)
-  unfolding isPassing
-  ready v = go (isPassing (workerAt s v .doing)) refl
+  ready v = go (about (workerAt s v .doing) .effect) refl
     where
-      go : (t : Bool) → isPassing (workerAt s v .doing) ≡ t → Ready v ⊎ (Ready v → ⊥)
-      go true e = ⊎-elim (λ u. inl (passes (workerAt s v .doing) e, u .0)) (λ u. inr (λ z. u .0 (z .1))) (eq-cases (workerAt s v .announced) (s .clock))
-      go false e = inr (λ z. true≢false (sym (ap isPassing (z .0)) ∙ e))
+      not-open : (y : Effect) → about (workerAt s v .doing) .effect ≡ y → Ready v → ByClockOf y
+      not-open y e z = subst ByClockOf (sym (ap (λ d. about d .effect) (z .0)) ∙ e) tt
+
+      go : (y : Effect) → about (workerAt s v .doing) .effect ≡ y → Ready v ⊎ (Ready v → ⊥)
+      go NoEffect e = inr (not-open NoEffect e)
+      go (ByStamp c) e = inr (not-open (ByStamp c) e)
+      go ByClock e =
+          ⊎-elim (λ u. inl (clock-is (workerAt s v .doing) e, u .0)) (λ u. inr (λ z. u .0 (z .1))) (eq-cases (workerAt s v .announced) (s .clock))
 
   abbrev s⁺ : Store
   s⁺ = withClock s (s .clock + 1)
 
   takes-ready : (v : ℕ) → Ready v → takes s s⁺ v ≡ true
-  unfolding takesEffect
   takes-ready v g = rw (g .0, g .1, Tests.le-leb (s .clock) (s .clock) (omega arith), Tests.lt-ltb (s .clock) (s .clock + 1) (omega arith))
 
   takes-not : (v : ℕ) → (Ready v → ⊥) → takes s s⁺ v ≡ false
-  unfolding takesEffect
-  takes-not v n = go (workerAt s v .doing) refl
+  takes-not v n = go (about (workerAt s v .doing) .effect) refl
     where
-      go : (d : Doing) → workerAt s v .doing ≡ d → takesEffect (stampedOver s s⁺) (passed s s⁺) (workerAt s v .announced) d ≡ false
-      go Idle e = refl
-      go (PutPublish r y) e = refl
-      go (PutStamp r c) e = never (eqb (slotAt s c .high) absent)
-      go (PutHandIn r c) e = refl
-      go FlushTake e = refl
-      go (FlushRead m ts) e = refl
-      go (FlushFree m) e = refl
-      go OpenAnnounce e = refl
-      go OpenPass e =
+      a : ℕ
+      a = workerAt s v .announced
+
+      go : (y : Effect) → about (workerAt s v .doing) .effect ≡ y → comes (stampedOver s s⁺) (passed s s⁺) a y ≡ false
+      go NoEffect e = refl
+      go (ByStamp c) e = never (eqb (slotAt s c .high) absent)
+      go ByClock e =
           ⊎-elim
-          (λ u. rw (u .1, Tests.le-ltb (workerAt s v .announced) (s .clock + 1) (⊎-elim (λ y. absurd (n (e, y .0))) (λ y. omega (arith, y .0, u .0)) (eq-cases (workerAt s v .announced) (s .clock)))))
+          (λ u. rw (
+            u .1,
+            Tests.le-ltb a (s .clock + 1) (⊎-elim (λ y. absurd (n (clock-is _ e, y .0))) (λ y. omega (arith, y .0, u .0))
+                (eq-cases a (s .clock))),
+          ))
           (λ u. rw (u .1))
-          (le-cases (s .clock) (workerAt s v .announced))
-      go (ReadEnter r) e = refl
-      go (ReadStand r c) e = refl
-      go CloseWithdraw e = refl
-      go (GetShow r) e = refl
+          (le-cases (s .clock) a)
 
   -- the first m workers' opens have taken effect
   record Ticked (m : ℕ) : Type 0 where
@@ -159,8 +125,10 @@ module _ (now : ℕ) (s : Store) (olds : List (List ℕ)) (h : List Call) (o : L
     pub p′ : Plain
     pub linear : Lin now h o′ p′
     pub registers : (r : ℕ) → p′ .registers r ≡ p .registers r
-    pub did : (v : ℕ) → v < s .site .P → v < m → Ready v → ((f : ℕ → Reading) × (p′ .copy v ≡ some f) × ((r : ℕ) → f r ≡ p .registers r)) × ((k : ℕ) → Running h v k → occurrences k o′ ≡ 1)
-    pub same : (v : ℕ) → v < s .site .P → (m ≤ v) ⊎ (Ready v → ⊥) → (p′ .copy v ≡ p .copy v) × ((k : ℕ) → Running h v k → occurrences k o′ ≡ occurrences k o)
+    pub did : (v : ℕ) → v < s .site .P → v < m → Ready v
+        → ((f : ℕ → Reading) × (p′ .copy v ≡ some f) × ((r : ℕ) → f r ≡ p .registers r)) × ((k : ℕ) → Running h v k → occurrences k o′ ≡ 1)
+    pub same : (v : ℕ) → v < s .site .P → (m ≤ v) ⊎ (Ready v → ⊥)
+        → (p′ .copy v ≡ p .copy v) × ((k : ℕ) → Running h v k → occurrences k o′ ≡ occurrences k o)
 
   ticked : (m : ℕ) → m ≤ s .site .P → Ticked m
   unfolding filterBelow
@@ -180,11 +148,15 @@ module _ (now : ℕ) (s : Store) (olds : List (List ℕ)) (h : List Call) (o : L
       pass T n =
           record {
             o′ = T .o′;
-            grown = T .grown ∙ ap (λ (q : List ℕ). o ++ map (runningOf h) q) (sym (ap (λ (t : Bool). filterBelow (takes s s⁺) m ++ cond t (m ∷ []) []) (takes-not m n) ∙ append-nil (filterBelow (takes s s⁺) m)));
+            grown =
+                T .grown ∙ ap (λ (q : List ℕ). o ++ map (runningOf h) q)
+                (sym (ap (λ (t : Bool). filterBelow (takes s s⁺) m ++ cond t (m ∷ []) []) (takes-not m n) ∙ append-nil (filterBelow (takes s s⁺) m)));
             p′ = T .p′;
             linear = T .linear;
             registers = T .registers;
-            did = λ v vb z g. T .did v vb (⊎-elim (λ u. u .0) (λ u. absurd (n (subst Ready (let i : v ≡ m = omega (arith, z, u .0) in i) g))) (lt-cases v m)) g;
+            did =
+                λ v vb z g. T .did v vb (⊎-elim (λ u. u .0) (λ u. absurd (n (subst Ready (let i : v ≡ m = omega (arith, z, u .0) in i) g)))
+                (lt-cases v m)) g;
             same = λ v vb z. T .same v vb (⊎-elim (λ u. inl (omega (arith, u))) inr z);
           }
 
@@ -199,13 +171,17 @@ module _ (now : ℕ) (s : Store) (olds : List (List ℕ)) (h : List Call) (o : L
                 ∙ ap (λ (q : List ℕ). o ++ q) (sym (map-app (runningOf h) (filterBelow (takes s s⁺) m) (m ∷ [])))
                 ∙ ap (λ (t : Bool). o ++ map (runningOf h) (filterBelow (takes s s⁺) m ++ cond t (m ∷ []) [])) (sym (takes-ready m g));
             p′ = p⁺;
-            linear = subst (λ (q : Plain). Lin now h o⁺ q) (ap (λ (i : ℕ). feed (T .p′) i (callAt h k .operation)) (K .own) ∙ ap (feed (T .p′) m) (F .0)) (lin-effect (T .linear) k (K .within) (K .unfinished) k-not);
+            linear =
+                subst (λ (q : Plain). Lin now h o⁺ q) (ap (λ (i : ℕ). feed (T .p′) i (callAt h k .operation)) (K .own) ∙ ap (feed (T .p′) m) (F .0))
+                (lin-effect (T .linear) k (K .within) (K .unfinished) k-not);
             registers = λ r. regs⁺ (T .p′) r ∙ T .registers r;
             did = λ v vb z y.
                 ⊎-elim
-                (λ u. subst (λ (i : ℕ). ((f : ℕ → Reading) × (p⁺ .copy i ≡ some f) × ((r : ℕ) → f r ≡ p .registers r)) × ((j : ℕ) → Running h i j → occurrences j o⁺ ≡ 1)) (sym (u .0)) (
+                (λ u. subst (λ (i : ℕ). ((f : ℕ → Reading) × (p⁺ .copy i ≡ some f) × ((r : ℕ) → f r ≡ p .registers r))
+                × ((j : ℕ) → Running h i j → occurrences j o⁺ ≡ 1)) (sym (u .0)) (
                   (T .p′ .registers, own⁺ (T .p′), T .registers),
-                  (λ j J. let i : j ≡ k = K .only j (J .within) (J .own) (J .unfinished) in subst (λ (q : ℕ). occurrences q o⁺ ≡ 1) (sym i) (omega (arith, k-not, occurrences-snoc k (T .o′) k, hit-same k))),
+                  (λ j J. let i : j ≡ k = K .only j (J .within) (J .own) (J .unfinished) in subst (λ (q : ℕ). occurrences q o⁺ ≡ 1) (sym i)
+                      (omega (arith, k-not, occurrences-snoc k (T .o′) k, hit-same k))),
                 ))
                 (λ u.
                 let a = T .did v vb (omega (arith, z, u .0)) y in (
@@ -219,7 +195,7 @@ module _ (now : ℕ) (s : Store) (olds : List (List ℕ)) (h : List Call) (o : L
                 (other⁺ (T .p′) v n ∙ a .0, λ j J. omega (arith, a .1 j J, occurrences-snoc j (T .o′) k, hit-other k j (far v n j J)));
           }
         where
-          C : Current x h o m (workerAt s m .announced) OpenPass
+          C : Current x h o m (workerAt s m .announced) (OnTime OpenPass)
           C = subst (Current x h o m (workerAt s m .announced)) (g .0) (I .workers m (omega arith) .current)
 
           k : ℕ
@@ -228,7 +204,7 @@ module _ (now : ℕ) (s : Store) (olds : List (List ℕ)) (h : List Call) (o : L
           K : Running h m k
           K = C .1
 
-          F : Fits x (workerAt s m .announced) (callAt h k .operation) OpenPass (occurrences k o)
+          F : Fits x (workerAt s m .announced) (callAt h k .operation) (OnTime OpenPass) (occurrences k o)
           F = C .2
 
           k-not : occurrences k (T .o′) ≡ 0
@@ -253,7 +229,8 @@ module _ (now : ℕ) (s : Store) (olds : List (List ℕ)) (h : List Call) (o : L
           far v n j J i = n (sym (J .own) ∙ ap (λ (q : ℕ). callAt h q .worker) (sym i) ∙ K .own)
 
   -- the clock passes its time
-  tick-inv : s .clock < 4294967295 → (o′ : List ℕ) × (p′ : Plain) × Inv now (withClock s (s .clock + 1)) olds h o′ p′ × (o′ ≡ o ++ changeEffects h s (withClock s (s .clock + 1)))
+  tick-inv : s .clock < 4294967295 → (o′ : List ℕ) × (p′ : Plain) × Inv now (withClock s (s .clock + 1)) olds h o′ p′
+      × (o′ ≡ o ++ changeEffects h s (withClock s (s .clock + 1)))
   tick-inv b = (
     T .o′,
     T .p′,
@@ -293,7 +270,9 @@ module _ (now : ℕ) (s : Store) (olds : List (List ℕ)) (h : List Call) (o : L
             pool = All-map good (workerAt s v .pool) (Z .pool);
             announced = ⊎-elim inl (λ u. inr (omega (arith, u .0), u .1)) (Z .announced);
             snapshot = λ z. ⊎-elim (old z) (new z) (lt-cases t (s .clock));
-            doing = ⊎-elim (λ g. subst (PlaceHolds x′ (T .p′) v t) (sym (g .0)) (omega (arith, g .1), subst (PlaceHolds x p v t) (g .0) (Z .doing) .1)) (λ n. doing-map x x′ p (T .p′) v t (T .same v vb (inr n) .0) (workerAt s v .doing) moves (Z .doing)) (ready v);
+            doing =
+                ⊎-elim (λ g. subst (PlaceHolds x′ (T .p′) v t) (sym (g .0)) (omega (arith, g .1), subst (PlaceHolds x p v t) (g .0) (Z .doing) .1))
+                (λ n. doing-map x x′ p (T .p′) v t (T .same v vb (inr n) .0) (workerAt s v .doing) moves (Z .doing)) (ready v);
             current = ⊎-elim effect rest (ready v);
           }
         where
@@ -309,11 +288,13 @@ module _ (now : ℕ) (s : Store) (olds : List (List ℕ)) (h : List Call) (o : L
           new : t < s .clock + 1 → (s .clock ≤ t) × (ltb t (s .clock) ≡ false) → Snap x′ (T .p′) v t
           new z u =
               let i : t ≡ s .clock = omega (arith, z, u .0) in
-              let g : Ready v = (passes (workerAt s v .doing) (at-clock x p v t (workerAt s v .doing) (I .clockFits) i (Z .doing)), i) in
+              let g : Ready v = (at-clock x p v t (workerAt s v .doing) (I .clockFits) i (Z .doing), i) in
               let a = T .did v vb vb g in (
                 a .0 .0,
                 a .0 .1,
-                λ r d. subst (λ (q : ℕ). Sees (s .slots) q (a .0 .0 r) (chain x r)) (sym i) (subst (λ (q : Reading). Sees (s .slots) (s .clock) q (chain x r)) (sym (a .0 .2 r)) (Fine-sees (s .slots) (s .clock) (p .registers r) (chain x r) (I .clockFits) (I .stamps r d))),
+                λ r d. subst (λ (q : ℕ). Sees (s .slots) q (a .0 .0 r) (chain x r)) (sym i)
+                    (subst (λ (q : Reading). Sees (s .slots) (s .clock) q (chain x r)) (sym (a .0 .2 r))
+                    (Fine-sees (s .slots) (s .clock) (p .registers r) (chain x r) (I .clockFits) (I .stamps r d))),
               )
 
           moves : Moves x x′ t (workerAt s v .doing)
@@ -331,43 +312,58 @@ module _ (now : ℕ) (s : Store) (olds : List (List ℕ)) (h : List Call) (o : L
 
           effect : Ready v → Current x′ h (T .o′) v t (workerAt s v .doing)
           effect g =
-              let C : Current x h o v t OpenPass = subst (Current x h o v t) (g .0) (Z .current) in
+              let C : Current x h o v t (OnTime OpenPass) = subst (Current x h o v t) (g .0) (Z .current) in
               subst (Current x′ h (T .o′) v t) (sym (g .0)) (C .0, C .1, (C .2 .0, inr (omega (arith, g .1), T .did v vb vb g .1 (C .0) (C .1))))
 
           rest : (Ready v → ⊥) → Current x′ h (T .o′) v t (workerAt s v .doing)
           rest n =
               current-map x x′ h h o (T .o′) v t t (workerAt s v .doing) (λ z. z)
-              (λ k K f. (K, fits-tick x x′ (omega arith) refl refl t (callAt h k .operation) (occurrences k o) (occurrences k (T .o′)) (T .same v vb (inr n) .1 k K) (workerAt s v .doing) (λ e i. n (e, i)) f))
+              (λ k K f. (
+                K,
+                fits-tick x x′ (omega arith) refl refl t (callAt h k .operation) (occurrences k o) (occurrences k (T .o′))
+                    (T .same v vb (inr n) .1 k K) (workerAt s v .doing) (λ e i. n (e, i)) f,
+              ))
               (Z .current)
 
 -- the open's second step, with the clock past its time
 done-kept : (now : ℕ) (s : Store) (olds : List (List ℕ)) (h : List Call) (o : List ℕ) (p : Plain) → Inv now s olds h o p → (w : ℕ) → w < s .site .P
-    → workerAt s w .doing ≡ OpenPass → workerAt s w .announced < s .clock → Kept now (place s w Idle) (map (endFor now w (At (workerAt s w .announced))) h) (o ++ endEffects h w (At (workerAt s w .announced)))
-unfolding endAs atEnd
+    → workerAt s w .doing ≡ OnTime OpenPass → workerAt s w .announced < s .clock
+    → Kept now (place s w Idle) (map (endFor now w (At (workerAt s w .announced))) h) (o ++ endEffects h w (At (workerAt s w .announced)))
+unfolding atEnd
 done-kept now s olds h o p I w wb e b =
-    let a = cur-is now s olds h o p I w wb OpenPass e in
+    let a = cur-is now s olds h o p I w wb (OnTime OpenPass) e in
     none-more o (endEffects h w (At (workerAt s w .announced))) (own-not (a .1) (At (workerAt s w .announced)) (ap atEnd (a .2 .0)))
-    (place-inv now s olds h o p I w wb OpenPass Idle e (λ c. refl) (calm now s olds h o p I w wb OpenPass tt e) _ o p
+    (place-inv now s olds h o p I w wb (OnTime OpenPass) Idle e (λ c. refl) (calm now s olds h o p I w wb (OnTime OpenPass) tt e) _ o p
     (hist-end now w h o p (I .linear) (At (workerAt s w .announced)) (a .0) (a .1)
     (⊎-elim (λ u. absurd (omega (arith, u .0, b))) (λ u. u .1) (a .2 .1))
     (λ q. subst (λ (c : Operation). Agrees c (FinishedAt now (At (workerAt s w .announced))) q) (sym (a .2 .0)) tt))
     refl (inr b) (end-shut now w h o p (I .linear) (At (workerAt s w .announced)) (a .0) (a .1)))
 
-pub pass-kept : (now : ℕ) (s : Store) (olds : List (List ℕ)) (h : List Call) (o : List ℕ) (p : Plain) → Inv now s olds h o p → (w : ℕ) → w < s .site .P
-    → workerAt s w .doing ≡ OpenPass
-    → Kept now (place (withClock s (cond (eqb (s .clock) (workerAt s w .announced)) (s .clock + 1) (s .clock))) w Idle) (map (endFor now w (At (workerAt s w .announced))) h)
-    (o ++ (changeEffects h s (withClock s (cond (eqb (s .clock) (workerAt s w .announced)) (s .clock + 1) (s .clock))) ++ endEffects h w (At (workerAt s w .announced))))
+pub pass-kept : (now : ℕ) (s : Store) (olds : List (List ℕ)) (h : List Call) (o : List ℕ) (p : Plain) → Inv now s olds h o p → (w : ℕ)
+    → w < s .site .P
+    → workerAt s w .doing ≡ OnTime OpenPass
+    → Kept now (place (withClock s (cond (eqb (s .clock) (workerAt s w .announced)) (s .clock + 1) (s .clock))) w Idle)
+    (map (endFor now w (At (workerAt s w .announced))) h)
+    (o ++ (changeEffects h s (withClock s (cond (eqb (s .clock) (workerAt s w .announced)) (s .clock + 1) (s .clock)))
+    ++ endEffects h w (At (workerAt s w .announced))))
 pass-kept now s olds h o p I w wb e =
-    let d = doing-is now s olds h o p I w wb OpenPass e in
+    let d = doing-is now s olds h o p I w wb (OnTime OpenPass) e in
     ⊎-elim
     (λ u.
     let T = tick-inv now s olds h o p I (omega (arith, u .0, d .1)) in
-    subst (λ (t : Bool). Kept now (place (withClock s (cond t (s .clock + 1) (s .clock))) w Idle) (map (endFor now w (At (workerAt s w .announced))) h) (o ++ (changeEffects h s (withClock s (cond t (s .clock + 1) (s .clock))) ++ endEffects h w (At (workerAt s w .announced))))) (sym (u .1))
-    (subst (Kept now (place (withClock s (s .clock + 1)) w Idle) (map (endFor now w (At (workerAt s w .announced))) h)) (append-assoc o (changeEffects h s (withClock s (s .clock + 1))) (endEffects h w (At (workerAt s w .announced))))
-    (subst (λ (q : List ℕ). Kept now (place (withClock s (s .clock + 1)) w Idle) (map (endFor now w (At (workerAt s w .announced))) h) (q ++ endEffects h w (At (workerAt s w .announced)))) (T .3)
+    subst (λ (t : Bool). Kept now (place (withClock s (cond t (s .clock + 1) (s .clock))) w Idle)
+    (map (endFor now w (At (workerAt s w .announced))) h)
+    (o ++ (changeEffects h s (withClock s (cond t (s .clock + 1) (s .clock))) ++ endEffects h w (At (workerAt s w .announced))))) (sym (u .1))
+    (subst (Kept now (place (withClock s (s .clock + 1)) w Idle) (map (endFor now w (At (workerAt s w .announced))) h))
+    (append-assoc o (changeEffects h s (withClock s (s .clock + 1))) (endEffects h w (At (workerAt s w .announced))))
+    (subst (λ (q : List ℕ). Kept now (place (withClock s (s .clock + 1)) w Idle) (map (endFor now w (At (workerAt s w .announced))) h)
+    (q ++ endEffects h w (At (workerAt s w .announced)))) (T .3)
     (done-kept now (withClock s (s .clock + 1)) olds h (T .0) (T .1) (T .2) w wb e (omega (arith, u .0))))))
     (λ u.
-    subst (λ (t : Bool). Kept now (place (withClock s (cond t (s .clock + 1) (s .clock))) w Idle) (map (endFor now w (At (workerAt s w .announced))) h) (o ++ (changeEffects h s (withClock s (cond t (s .clock + 1) (s .clock))) ++ endEffects h w (At (workerAt s w .announced))))) (sym (u .1))
-    (subst (λ (q : List ℕ). Kept now (place s w Idle) (map (endFor now w (At (workerAt s w .announced))) h) (o ++ (q ++ endEffects h w (At (workerAt s w .announced))))) (sym (change-none h s s refl (λ v q c z y. refl)))
+    subst (λ (t : Bool). Kept now (place (withClock s (cond t (s .clock + 1) (s .clock))) w Idle)
+    (map (endFor now w (At (workerAt s w .announced))) h)
+    (o ++ (changeEffects h s (withClock s (cond t (s .clock + 1) (s .clock))) ++ endEffects h w (At (workerAt s w .announced))))) (sym (u .1))
+    (subst (λ (q : List ℕ). Kept now (place s w Idle) (map (endFor now w (At (workerAt s w .announced))) h)
+    (o ++ (q ++ endEffects h w (At (workerAt s w .announced))))) (sym (change-none h s s refl (λ v q c z y. refl)))
     (done-kept now s olds h o p I w wb e (omega (arith, d .0, u .0)))))
     (eq-cases (s .clock) (workerAt s w .announced))

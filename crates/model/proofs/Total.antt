@@ -6,12 +6,13 @@ use mathlib.Core.List.{List, [], _∷_}
 use Prim.Native.Nat.{ℕ, zero, suc, _+_, _≤_, _<_}
 use native.Mathlib.Omega.{arith}
 use lib.ListN.{length}
-use Rattle.model.specs.Store.{Range, Doing, Idle, PutPublish, PutStamp, PutHandIn, FlushTake, FlushRead, FlushFree, OpenAnnounce, OpenPass, ReadEnter, ReadStand, CloseWithdraw, GetShow, Worker, Store}
+use Rattle.model.specs.Store.{Range, Worker, Store}
+use Rattle.model.specs.About.{Hand, Empty, Covered, Merged, Needless, about}
 use Rattle.model.specs.Demand.{Call, Plain, occurrences}
 use Rattle.model.specs.Reached.{sumBy, inHand, versionsHeld}
 use Rattle.model.proofs.Basic.{hit, hit-same, hit-eq, hit-other, lt-cases, eq-cases}
 use Rattle.model.proofs.Count.{cnt}
-use Rattle.model.proofs.Invariant.{Inv, inDoing, pendW, pend, below}
+use Rattle.model.proofs.Invariant.{Inv, inHandOf, inDoing, pendW, pend, below}
 
 sumTo : ℕ → (ℕ → ℕ) → ℕ
 sumTo zero f = 0
@@ -33,18 +34,23 @@ sumTo-same zero f g e = refl
 sumTo-same (suc n) f g e = omega (arith, e n (omega arith), sumTo-same n f g (λ c z. e c (omega (arith, z))))
 
 below-is : (j n : ℕ) → ((j < n) × (below j n ≡ 1)) ⊎ ((n ≤ j) × (below j n ≡ 0))
-below-is j n = ⊎-elim (λ u. inl (u .0, ap {B = ℕ} (λ (t : Bool). cond t 1 0) (u .1))) (λ u. inr (u .0, ap {B = ℕ} (λ (t : Bool). cond t 1 0) (u .1))) (lt-cases j n)
+below-is j n =
+    ⊎-elim (λ u. inl (u .0, ap {B = ℕ} (λ (t : Bool). cond t 1 0) (u .1))) (λ u. inr (u .0, ap {B = ℕ} (λ (t : Bool). cond t 1 0) (u .1)))
+    (lt-cases j n)
 
 sumTo-hit : (n j : ℕ) → sumTo n (λ c. hit j c) ≡ below j n
 unfolding sumTo
 sumTo-hit zero j = ⊎-elim (λ u. absurd (omega (arith, u .0))) (λ u. sym (u .1)) (below-is j zero)
 sumTo-hit (suc n) j =
     ⊎-elim
-    (λ e. ⊎-elim (λ u. absurd (omega (arith, u .0, e .0))) (λ u. ⊎-elim (λ v. omega (arith, sumTo-hit n j, u .1, v .1, hit-eq j n (e .0))) (λ v. absurd (omega (arith, v .0, e .0))) (below-is j (suc n))) (below-is j n))
+    (λ e. ⊎-elim (λ u. absurd (omega (arith, u .0, e .0)))
+    (λ u. ⊎-elim (λ v. omega (arith, sumTo-hit n j, u .1, v .1, hit-eq j n (e .0))) (λ v. absurd (omega (arith, v .0, e .0))) (below-is j (suc n)))
+    (below-is j n))
     (λ e.
     ⊎-elim
     (λ u. ⊎-elim (λ v. omega (arith, sumTo-hit n j, u .1, v .1, hit-other j n (e .0))) (λ v. absurd (omega (arith, u .0, v .0))) (below-is j (suc n)))
-    (λ u. ⊎-elim (λ v. absurd (omega (arith, u .0, v .0, e .0))) (λ v. omega (arith, sumTo-hit n j, u .1, v .1, hit-other j n (e .0))) (below-is j (suc n)))
+    (λ u. ⊎-elim (λ v. absurd (omega (arith, u .0, v .0, e .0))) (λ v. omega (arith, sumTo-hit n j, u .1, v .1, hit-other j n (e .0)))
+    (below-is j (suc n)))
     (below-is j n))
     (eq-cases j n)
 
@@ -79,25 +85,22 @@ module _ (n : ℕ) where
   unfolding sumBy
   queue-all [] h = sumTo-zero n
   queue-all (l ∷ q) h =
-      omega (arith, sumTo-add n (λ c. cnt c l) (λ c. sumBy (cnt c) q), cnt-all l (λ c z. omega (arith, h c z)), queue-all q (λ c z. omega (arith, h c z)))
+      omega (
+        arith,
+        sumTo-add n (λ c. cnt c l) (λ c. sumBy (cnt c) q),
+        cnt-all l (λ c z. omega (arith, h c z)),
+        queue-all q
+            (λ c z. omega (arith, h c z)),
+      )
 
   hand-one : (j : ℕ) → ((c : ℕ) → n ≤ c → hit j c ≡ 0) → sumTo n (λ c. hit j c) ≡ 1
   hand-one j h = one n j (⊎-elim (λ u. u .0) (λ u. absurd (omega (arith, h j (u .0), hit-same j))) (lt-cases j n))
 
-  hand-all : (d : Doing) → ((c : ℕ) → n ≤ c → inDoing c d ≡ 0) → sumTo n (λ c. inDoing c d) ≡ inHand d
-  hand-all Idle h = sumTo-zero n
-  hand-all (PutPublish r y) h = sumTo-zero n
-  hand-all (PutStamp r c) h = hand-one c h
-  hand-all (PutHandIn r c) h = hand-one c h
-  hand-all FlushTake h = sumTo-zero n
-  hand-all (FlushRead m ts) h = cnt-all m h
-  hand-all (FlushFree m) h = cnt-all m h
-  hand-all OpenAnnounce h = sumTo-zero n
-  hand-all OpenPass h = sumTo-zero n
-  hand-all (ReadEnter r) h = sumTo-zero n
-  hand-all (ReadStand r c) h = sumTo-zero n
-  hand-all CloseWithdraw h = sumTo-zero n
-  hand-all (GetShow r) h = sumTo-zero n
+  hand-all : (y : Hand) → ((c : ℕ) → n ≤ c → inHandOf c y ≡ 0) → sumTo n (λ c. inHandOf c y) ≡ inHand y
+  hand-all Empty h = sumTo-zero n
+  hand-all (Covered c) h = hand-one c h
+  hand-all (Merged m ts) h = cnt-all m h
+  hand-all (Needless m) h = cnt-all m h
 
   work-all : (ws : List Worker) → ((c : ℕ) → n ≤ c → sumBy (pendW c) ws ≡ 0) → sumTo n (λ c. sumBy (pendW c) ws) ≡ sumBy versionsHeld ws
   unfolding sumBy
@@ -107,7 +110,7 @@ module _ (n : ℕ) where
         arith,
         sumTo-add n (λ c. pendW c y) (λ c. sumBy (pendW c) ws),
         sumTo-add n (λ c. inDoing c (y .doing)) (λ c. cnt c (y .pool)),
-        hand-all (y .doing) (λ c z. omega (arith, h c z)),
+        hand-all (about (y .doing) .hand) (λ c z. omega (arith, h c z)),
         cnt-all (y .pool) (λ c z. omega (arith, h c z)),
         work-all ws (λ c z. omega (arith, h c z)),
       )
@@ -136,7 +139,8 @@ total {s = s} I =
       arith,
       I .newestLength,
       sumTo-below (s .site .N),
-      sumTo-same (s .site .N) (λ c. pend c (s .workers) (s .queue) + (occurrences c (s .free) + occurrences c (s .newest))) (λ c. below c (s .site .N)) (λ c z. I .once c),
+      sumTo-same (s .site .N) (λ c. pend c (s .workers) (s .queue) + (occurrences c (s .free) + occurrences c (s .newest)))
+          (λ c. below c (s .site .N)) (λ c z. I .once c),
       sumTo-add (s .site .N) (λ c. pend c (s .workers) (s .queue)) (λ c. occurrences c (s .free) + occurrences c (s .newest)),
       sumTo-add (s .site .N) (λ c. sumBy (pendW c) (s .workers)) (λ c. sumBy (cnt c) (s .queue)),
       sumTo-add (s .site .N) (λ c. occurrences c (s .free)) (λ c. occurrences c (s .newest)),

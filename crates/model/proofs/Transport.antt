@@ -1,18 +1,20 @@
 -- What a worker's part of the invariant asks of a step that changes the store around it.
-use mathlib.Core.Path.{_≡_, refl, sym, _∙_, subst}
+use mathlib.Core.Path.{_≡_, refl, sym, ap, _∙_, subst}
+use mathlib.Core.Bool.{Bool, true, false}
 use mathlib.Core.Logic.{_⊎_, inl, inr, ⊎-elim}
 use mathlib.Core.List.{List, [], _∷_}
 use Prim.Native.Nat.{ℕ, _≤_, _<_}
 use native.Mathlib.Omega.{arith}
 use lib.ListN.{length}
-use Rattle.model.specs.Store.{absent, Reading, Slot, Range, Doing, Idle, PutPublish, PutStamp, PutHandIn, FlushTake, FlushRead, FlushFree, OpenAnnounce, OpenPass, ReadEnter, ReadStand, CloseWithdraw, GetShow}
+use Rattle.model.specs.Store.{absent, Reading, Slot, Range, TimeStep, OpenAnnounce, OpenPass, CloseWithdraw, Goal, Doing, Idle, PutPublish, PutStamp, PutHandIn, FlushTake, FlushRead, FlushFree, OnTime, ReadEnter, ReadStand, GetShow}
+use Rattle.model.specs.About.{about}
 use Rattle.model.specs.Record.{Operation}
 use Rattle.model.specs.Demand.{Call, Plain, occurrences, All, callAt}
 use Rattle.model.proofs.Basic.{hit-same}
 use Rattle.model.proofs.Slots.{nth}
 use Rattle.model.proofs.Chain.{On, Fine, Past, Next}
 use Rattle.model.proofs.Count.{cnt}
-use Rattle.model.proofs.Invariant.{Ctx, top, old, chain, inDoing, Good, Settled, Asked, Spared, PlaceHolds, Running, NoneRunning, Fits, Current}
+use Rattle.model.proofs.Invariant.{Ctx, top, old, chain, inDoing, Good, Settled, Asked, Spared, TimeHolds, PlaceHolds, Running, NoneRunning, FitsTime, FitsFlush, Fits, CurrentOf, Current}
 
 -- what holds of the ranges of a list may be shown of each with its slot counted
 pub All-cnt : {P Q : Range → Type 0} (m : List Range) → ((ρ : Range) → 0 < cnt (ρ .slot) m → P ρ → Q ρ) → All P m → All Q m
@@ -28,18 +30,22 @@ pub record Moves (x x′ : Ctx) (t : ℕ) (d : Doing) : Type 0 where
   pub times′ : (v : ℕ) → v < x .holders → (x′ .held v ≡ x .held v) ⊎ ((x′ .held v ≡ absent) ⊎ (x .clock ≤ x′ .held v))
   pub mem : (r c : ℕ) → r < x .registers → 0 < inDoing c d → 0 < occurrences c (old x r) → 0 < occurrences c (old x′ r)
   pub highs : (c : ℕ) → 0 < inDoing c d → nth (x .slots) c .high ≤ x .clock → nth (x′ .slots) c .high ≤ x′ .clock
-  pub on : (r c : ℕ) (y : Reading) → r < x .registers → t < x .clock → d ≡ ReadStand r c → On (x .slots) t c y (chain x r) → On (x′ .slots) t c y (chain x′ r)
+  pub on : (g : Goal) (c : ℕ) (y : Reading) → g .register < x .registers → t < x .clock → d ≡ ReadStand g c
+      → On (x .slots) t c y (chain x (g .register)) → On (x′ .slots) t c y (chain x′ (g .register))
 
 module _ (x x′ : Ctx) where
-  pub asked : (ts : List ℕ) (ρ : Range) → length ts ≤ x .holders → ((v : ℕ) → v < x .holders → (x′ .held v ≡ x .held v) ⊎ ((x′ .held v ≡ absent) ⊎ (x .clock ≤ x′ .held v)))
+  pub asked : (ts : List ℕ) (ρ : Range) → length ts ≤ x .holders
+      → ((v : ℕ) → v < x .holders → (x′ .held v ≡ x .held v) ⊎ ((x′ .held v ≡ absent) ⊎ (x .clock ≤ x′ .held v)))
       → ρ .high ≤ x .clock → Asked x ts ρ → Asked x′ ts ρ
   asked ts ρ b f g a v z =
       ⊎-elim
-      (λ e. ⊎-elim (λ u. inl (e ∙ u)) (⊎-elim (λ u. inr (inl (subst (λ (q : ℕ). 0 < occurrences q ts) (sym e) u))) (λ u. inr (inr (omega (arith, e, u))))) (a v z))
+      (λ e. ⊎-elim (λ u. inl (e ∙ u)) (⊎-elim (λ u. inr (inl (subst (λ (q : ℕ). 0 < occurrences q ts) (sym e) u)))
+      (λ u. inr (inr (omega (arith, e, u))))) (a v z))
       (⊎-elim inl (λ u. inr (inr (omega (arith, u)))))
       (f v (omega arith))
 
-  pub spared : (ρ : Range) → x′ .holders ≡ x .holders → ((v : ℕ) → v < x .holders → (x′ .held v ≡ x .held v) ⊎ ((x′ .held v ≡ absent) ⊎ (x .clock ≤ x′ .held v)))
+  pub spared : (ρ : Range) → x′ .holders ≡ x .holders
+      → ((v : ℕ) → v < x .holders → (x′ .held v ≡ x .held v) ⊎ ((x′ .held v ≡ absent) ⊎ (x .clock ≤ x′ .held v)))
       → ρ .high ≤ x .clock → Spared x ρ → Spared x′ ρ
   spared ρ n f g a v z i j k =
       ⊎-elim
@@ -50,13 +56,23 @@ module _ (x x′ : Ctx) where
   settled : x .clock ≤ x′ .clock → (t : ℕ) → Settled x t → Settled x′ t
   settled u t = ⊎-elim inl (λ z. inr (omega arith))
 
+  time-map : x .clock ≤ x′ .clock → (t : ℕ) (y : TimeStep) → TimeHolds x t y → TimeHolds x′ t y
+  time-map k t OpenAnnounce a = a
+  time-map k t OpenPass a = (omega (arith, k, a .0), a .1)
+  time-map k t CloseWithdraw a = omega (arith, k)
+
   pub doing-map : (p p′ : Plain) (w t : ℕ) → p′ .copy w ≡ p .copy w → (d : Doing) → Moves x x′ t d → PlaceHolds x p w t d → PlaceHolds x′ p′ w t d
   unfolding cnt
   doing-map p p′ w t e Idle m a = settled (m .tick) t a
   doing-map p p′ w t e (PutPublish r y) m a = (m .reg r (a .0), settled (m .tick) t (a .1))
   doing-map p p′ w t e (PutStamp r c) m a = (m .reg r (a .0), settled (m .tick) t (a .1), m .mem r c (a .0) (omega (arith, hit-same c)) (a .2))
-  doing-map p p′ w t e (PutHandIn r c) m a =
-      (m .reg r (a .0), settled (m .tick) t (a .1), m .mem r c (a .0) (omega (arith, hit-same c)) (a .2), m .highs c (omega (arith, hit-same c)) (a .3))
+  doing-map p p′ w t e (PutHandIn r c) m a = (
+    m .reg r (a .0),
+    settled (m .tick) t (a .1),
+    m .mem r c (a .0) (omega (arith, hit-same c)) (a .2),
+    m .highs c (omega (arith, hit-same c))
+        (a .3),
+  )
   doing-map p p′ w t e FlushTake m a = settled (m .tick) t a
   doing-map p p′ w t e (FlushRead l ts) m a = (
     settled (m .tick) t (a .0),
@@ -73,12 +89,14 @@ module _ (x x′ : Ctx) where
       both : (q : List Range) → All (Good x) q → All (Spared x) q → All (Spared x′) q
       both [] g k = tt
       both (ρ ∷ q) g k = (spared ρ (m .nhd) (m .times′) (g .0 .2) (k .0), both q (g .1) (k .1))
-  doing-map p p′ w t e OpenAnnounce m a = a
-  doing-map p p′ w t e OpenPass m a = (omega (arith, m .tick, a .0), a .1)
-  doing-map p p′ w t e (ReadEnter r) m a = (m .reg r (a .0), omega (arith, m .tick, a .1))
-  doing-map p p′ w t e (ReadStand r c) m a =
-      (m .reg r (a .0), omega (arith, m .tick, a .1), (a .2 .0, e ∙ a .2 .1, m .on r c (a .2 .0 r) (a .0) (a .1) refl (a .2 .2)))
-  doing-map p p′ w t e CloseWithdraw m a = omega (arith, m .tick)
+  doing-map p p′ w t e (OnTime y) m a = time-map (m .tick) t y a
+  doing-map p p′ w t e (ReadEnter g) m a = (m .reg (g .register) (a .0), omega (arith, m .tick, a .1))
+  doing-map p p′ w t e (ReadStand g c) m a =
+      let f = a .2 in (
+        m .reg (g .register) (a .0),
+        omega (arith, m .tick, a .1),
+        (f .0, e ∙ f .1, m .on g c (f .0 (g .register)) (a .0) (a .1) refl (f .2)),
+      )
   doing-map p p′ w t e (GetShow r) m a = (m .reg r (a .0), settled (m .tick) t (a .1))
 
   -- a put that is not yet stamped stays so, and one that is stays so
@@ -87,41 +105,52 @@ module _ (x x′ : Ctx) where
       ((nth (x .slots) c .high ≡ absent → (nth (x′ .slots) c .high ≡ absent) × (nth (x′ .slots) (top x′ r) .value ≡ nth (x .slots) (top x r) .value))
       × (nth (x .slots) c .high ≤ x .clock → nth (x′ .slots) c .high ≤ x′ .clock))
 
-  pub fits-map : x′ .clock ≡ x .clock → (t : ℕ) (c : Operation) (n n′ : ℕ) → n′ ≡ n → (d : Doing) → ((r e : ℕ) → d ≡ PutStamp r e → Covers r e) → Fits x t c d n → Fits x′ t c d n′
-  fits-map k t c n n′ q Idle v a = a
-  fits-map k t c n n′ q (PutPublish r y) v a = (a .0, q ∙ a .1)
-  fits-map k t c n n′ q (PutStamp r e) v a =
-      let u = v r e refl in
-      (a .0, a .1, ⊎-elim (λ z. inl (u .0 (z .0) .0, q ∙ z .1, u .0 (z .0) .1 ∙ z .2)) (λ z. inr (u .1 (z .0), q ∙ z .1)) (a .2))
-  fits-map k t c n n′ q (PutHandIn r e) v a = (a .0, q ∙ a .1)
-  fits-map k t c n n′ q FlushTake v a = ⊎-elim (λ z. inl (z .0, q ∙ z .1)) (λ z. inr (z .0, q ∙ z .1)) a
-  fits-map k t c n n′ q (FlushRead m ts) v a = ⊎-elim (λ z. inl (z .0, q ∙ z .1)) (λ z. inr (z .0, q ∙ z .1)) a
-  fits-map k t c n n′ q (FlushFree m) v a = ⊎-elim (λ z. inl (z .0, q ∙ z .1)) (λ z. inr (z .0, q ∙ z .1)) a
-  fits-map k t c n n′ q OpenAnnounce v a = (a .0, q ∙ a .1)
-  fits-map k t c n n′ q OpenPass v a = (a .0, ⊎-elim (λ z. inl (z .0 ∙ sym k, q ∙ z .1)) (λ z. inr (omega (arith, k, z .0), q ∙ z .1)) (a .1))
-  fits-map k t c n n′ q (ReadEnter r) v a = (a .0, q ∙ a .1)
-  fits-map k t c n n′ q (ReadStand r e) v a = (a .0, q ∙ a .1)
-  fits-map k t c n n′ q CloseWithdraw v a = (a .0, q ∙ a .1)
-  fits-map k t c n n′ q (GetShow r) v a = (a .0, q ∙ a .1)
+  -- an open whose time is the clock, or past, stays so
+  abbrev pub Stays : ℕ → Type 0
+  Stays t = (t ≡ x .clock → t ≡ x′ .clock) × (t < x .clock → t < x′ .clock)
+
+  fits-time : (t : ℕ) (c : Operation) (n n′ : ℕ) → n′ ≡ n → (y : TimeStep) → (y ≡ OpenPass → Stays t) → FitsTime x t c y n → FitsTime x′ t c y n′
+  fits-time t c n n′ q OpenAnnounce v a = (a .0, q ∙ a .1)
+  fits-time t c n n′ q OpenPass v a =
+      let u = v refl in
+      (a .0, ⊎-elim (λ z. inl (u .0 (z .0), q ∙ z .1)) (λ z. inr (u .1 (z .0), q ∙ z .1)) (a .1))
+  fits-time t c n n′ q CloseWithdraw v a = (a .0, q ∙ a .1)
+
+  fits-flush : (c : Operation) (n n′ : ℕ) → n′ ≡ n → FitsFlush c n → FitsFlush c n′
+  fits-flush c n n′ q = ⊎-elim (λ z. inl (z .0, q ∙ z .1)) (λ z. inr (z .0, q ∙ z .1))
+
+  -- only a put before its second step and an open before its second look at the store
+  pub fits-on : (t : ℕ) (c : Operation) (n n′ : ℕ) → n′ ≡ n → (d : Doing) → ((r e : ℕ) → d ≡ PutStamp r e → Covers r e)
+      → (d ≡ OnTime OpenPass → Stays t) → Fits x t c d n → Fits x′ t c d n′
+  fits-on t c n n′ q Idle v u a = a
+  fits-on t c n n′ q (PutPublish r y) v u a = (a .0, q ∙ a .1)
+  fits-on t c n n′ q (PutStamp r e) v u a =
+      let f = v r e refl in
+      (a .0, a .1, ⊎-elim (λ z. inl (f .0 (z .0) .0, q ∙ z .1, f .0 (z .0) .1 ∙ z .2)) (λ z. inr (f .1 (z .0), q ∙ z .1)) (a .2))
+  fits-on t c n n′ q (PutHandIn r e) v u a = (a .0, q ∙ a .1)
+  fits-on t c n n′ q FlushTake v u a = fits-flush c n n′ q a
+  fits-on t c n n′ q (FlushRead m ts) v u a = fits-flush c n n′ q a
+  fits-on t c n n′ q (FlushFree m) v u a = fits-flush c n n′ q a
+  fits-on t c n n′ q (OnTime y) v u a = fits-time t c n n′ q y (λ e. u (ap OnTime e)) a
+  fits-on t c n n′ q (ReadEnter g) v u a = (a .0, q ∙ a .1)
+  fits-on t c n n′ q (ReadStand g e) v u a = (a .0, q ∙ a .1)
+  fits-on t c n n′ q (GetShow r) v u a = (a .0, q ∙ a .1)
+
+  pub fits-map : x′ .clock ≡ x .clock → (t : ℕ) (c : Operation) (n n′ : ℕ) → n′ ≡ n → (d : Doing)
+      → ((r e : ℕ) → d ≡ PutStamp r e → Covers r e) → Fits x t c d n → Fits x′ t c d n′
+  fits-map k t c n n′ q d v = fits-on t c n n′ q d v (λ e. ((λ z. z ∙ sym k), (λ z. omega (arith, k, z))))
 
 -- Current, by the operation that is open, if any
 pub current-map : (x x′ : Ctx) (h h′ : List Call) (o o′ : List ℕ) (w t t′ : ℕ) (d : Doing)
     → (NoneRunning h w → NoneRunning h′ w)
-    → ((k : ℕ) → Running h w k → Fits x t (callAt h k .operation) d (occurrences k o) → Running h′ w k × Fits x′ t′ (callAt h′ k .operation) d (occurrences k o′))
+    → ((k : ℕ) → Running h w k → Fits x t (callAt h k .operation) d (occurrences k o)
+    → Running h′ w k × Fits x′ t′ (callAt h′ k .operation) d (occurrences k o′))
     → Current x h o w t d → Current x′ h′ o′ w t′ d
-current-map x x′ h h′ o o′ w t t′ Idle f g a = f a
-current-map x x′ h h′ o o′ w t t′ (PutPublish r y) f g a = let b = g (a .0) (a .1) (a .2) in (a .0, b .0, b .1)
-current-map x x′ h h′ o o′ w t t′ (PutStamp r c) f g a = let b = g (a .0) (a .1) (a .2) in (a .0, b .0, b .1)
-current-map x x′ h h′ o o′ w t t′ (PutHandIn r c) f g a = let b = g (a .0) (a .1) (a .2) in (a .0, b .0, b .1)
-current-map x x′ h h′ o o′ w t t′ FlushTake f g a = let b = g (a .0) (a .1) (a .2) in (a .0, b .0, b .1)
-current-map x x′ h h′ o o′ w t t′ (FlushRead m ts) f g a = let b = g (a .0) (a .1) (a .2) in (a .0, b .0, b .1)
-current-map x x′ h h′ o o′ w t t′ (FlushFree m) f g a = let b = g (a .0) (a .1) (a .2) in (a .0, b .0, b .1)
-current-map x x′ h h′ o o′ w t t′ OpenAnnounce f g a = let b = g (a .0) (a .1) (a .2) in (a .0, b .0, b .1)
-current-map x x′ h h′ o o′ w t t′ OpenPass f g a = let b = g (a .0) (a .1) (a .2) in (a .0, b .0, b .1)
-current-map x x′ h h′ o o′ w t t′ (ReadEnter r) f g a = let b = g (a .0) (a .1) (a .2) in (a .0, b .0, b .1)
-current-map x x′ h h′ o o′ w t t′ (ReadStand r c) f g a = let b = g (a .0) (a .1) (a .2) in (a .0, b .0, b .1)
-current-map x x′ h h′ o o′ w t t′ CloseWithdraw f g a = let b = g (a .0) (a .1) (a .2) in (a .0, b .0, b .1)
-current-map x x′ h h′ o o′ w t t′ (GetShow r) f g a = let b = g (a .0) (a .1) (a .2) in (a .0, b .0, b .1)
+current-map x x′ h h′ o o′ w t t′ d f g a = go (about d .idle) a
+  where
+    go : (i : Bool) → CurrentOf x h o w t d i → CurrentOf x′ h′ o′ w t′ d i
+    go true u = f u
+    go false u = let b = g (u .0) (u .1) (u .2) in (u .0, b .0, b .1)
 
 -- a register's versions, untouched
 pub Fine-same : (s s′ : List Slot) (t : ℕ) (x x′ : Reading) (l : List ℕ) → x′ ≡ x
@@ -138,13 +167,15 @@ Fine-same s s′ t x x′ (c ∷ l) q f a =
           (a .1),
     )
   where
-    past : (m : List ℕ) → ((d : ℕ) → 0 < occurrences d m → (nth s′ d .low ≡ nth s d .low) × (nth s′ d .high ≡ nth s d .high) × (nth s′ d .value ≡ nth s d .value)) → All (Past s t) m → All (Past s′ t) m
+    past : (m : List ℕ) → ((d : ℕ) → 0 < occurrences d m
+        → (nth s′ d .low ≡ nth s d .low) × (nth s′ d .high ≡ nth s d .high) × (nth s′ d .value ≡ nth s d .value)) → All (Past s t) m → All (Past s′ t) m
     past [] g z = tt
     past (d ∷ m) g z =
         let e = g d (omega (arith, hit-same d)) in
         ((omega (arith, e .0, z .0 .0), omega (arith, e .1, z .0 .1)), past m (λ i y. g i (omega (arith, y))) (z .1))
 
-    next : (m : List ℕ) → ((d : ℕ) → 0 < occurrences d m → (nth s′ d .low ≡ nth s d .low) × (nth s′ d .high ≡ nth s d .high) × (nth s′ d .value ≡ nth s d .value)) → Next s t x m → Next s′ t x′ m
+    next : (m : List ℕ) → ((d : ℕ) → 0 < occurrences d m
+        → (nth s′ d .low ≡ nth s d .low) × (nth s′ d .high ≡ nth s d .high) × (nth s′ d .value ≡ nth s d .value)) → Next s t x m → Next s′ t x′ m
     next [] g z = z
     next (d ∷ m) g z =
         let e = g d (omega (arith, hit-same d)) in

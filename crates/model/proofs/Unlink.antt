@@ -9,7 +9,8 @@ use lib.Dec.{eqb}
 use lib.ListN.{length, set, length-set, length-map}
 use lib.Seq.{getD-set-same, getD-set-other}
 use borrow.Author.Tests as Tests
-use Rattle.model.specs.Store.{absent, Reading, Slot, Range, Doing, Idle, PutPublish, PutStamp, PutHandIn, FlushTake, FlushRead, FlushFree, OpenAnnounce, OpenPass, ReadEnter, ReadStand, CloseWithdraw, GetShow, Worker, startWorker, Store, workerAt, holders, held, withDoing, withSlots, withFree, withWorkers}
+use Rattle.model.specs.Store.{absent, Reading, Slot, Range, Goal, Doing, PutStamp, FlushFree, ReadStand, Worker, startWorker, Store, workerAt, holders, held, withDoing, withSlots, withFree, withWorkers}
+use Rattle.model.specs.About.{Stance, Nowhere, StandsOn, about}
 use Rattle.model.specs.Versions.{unlinkSlots}
 use Rattle.model.specs.Steps.{moveOff, workerOff}
 use Rattle.model.specs.Demand.{Call, Plain, occurrences, All, callAt}
@@ -18,6 +19,7 @@ use Rattle.model.proofs.Linear.{lin-skip}
 use Rattle.model.proofs.Slots.{nth, unlink-length, unlink-own, unlink-part, unlink-older-other, unlink-newer-other}
 use Rattle.model.proofs.Chain.{Linked, Linked-same, Linked-unlink, neighbours, remove, remove-own, remove-other, remove-times, Sees, Sees-mono, Sees-remove, On, On-mono, On-remove, On-moves, Fine, Past, Next}
 use Rattle.model.proofs.Count.{cnt, sumBy-set, sumBy-one, sumBy-two, sumBy-map}
+use Rattle.model.proofs.View.{off-cases, off-keeps}
 use Rattle.model.proofs.Invariant.{Ctx, ctx, top, old, chain, inDoing, pendW, pend, Good, Spared, PlaceHolds, Current, Works, Inv}
 use Rattle.model.proofs.Apart.{below≤1, chain-once, chain-in, chain-apart, free-in, pend-chain, pend-top}
 use Rattle.model.proofs.Transport.{Moves, doing-map, fits-map, current-map, Fine-same, spared}
@@ -26,9 +28,11 @@ use Rattle.model.proofs.Places.{Kept, doing-is, cur-is}
 All-remove : (P : ℕ → Type 0) (c : ℕ) (l : List ℕ) → All P l → All P (remove c l)
 All-remove P c [] t = unfold remove in t
 All-remove P c (d ∷ l) t =
-    ⊎-elim (λ u. subst (All P) (sym (remove-own c d l (u .0))) (t .1)) (λ u. subst (All P) (sym (remove-other c d l (u .0))) (t .0, All-remove P c l (t .1))) (eq-cases d c)
+    ⊎-elim (λ u. subst (All P) (sym (remove-own c d l (u .0))) (t .1))
+    (λ u. subst (All P) (sym (remove-other c d l (u .0))) (t .0, All-remove P c l (t .1))) (eq-cases d c)
 
-Fine-remove : (s : List Slot) (t : ℕ) (x : Reading) (n c : ℕ) (l : List ℕ) → t < absent → nth s c .high ≤ t → Fine s t x (n ∷ l) → Fine s t x (n ∷ remove c l)
+Fine-remove : (s : List Slot) (t : ℕ) (x : Reading) (n c : ℕ) (l : List ℕ) → t < absent → nth s c .high ≤ t → Fine s t x (n ∷ l)
+    → Fine s t x (n ∷ remove c l)
 Fine-remove s t x n c l b h f = (f .0, ⊎-elim (λ u. inl (u .0, u .1, All-remove (Past s t) c l (u .2))) (λ u. inr (u .0, next l (u .1))) (f .1))
   where
     next : (m : List ℕ) → Next s t x m → Next s t x (remove c m)
@@ -42,73 +46,30 @@ unfolding occurrences
 On-mem s a c x [] t = absurd t
 On-mem s a c x (d ∷ l) t = ⊎-elim (λ u. omega (arith, hit-eq d c (u .0))) (λ u. omega (arith, On-mem s a c x l (u .1))) t
 
-abbrev NotStanding : Doing → Type 0
-NotStanding Idle = Unit {0}
-NotStanding (PutPublish r y) = Unit {0}
-NotStanding (PutStamp r c) = Unit {0}
-NotStanding (PutHandIn r c) = Unit {0}
-NotStanding FlushTake = Unit {0}
-NotStanding (FlushRead m ts) = Unit {0}
-NotStanding (FlushFree m) = Unit {0}
-NotStanding OpenAnnounce = Unit {0}
-NotStanding OpenPass = Unit {0}
-NotStanding (ReadEnter r) = Unit {0}
-NotStanding (ReadStand r c) = ⊥
-NotStanding CloseWithdraw = Unit {0}
-NotStanding (GetShow r) = Unit {0}
+-- no read stands there
+abbrev IsNowhere : Stance → Type 0
+IsNowhere Nowhere = Unit {0}
+IsNowhere (StandsOn g c) = ⊥
 
 in-off : (c o i : ℕ) (d : Doing) → inDoing i (moveOff c o d) ≡ inDoing i d
-unfolding moveOff
-in-off c o i Idle = refl
-in-off c o i (PutPublish r y) = refl
-in-off c o i (PutStamp r e) = refl
-in-off c o i (PutHandIn r e) = refl
-in-off c o i FlushTake = refl
-in-off c o i (FlushRead m ts) = refl
-in-off c o i (FlushFree m) = refl
-in-off c o i OpenAnnounce = refl
-in-off c o i OpenPass = refl
-in-off c o i (ReadEnter r) = refl
-in-off c o i (ReadStand r e) = refl
-in-off c o i CloseWithdraw = refl
-in-off c o i (GetShow r) = refl
+in-off c o i d = off-keeps (λ y. inDoing i y ≡ inDoing i d) (λ g e e′ a. a) c o d refl
 
 cur-off : (c q : ℕ) (x : Ctx) (h : List Call) (o : List ℕ) (w t : ℕ) (d : Doing) → Current x h o w t d → Current x h o w t (moveOff c q d)
-unfolding moveOff
-cur-off c q x h o w t Idle a = a
-cur-off c q x h o w t (PutPublish r y) a = a
-cur-off c q x h o w t (PutStamp r e) a = a
-cur-off c q x h o w t (PutHandIn r e) a = a
-cur-off c q x h o w t FlushTake a = a
-cur-off c q x h o w t (FlushRead m ts) a = a
-cur-off c q x h o w t (FlushFree m) a = a
-cur-off c q x h o w t OpenAnnounce a = a
-cur-off c q x h o w t OpenPass a = a
-cur-off c q x h o w t (ReadEnter r) a = a
-cur-off c q x h o w t (ReadStand r e) a = (a .0, a .1, a .2)
-cur-off c q x h o w t CloseWithdraw a = a
-cur-off c q x h o w t (GetShow r) a = a
+cur-off c q x h o w t = off-keeps (Current x h o w t) (λ g e e′ a. (a .0, a .1, a .2)) c q
 
 -- a place other than a read's stays as it is; a read's place is the caller's to show
-doing-off : (c q : ℕ) (x x′ : Ctx) (p : Plain) (w t : ℕ) (d : Doing) → (NotStanding d → Moves x x′ t d)
-    → ((r i : ℕ) → d ≡ ReadStand r i → PlaceHolds x p w t (ReadStand r i) → PlaceHolds x′ p w t (ReadStand r (cond (eqb i c) q i)))
+doing-off : (c q : ℕ) (x x′ : Ctx) (p : Plain) (w t : ℕ) (d : Doing) → (IsNowhere (about d .stance) → Moves x x′ t d)
+    → ((g : Goal) (i : ℕ) → d ≡ ReadStand g i → PlaceHolds x p w t (ReadStand g i) → PlaceHolds x′ p w t (ReadStand g (cond (eqb i c) q i)))
     → PlaceHolds x p w t d → PlaceHolds x′ p w t (moveOff c q d)
 unfolding moveOff
-doing-off c q x x′ p w t Idle m s a = doing-map x x′ p p w t refl Idle (m tt) a
-doing-off c q x x′ p w t (PutPublish r y) m s a = doing-map x x′ p p w t refl (PutPublish r y) (m tt) a
-doing-off c q x x′ p w t (PutStamp r e) m s a = doing-map x x′ p p w t refl (PutStamp r e) (m tt) a
-doing-off c q x x′ p w t (PutHandIn r e) m s a = doing-map x x′ p p w t refl (PutHandIn r e) (m tt) a
-doing-off c q x x′ p w t FlushTake m s a = doing-map x x′ p p w t refl FlushTake (m tt) a
-doing-off c q x x′ p w t (FlushRead l ts) m s a = doing-map x x′ p p w t refl (FlushRead l ts) (m tt) a
-doing-off c q x x′ p w t (FlushFree l) m s a = doing-map x x′ p p w t refl (FlushFree l) (m tt) a
-doing-off c q x x′ p w t OpenAnnounce m s a = doing-map x x′ p p w t refl OpenAnnounce (m tt) a
-doing-off c q x x′ p w t OpenPass m s a = doing-map x x′ p p w t refl OpenPass (m tt) a
-doing-off c q x x′ p w t (ReadEnter r) m s a = doing-map x x′ p p w t refl (ReadEnter r) (m tt) a
-doing-off c q x x′ p w t (ReadStand r i) m s a = s r i refl a
-doing-off c q x x′ p w t CloseWithdraw m s a = doing-map x x′ p p w t refl CloseWithdraw (m tt) a
-doing-off c q x x′ p w t (GetShow r) m s a = doing-map x x′ p p w t refl (GetShow r) (m tt) a
+doing-off c q x x′ p w t d m s a =
+    ⊎-elim
+    (λ u. subst (λ y. PlaceHolds x′ p w t (moveOff c q y)) (sym (u .2)) (s (u .0) (u .1) (u .2) (subst (PlaceHolds x p w t) (u .2) a)))
+    (λ u. subst (PlaceHolds x′ p w t) (sym (u .1 c q)) (doing-map x x′ p p w t refl d (m (subst IsNowhere (sym (u .0)) tt)) a))
+    (off-cases d)
 
-module _ (now : ℕ) (s : Store) (olds : List (List ℕ)) (h : List Call) (o : List ℕ) (p : Plain) (I : Inv now s olds h o p) (w : ℕ) (wb : w < s .site .P)
+module _ (now : ℕ) (s : Store) (olds : List (List ℕ)) (h : List Call) (o : List ℕ) (p : Plain) (I : Inv now s olds h o p) (w : ℕ)
+    (wb : w < s .site .P)
     (ρ : Range) (l : List Range) (e : workerAt s w .doing ≡ FlushFree (ρ ∷ l)) where
   abbrev c : ℕ
   c = ρ .slot
@@ -188,7 +149,8 @@ module _ (now : ℕ) (s : Store) (olds : List (List ℕ)) (h : List Call) (o : L
     values : (i : ℕ) → nth sl′ i .value ≡ nth sl i .value
     values = unlink-part sl c (λ v. v .value) (λ v z. refl) (λ v z. refl)
 
-    mono : (a i : ℕ) → (nth sl i .low ≤ a → nth sl′ i .low ≤ a) × (a < nth sl i .low → a < nth sl′ i .low) × (a < nth sl i .high → a < nth sl′ i .high) × (nth sl′ i .value ≡ nth sl i .value)
+    mono : (a i : ℕ) → (nth sl i .low ≤ a → nth sl′ i .low ≤ a) × (a < nth sl i .low → a < nth sl′ i .low)
+        × (a < nth sl i .high → a < nth sl′ i .high) × (nth sl′ i .value ≡ nth sl i .value)
     mono a i = ((λ u. omega (arith, lows i)), (λ u. omega (arith, lows i)), (λ u. omega (arith, highs i)), values i)
 
     good : (σ : Range) → Good x σ → Good x′ σ
@@ -204,7 +166,8 @@ module _ (now : ℕ) (s : Store) (olds : List (List ℕ)) (h : List Call) (o : L
         (λ u. subst (Sees sl′ a y) (sym (chain-other q (u .0))) (Sees-mono sl sl′ a y (chain x q) (λ i _. mono a i) g))
         (eq-cases q r)
 
-    ons : (a : ℕ) → (nth sl c .low ≤ a → a < nth sl c .high → ⊥) → (y : Reading) (q : ℕ) → q < s .site .V' → (i : ℕ) → On sl a i y (chain x q) → On sl′ a (cond (eqb i c) oc i) y (chain x′ q)
+    ons : (a : ℕ) → (nth sl c .low ≤ a → a < nth sl c .high → ⊥) → (y : Reading) (q : ℕ) → q < s .site .V' → (i : ℕ) → On sl a i y (chain x q)
+        → On sl′ a (cond (eqb i c) oc i) y (chain x′ q)
     ons a nn y q d i g =
         ⊎-elim
         (λ u.
@@ -213,11 +176,17 @@ module _ (now : ℕ) (s : Store) (olds : List (List ℕ)) (h : List Call) (o : L
         (subst (On sl′ a (cond (eqb i c) oc i) y) (sym chain-removed)
         (On-mono sl sl′ a (cond (eqb i c) oc i) y (remove c (chain x r)) (λ j _. mono a j)
         (⊎-elim
-        (λ k. subst (λ (t : Bool). On sl a (cond t oc i) y (remove c (chain x r))) (sym (k .1)) (On-moves sl absent a y c (chain x r) (I .linked r b) once nn (subst (λ (j : ℕ). On sl a j y (chain x r)) (k .0) g′)))
+        (λ k. subst (λ (t : Bool). On sl a (cond t oc i) y (remove c (chain x r))) (sym (k .1))
+        (On-moves sl absent a y c (chain x r) (I .linked r b) once nn (subst (λ (j : ℕ). On sl a j y (chain x r)) (k .0) g′)))
         (λ k. subst (λ (t : Bool). On sl a (cond t oc i) y (remove c (chain x r))) (sym (k .1)) (On-remove sl a y c i (chain x r) nn (k .0) g′))
         (eq-cases i c)))))
         (λ u.
-        let n : i ≢ c = λ k. omega (arith, c-chain, chain-apart I q r d b (u .0) c (subst (λ (j : ℕ). 0 < occurrences j (chain x q)) k (On-mem sl a i y (chain x q) g))) in
+        let n : i ≢ c = λ k. omega (
+          arith,
+          c-chain,
+          chain-apart I q r d b (u .0) c
+              (subst (λ (j : ℕ). 0 < occurrences j (chain x q)) k (On-mem sl a i y (chain x q) g)),
+        ) in
         subst (λ (t : Bool). On sl′ a (cond t oc i) y (chain x′ q)) (sym (Tests.ne-eqb i c n))
         (subst (On sl′ a i y) (sym (chain-other q (u .0))) (On-mono sl sl′ a i y (chain x q) (λ j _. mono a j) g)))
         (eq-cases q r)
@@ -239,7 +208,8 @@ module _ (now : ℕ) (s : Store) (olds : List (List ℕ)) (h : List Call) (o : L
               (λ g. omega (arith, k, g, chain-in I q d i z, I .slotsLength, I .slotsFew))
               (λ g. far i (old x r) (top x r) no (subst (λ (j : ℕ). 0 < occurrences j (old x r)) (sym k) g))
               (m .1)),
-          unlink-older-other sl c i (λ k. omega (arith, c-chain, subst (λ (j : ℕ). occurrences j (chain x r) ≡ 0) k no)) (λ k. omega (arith, no, subst (λ (j : ℕ). 0 < occurrences j (chain x r)) (sym k) (m .0))),
+          unlink-older-other sl c i (λ k. omega (arith, c-chain, subst (λ (j : ℕ). occurrences j (chain x r) ≡ 0) k no))
+              (λ k. omega (arith, no, subst (λ (j : ℕ). 0 < occurrences j (chain x r)) (sym k) (m .0))),
         ))
         (I .linked q d)))
         (eq-cases q r)
@@ -252,7 +222,8 @@ module _ (now : ℕ) (s : Store) (olds : List (List ℕ)) (h : List Call) (o : L
         ⊎-elim
         (λ u. subst (λ (j : ℕ). Fine sl′ ck (p .registers j) (chain x′ j)) (sym (u .0))
         (subst (Fine sl′ ck (p .registers r)) (sym chain-own)
-        (same (p .registers r) (top x r ∷ remove c (old x r)) (Fine-remove sl ck (p .registers r) (top x r) c (old x r) (I .clockFits) (omega (arith, d₀ .1 .0 .1, d₀ .1 .0 .2)) (I .stamps r b)))))
+        (same (p .registers r) (top x r ∷ remove c (old x r))
+        (Fine-remove sl ck (p .registers r) (top x r) c (old x r) (I .clockFits) (omega (arith, d₀ .1 .0 .1, d₀ .1 .0 .2)) (I .stamps r b)))))
         (λ u. subst (Fine sl′ ck (p .registers q)) (sym (chain-other q (u .0))) (same (p .registers q) (chain x q) (I .stamps q d)))
         (eq-cases q r)
       where
@@ -277,7 +248,8 @@ module _ (now : ℕ) (s : Store) (olds : List (List ℕ)) (h : List Call) (o : L
     unfolding workerOff
     still v vb =
         ⊎-elim
-        (λ u. ap (λ (i : ℕ). workerAt freed-store i .announced) (u .0) ∙ ap (λ (z : Worker). z .announced) at-own ∙ ap (λ (i : ℕ). workerAt s i .announced) (sym (u .0)))
+        (λ u. ap (λ (i : ℕ). workerAt freed-store i .announced) (u .0) ∙ ap (λ (z : Worker). z .announced) at-own
+        ∙ ap (λ (i : ℕ). workerAt s i .announced) (sym (u .0)))
         (λ u. ap (λ (z : Worker). z .announced) (at-other v vb (u .0)))
         (eq-cases v w)
 
@@ -287,12 +259,22 @@ module _ (now : ℕ) (s : Store) (olds : List (List ℕ)) (h : List Call) (o : L
         record {
           pool = All-map good (workerAt s v .pool) (Z .pool);
           announced = Z .announced;
-          snapshot = λ z. let a = Z .snapshot z in (a .0, a .1, λ q d. sees (workerAt s v .announced) (not-needed v vb (omega (arith, z, I .clockFits))) (a .0 q) q (a .2 q d));
+          snapshot =
+              λ z. let a = Z .snapshot z in (
+                a .0,
+                a .1,
+                λ q d. sees (workerAt s v .announced) (not-needed v vb (omega (arith, z, I .clockFits)))
+                    (a .0 q) q (a .2 q d),
+              );
           doing = doing-off c oc x x′ p v (workerAt s v .announced) (workerAt s v .doing) moves stand (Z .doing);
           current =
               cur-off c oc x′ h o v (workerAt s v .announced) (workerAt s v .doing)
               (current-map x x′ h h o o v (workerAt s v .announced) (workerAt s v .announced) (workerAt s v .doing) (λ z. z)
-              (λ k K g. (K, fits-map x x′ refl (workerAt s v .announced) (callAt h k .operation) (occurrences k o) (occurrences k o) refl (workerAt s v .doing) (λ q i z. ((λ u. (highs i ∙ u, values (top x q))), (λ u. omega (arith, u, highs i)))) g))
+              (λ k K g. (
+                K,
+                fits-map x x′ refl (workerAt s v .announced) (callAt h k .operation) (occurrences k o) (occurrences k o) refl
+                    (workerAt s v .doing) (λ q i z. ((λ u. (highs i ∙ u, values (top x q))), (λ u. omega (arith, u, highs i)))) g,
+              ))
               (Z .current));
         }
       where
@@ -302,9 +284,17 @@ module _ (now : ℕ) (s : Store) (olds : List (List ℕ)) (h : List Call) (o : L
         apart : (i : ℕ) → 0 < inDoing i (workerAt s v .doing) → i ≢ c
         apart i z u =
             let k : 0 < pendW c (workerAt s v) = omega (arith, subst (λ (j : ℕ). 0 < inDoing j (workerAt s v .doing)) u z) in
-            omega (arith, k, c-work, sumBy-two (pendW c) (s .workers) v w startWorker (omega (arith, I .workersLength)) (omega (arith, I .workersLength)) vw, I .once c, below≤1 c (s .site .N))
+            omega (
+              arith,
+              k,
+              c-work,
+              sumBy-two (pendW c) (s .workers) v w startWorker (omega (arith, I .workersLength))
+                  (omega (arith, I .workersLength)) vw,
+              I .once c,
+              below≤1 c (s .site .N),
+            )
 
-        moves : NotStanding (workerAt s v .doing) → Moves x x′ (workerAt s v .announced) (workerAt s v .doing)
+        moves : IsNowhere (about (workerAt s v .doing) .stance) → Moves x x′ (workerAt s v .announced) (workerAt s v .doing)
         moves ns =
             record {
               tick = omega arith;
@@ -316,22 +306,37 @@ module _ (now : ℕ) (s : Store) (olds : List (List ℕ)) (h : List Call) (o : L
                   ⊎-elim
                   (λ g. subst (λ (j : ℕ). 0 < occurrences i (old x′ j)) (sym (g .0))
                   (subst (λ (m : List ℕ). 0 < occurrences i m) (sym old-own)
-                  (omega (arith, remove-times c (old x r) i cr, hit-other c i (λ y. apart i u (sym y)), subst (λ (j : ℕ). 0 < occurrences i (old x j)) (g .0) k))))
+                  (omega (
+                    arith,
+                    remove-times c (old x r) i cr,
+                    hit-other c i (λ y. apart i u (sym y)),
+                    subst (λ (j : ℕ). 0 < occurrences i (old x j)) (g .0) k,
+                  ))))
                   (λ g. subst (λ (m : List ℕ). 0 < occurrences i m) (sym (old-other q (g .0))) k)
                   (eq-cases q r);
               highs = λ i z k. omega (arith, k, highs i);
-              on = λ q i a z u k g. absurd (subst NotStanding k ns);
+              on = λ g i a z u k y. absurd (subst (λ d. IsNowhere (about d .stance)) k ns);
             }
 
-        stand : (q i : ℕ) → workerAt s v .doing ≡ ReadStand q i → PlaceHolds x p v (workerAt s v .announced) (ReadStand q i) → PlaceHolds x′ p v (workerAt s v .announced) (ReadStand q (cond (eqb i c) oc i))
-        stand q i k a = (a .0, a .1, (a .2 .0, a .2 .1, ons (workerAt s v .announced) (not-needed v vb (omega (arith, a .1, I .clockFits))) (a .2 .0 q) q (a .0) i (a .2 .2)))
+        stand : (g : Goal) (i : ℕ) → workerAt s v .doing ≡ ReadStand g i → PlaceHolds x p v (workerAt s v .announced) (ReadStand g i)
+            → PlaceHolds x′ p v (workerAt s v .announced) (ReadStand g (cond (eqb i c) oc i))
+        stand g i k a =
+            let q = g .register in
+            let f = a .2 in
+            (a .0, a .1, (f .0, f .1, ons (workerAt s v .announced) (not-needed v vb (omega (arith, a .1, I .clockFits))) (f .0 q) q (a .0) i (f .2)))
 
     own : Works x′ h o p w y⁺
     own =
         record {
           pool = All-map good (workerAt s w .pool) (Z .pool);
           announced = Z .announced;
-          snapshot = λ z. let a = Z .snapshot z in (a .0, a .1, λ q d. sees (workerAt s w .announced) (not-needed w wb (omega (arith, z, I .clockFits))) (a .0 q) q (a .2 q d));
+          snapshot =
+              λ z. let a = Z .snapshot z in (
+                a .0,
+                a .1,
+                λ q d. sees (workerAt s w .announced) (not-needed w wb (omega (arith, z, I .clockFits)))
+                    (a .0 q) q (a .2 q d),
+              );
           doing = (d₀ .0, All-map good l (d₀ .1 .1), both l (d₀ .1 .1) (d₀ .2 .1));
           current = let a = cur-is now s olds h o p I w wb (FlushFree (ρ ∷ l)) e in (a .0, a .1, a .2);
         }
@@ -363,7 +368,8 @@ module _ (now : ℕ) (s : Store) (olds : List (List ℕ)) (h : List Call) (o : L
         let no : occurrences i (chain x r) ≡ 0 = omega (arith, k, chain-once I r b i) in
         let m = neighbours sl absent (top x r) (old x r) c (I .linked r b) cr in
         let a = I .freeAlone i k in (
-          unlink-older-other sl c i (λ y. u .0 (sym y)) (λ y. omega (arith, no, subst (λ (j : ℕ). 0 < occurrences j (chain x r)) (sym y) (m .0))) ∙ a .0,
+          unlink-older-other sl c i (λ y. u .0 (sym y)) (λ y. omega (arith, no, subst (λ (j : ℕ). 0 < occurrences j (chain x r)) (sym y) (m .0)))
+              ∙ a .0,
           unlink-newer-other sl c i (λ y. u .0 (sym y))
               (λ y. ⊎-elim
               (λ g. omega (arith, y, g, free-in I i k, I .slotsLength, I .slotsFew))
@@ -389,17 +395,29 @@ module _ (now : ℕ) (s : Store) (olds : List (List ℕ)) (h : List Call) (o : L
                 clockFits = I .clockFits;
                 freeAlone = alone;
                 once = λ i. omega (arith, I .once i, pends i);
-                pendingOld = λ i. omega (arith, I .pendingOld i, pends i, remove-times c (old x r) i cr, sumBy-set (occurrences i) olds r (remove c (old x r)) [] (omega (arith, I .oldsLength)));
+                pendingOld =
+                    λ i. omega (
+                      arith,
+                      I .pendingOld i,
+                      pends i,
+                      remove-times c (old x r) i cr,
+                      sumBy-set (occurrences i) olds r
+                          (remove c (old x r)) [] (omega (arith, I .oldsLength)),
+                    );
                 linked = linked;
                 stamps = fine;
                 queue = All-map (λ m. All-map good m) (s .queue) (I .queue);
-                workers = λ v vb. ⊎-elim (λ u. subst (λ (i : ℕ). Works x′ h o p i (workerAt freed-store i)) (sym (u .0)) (subst (Works x′ h o p w) (sym at-own) own)) (λ u. subst (Works x′ h o p v) (sym (at-other v vb (u .0))) (other v vb (u .0))) (eq-cases v w);
+                workers =
+                    λ v vb. ⊎-elim (λ u. subst (λ (i : ℕ). Works x′ h o p i (workerAt freed-store i)) (sym (u .0))
+                    (subst (Works x′ h o p w) (sym at-own) own)) (λ u. subst (Works x′ h o p v) (sym (at-other v vb (u .0))) (other v vb (u .0)))
+                    (eq-cases v w);
                 stamper = λ q d z.
                     let a = I .stamper q d (sym (lows (top x q)) ∙ z) in (
                       a .0,
                       a .1,
                       a .2,
-                      ap (λ (i : Worker). i .doing) (at-other (a .0) (a .1) (λ m. apart (a .2) q (sym (a .3) ∙ ap (λ (j : ℕ). workerAt s j .doing) m ∙ e))) ∙ ap (moveOff c oc) (a .3),
+                      ap (λ (i : Worker). i .doing) (at-other (a .0) (a .1)
+                          (λ m. apart (a .2) q (sym (a .3) ∙ ap (λ (j : ℕ). workerAt s j .doing) m ∙ e))) ∙ ap (moveOff c oc) (a .3),
                       highs (a .2) ∙ a .4,
                     );
                 outside = I .outside;

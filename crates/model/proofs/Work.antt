@@ -18,7 +18,8 @@ use Rattle.model.proofs.Invariant.{Ctx, ctx, chain, pendW, pend, Good, 
 use Rattle.model.proofs.Transport.{Moves, doing-map, fits-map, current-map}
 use Rattle.model.proofs.History.{Hist}
 
-module _ (now : ℕ) (s : Store) (olds : List (List ℕ)) (h : List Call) (o : List ℕ) (p : Plain) (I : Inv now s olds h o p) (w : ℕ) (wb : w < s .site .P)
+module _ (now : ℕ) (s : Store) (olds : List (List ℕ)) (h : List Call) (o : List ℕ) (p : Plain) (I : Inv now s olds h o p) (w : ℕ)
+    (wb : w < s .site .P)
     (y : Worker) (q : List (List Range)) where
   abbrev pub after : Store
   after = withQueue (withWorker s w y) q
@@ -41,7 +42,8 @@ module _ (now : ℕ) (s : Store) (olds : List (List ℕ)) (h : List Call) (o : L
       ⊎-elim
       (λ u.
       let e : x′ .held v ≡ y .announced = ap (λ (i : ℕ). workerAt after i .announced) (u .0) ∙ ap (λ (z : Worker). z .announced) at-own in
-      ⊎-elim (λ z. inl (e ∙ z ∙ ap (λ (i : ℕ). workerAt s i .announced) (sym (u .0)))) (⊎-elim (λ z. inr (inl (e ∙ z))) (λ z. inr (inr (omega (arith, e, z))))) t)
+      ⊎-elim (λ z. inl (e ∙ z ∙ ap (λ (i : ℕ). workerAt s i .announced) (sym (u .0))))
+      (⊎-elim (λ z. inr (inl (e ∙ z))) (λ z. inr (inr (omega (arith, e, z))))) t)
       (λ u. inl (ap (λ (z : Worker). z .announced) (at-other v (u .0))))
       (eq-cases v w)
 
@@ -68,7 +70,10 @@ module _ (now : ℕ) (s : Store) (olds : List (List ℕ)) (h : List Call) (o : L
           linked = I .linked;
           stamps = λ r b. subst (λ (z : Reading). Fine (s .slots) (s .clock) z (chain x r)) (sym (H .registers r)) (I .stamps r b);
           queue = gq;
-          workers = λ v vb. ⊎-elim (λ u. subst (λ (i : ℕ). Works x′ h′ o′ p′ i (workerAt after i)) (sym (u .0)) (subst (Works x′ h′ o′ p′ w) (sym at-own) own)) (λ u. subst (Works x′ h′ o′ p′ v) (sym (at-other v (u .0))) (other v vb (u .0))) (eq-cases v w);
+          workers =
+              λ v vb. ⊎-elim (λ u. subst (λ (i : ℕ). Works x′ h′ o′ p′ i (workerAt after i)) (sym (u .0))
+              (subst (Works x′ h′ o′ p′ w) (sym at-own) own)) (λ u. subst (Works x′ h′ o′ p′ v) (sym (at-other v (u .0))) (other v vb (u .0)))
+              (eq-cases v w);
           stamper = λ r b e.
               let a = I .stamper r b e in (
                 a .0,
@@ -103,14 +108,17 @@ module _ (now : ℕ) (s : Store) (olds : List (List ℕ)) (h : List Call) (o : L
               pool = Z .pool;
               announced = Z .announced;
               snapshot = λ z. let a = Z .snapshot z in (a .0, H .copy v n ∙ a .1, a .2);
-              doing = doing-map x x′ p p′ v (workerAt s v .announced) (H .copy v n) (workerAt s v .doing) (moves (workerAt s v .announced) (workerAt s v .doing)) (Z .doing);
+              doing =
+                  doing-map x x′ p p′ v (workerAt s v .announced) (H .copy v n) (workerAt s v .doing)
+                  (moves (workerAt s v .announced) (workerAt s v .doing)) (Z .doing);
               current =
                   current-map x x′ h h′ o o′ v (workerAt s v .announced) (workerAt s v .announced) (workerAt s v .doing) (H .shut v n)
                   (λ k K f.
                   let a = H .running v n k K in (
                     a .0,
                     subst (λ (c : Operation). Fits x′ (workerAt s v .announced) c (workerAt s v .doing) (occurrences k o′)) (sym (a .1))
-                        (fits-map x x′ refl (workerAt s v .announced) (callAt h k .operation) (occurrences k o) (occurrences k o′) (a .2) (workerAt s v .doing) (λ r e z. ((λ u. (u, refl)), (λ u. u))) f),
+                        (fits-map x x′ refl (workerAt s v .announced) (callAt h k .operation) (occurrences k o) (occurrences k o′) (a .2)
+                        (workerAt s v .doing) (λ r e z. ((λ u. (u, refl)), (λ u. u))) f),
                   ))
                   (Z .current);
             }

@@ -2,10 +2,12 @@
 -- (document 01, "Refused by the record" and "Refused by the state"): 6, 1, 2, 8 or 9, 5, 3, 4, then 10 or 11, then 12 or 13.
 use mathlib.Core.Bool.{Bool, true, false, cond, not, _&&_}
 use mathlib.Core.List.{List, [], _∷_}
+use mathlib.Core.Option.{Option, none, some}
 use Prim.Native.Nat.{ℕ, zero, suc, _-_}
 use lib.Dec.{ltb, leb}
 use lib.ListN.{length, take, replicate}
-use Rattle.model.specs.Store.{absent, lastClock, reading₀, Slot, Doing, Idle, PutPublish, PutStamp, PutHandIn, FlushTake, FlushRead, FlushFree, OpenAnnounce, OpenPass, ReadEnter, ReadStand, CloseWithdraw, GetShow, startWorker, Store, Hub, blank, up, upFrom, workerAt, place}
+use Rattle.model.specs.Store.{absent, lastClock, reading₀, Slot, OpenAnnounce, CloseWithdraw, Doing, PutPublish, FlushTake, OnTime, ReadEnter, GetShow, startWorker, Store, Hub, blank, up, upFrom, workerAt, place}
+use Rattle.model.specs.About.{about}
 use Rattle.model.specs.Rules.{Rules, Ruled}
 use Rattle.model.specs.Answer.{Answer, Ok, No, Applied}
 use Rattle.model.specs.Versions.{alone}
@@ -64,68 +66,59 @@ setUp rules (blank row) z =
 ------------------------------------------------------------------------
 -- The begin of an operation
 
--- 4: the register that the operation names, if any, is below v
-unfoldable pub registerBelow : ℕ → Operation → Bool
-registerBelow v (Put r x) = ltb r v
-registerBelow v Open = true
-registerBelow v (Read r) = ltb r v
-registerBelow v Close = true
-registerBelow v (Get r) = ltb r v
-registerBelow v Collect = true
+-- what an operation asks of the announced time: nothing; that there is none, else 12; that there is one, else 13
+pub data TimeNeed : Type 0 where
+  AnyTime : TimeNeed
+  NoTime : TimeNeed
+  OwnTime : TimeNeed
 
--- 10 and 11: the worker does nothing
-unfoldable pub isIdle : Doing → Bool
-isIdle Idle = true
-isIdle (PutPublish r x) = false
-isIdle (PutStamp r c) = false
-isIdle (PutHandIn r c) = false
-isIdle FlushTake = false
-isIdle (FlushRead m ts) = false
-isIdle (FlushFree m) = false
-isIdle OpenAnnounce = false
-isIdle OpenPass = false
-isIdle (ReadEnter r) = false
-isIdle (ReadStand r c) = false
-isIdle CloseWithdraw = false
-isIdle (GetShow r) = false
+-- The terms on which an operation begins: the register that it names, if any, what it asks of the announced time, and its first place.
+pub record Terms : Type 0 where
+  pub register : Option ℕ
+  pub time : TimeNeed
+  pub first : Doing
+
+-- An operation is taken apart here. "Collect. A flush, however full the local pool."
+abbrev pub terms : Operation → Terms
+terms (Put r x) = record { register = some r; time = AnyTime; first = PutPublish r x }
+terms Open = record { register = none; time = NoTime; first = OnTime OpenAnnounce }
+terms (Read r) = record { register = some r; time = OwnTime; first = ReadEnter (record { register = r }) }
+terms Close = record { register = none; time = OwnTime; first = OnTime CloseWithdraw }
+terms (Get r) = record { register = some r; time = AnyTime; first = GetShow r }
+terms Collect = record { register = none; time = AnyTime; first = FlushTake }
+
+-- 4: the register, if there is one, is below v
+abbrev pub registerBelow : ℕ → Option ℕ → Bool
+registerBelow v none = true
+registerBelow v (some r) = ltb r v
 
 -- 12: only an open asks that no time is announced. `has`: a time is announced
-unfoldable pub mayOpen : Operation → Bool → Bool
-mayOpen (Put r x) has = true
-mayOpen Open has = not has
-mayOpen (Read r) has = true
-mayOpen Close has = true
-mayOpen (Get r) has = true
-mayOpen Collect has = true
+abbrev pub mayOpen : TimeNeed → Bool → Bool
+mayOpen AnyTime has = true
+mayOpen NoTime has = not has
+mayOpen OwnTime has = true
 
 -- 13: only a read and a close ask that a time is announced
-unfoldable pub mayUseTime : Operation → Bool → Bool
-mayUseTime (Put r x) has = true
-mayUseTime Open has = true
-mayUseTime (Read r) has = has
-mayUseTime Close has = has
-mayUseTime (Get r) has = true
-mayUseTime Collect has = true
+abbrev pub mayUseTime : TimeNeed → Bool → Bool
+mayUseTime AnyTime has = true
+mayUseTime NoTime has = true
+mayUseTime OwnTime has = has
 
--- the place at which an operation begins; "Collect. A flush, however full the local pool."
-unfoldable pub firstPlace : Operation → Doing
-firstPlace (Put r x) = PutPublish r x
-firstPlace Open = OpenAnnounce
-firstPlace (Read r) = ReadEnter r
-firstPlace Close = CloseWithdraw
-firstPlace (Get r) = GetShow r
-firstPlace Collect = FlushTake
+-- 10 and 11: the worker does nothing
+abbrev pub isIdle : Doing → Bool
+isIdle d = about d .idle
 
 -- 3 worker not below P; 4; 10; 12; 13; else begun
 unfoldable pub begin : Store → ℕ → Operation → Applied
 begin s w o =
     let has = ltb (workerAt s w .announced) absent in
-    let begun : Applied = record { hub = up (place s w (firstPlace o)); answer = Ok } in
+    let x = terms o in
+    let begun : Applied = record { hub = up (place s w (x .first)); answer = Ok } in
     unless (ltb w (s .site .P)) (up s) 3
-    (unless (registerBelow (s .site .V') o) (up s) 4
+    (unless (registerBelow (s .site .V') (x .register)) (up s) 4
     (unless (isIdle (workerAt s w .doing)) (up s) 10
-    (unless (mayOpen o has) (up s) 12
-    (unless (mayUseTime o has) (up s) 13 begun))))
+    (unless (mayOpen (x .time) has) (up s) 12
+    (unless (mayUseTime (x .time) has) (up s) 13 begun))))
 
 ------------------------------------------------------------------------
 -- A step

@@ -147,7 +147,8 @@ pub record Layout : Type 0 where
   -- the first and the last byte that an operation does not use
   pub first-unused : map decode (flagged 0 6 ∷ flagged 1 4 ∷ flagged 2 2 ∷ flagged 3 4 ∷ flagged 4 2 ∷ flagged 5 4 ∷ flagged 6 2 ∷ flagged 7 2 ∷ [])
       ≡ replicate 8 (Refuses 2)
-  pub last-unused : map decode (flagged 0 15 ∷ flagged 1 7 ∷ flagged 2 15 ∷ flagged 3 15 ∷ flagged 4 15 ∷ flagged 5 15 ∷ flagged 6 15 ∷ flagged 7 15 ∷ [])
+  pub last-unused : map decode (flagged 0 15 ∷ flagged 1 7 ∷ flagged 2 15 ∷ flagged 3 15 ∷ flagged 4 15 ∷ flagged 5 15 ∷ flagged 6 15 ∷ flagged 7 15
+      ∷ [])
       ≡ replicate 8 (Refuses 2)
   pub setup-unused : map decode (flagged 0 7 ∷ flagged 0 12 ∷ []) ≡ replicate 2 (Refuses 2)
   -- 6 before 1 before 2; a seventeenth byte is not looked at

@@ -15,9 +15,10 @@ use mathlib.Core.Option.{Option, none, some}
 use Prim.Native.Nat.{ℕ, zero, suc, _+_, _≤_, _<_}
 use lib.Dec.{ltb, leb, eqb}
 use lib.ListN.{length, getD}
-use Rattle.model.specs.Store.{absent, Reading, Slot, Doing, Idle, PutPublish, PutStamp, PutHandIn, FlushTake, FlushRead, FlushFree, OpenAnnounce, OpenPass, ReadEnter, ReadStand, CloseWithdraw, GetShow, Store, Hub, blank, up, workerAt, slotAt, newestOf}
+use Rattle.model.specs.Store.{absent, Reading, Slot, Doing, PutPublish, Store, Hub, blank, up, workerAt, slotAt, newestOf}
+use Rattle.model.specs.About.{Effect, NoEffect, ByStamp, ByClock, about}
 use Rattle.model.specs.Rules.{Ruled}
-use Rattle.model.specs.Answer.{Answer, Ok, Going, Freed, At, Value, Done, No}
+use Rattle.model.specs.Answer.{Answer, Ok, Going, Freed, Value, said}
 use Rattle.model.specs.Record.{Operation, Put, Open, Read, Close, Get, Collect, SetUp, Begin, Step, Decoded, Asks, Refuses, decode}
 use Rattle.model.specs.Apply.{takesStep, applyRuled}
 
@@ -72,35 +73,14 @@ call₀ = record { operation = Collect; worker = 0; begun = 0; ending = Unfinish
 abbrev pub callAt : List Call → ℕ → Call
 callAt h i = getD h i call₀
 
-unfoldable pub isOk : Answer → Bool
-isOk Ok = true
-isOk Going = false
-isOk (Freed c) = false
-isOk (At t) = false
-isOk (Value x) = false
-isOk Done = false
-isOk (No k) = false
+-- the end, at record i with answer a, by the refusal that it gives
+abbrev pub endBy : ℕ → Answer → Option ℕ → Ending
+endBy i a none = FinishedAt i a
+endBy i a (some k) = RefusedAt i
 
--- The answer to a step of the worker ends its operation: it is "neither `going` nor `freed S`". Only a step record of that worker between begin and
--- end counts, and each of these takes a step: `StepsTaken` below.
-unfoldable pub ends : Answer → Bool
-ends Ok = true
-ends Going = false
-ends (Freed c) = false
-ends (At t) = true
-ends (Value x) = true
-ends Done = true
-ends (No k) = true
-
--- the end, at record i with answer a
-unfoldable pub endAs : ℕ → Answer → Ending
-endAs i Ok = FinishedAt i Ok
-endAs i Going = FinishedAt i Going
-endAs i (Freed c) = FinishedAt i (Freed c)
-endAs i (At t) = FinishedAt i (At t)
-endAs i (Value x) = FinishedAt i (Value x)
-endAs i Done = FinishedAt i Done
-endAs i (No k) = RefusedAt i
+-- Only a step record of the worker between begin and end counts, and each of these takes a step: `StepsTaken` below.
+abbrev pub endAs : ℕ → Answer → Ending
+endAs i a = endBy i a (said a .refusal)
 
 -- an end is the first one: what has ended stays so
 unfoldable pub endOnce : Ending → Ending → Ending
@@ -122,8 +102,8 @@ endFor i w a c =
 unfoldable pub observe : ℕ → Decoded → Answer → List Call → List Call
 observe i (Asks (SetUp z)) a l = l
 observe i (Asks (Begin w o)) a l =
-    cond (isOk a) (l ++ (record { operation = o; worker = w; begun = i; ending = Unfinished } ∷ [])) l
-observe i (Asks (Step w)) a l = cond (ends a) (map (endFor i w a) l) l
+    cond (said a .ok) (l ++ (record { operation = o; worker = w; begun = i; ending = Unfinished } ∷ [])) l
+observe i (Asks (Step w)) a l = cond (said a .ends) (map (endFor i w a) l) l
 observe i (Refuses k) a l = l
 
 -- The calls of a list of exchanges, the first of which has number i, after the calls given. Numbers count from the record after the setup; the
@@ -213,22 +193,15 @@ stampedOver s t c = eqb (slotAt s c .high) absent && not (eqb (slotAt t c .high)
 abbrev pub passed : Store → Store → ℕ → Bool
 passed s t a = leb (s .clock) a && ltb a (t .clock)
 
--- Of a worker's place and announced time: its put is stamped, or its open's time is passed. A put whose version is unstamped stands before its
--- second step; so does an open whose time is not passed.
-unfoldable pub takesEffect : (ℕ → Bool) → (ℕ → Bool) → ℕ → Doing → Bool
-takesEffect stamped pass a Idle = false
-takesEffect stamped pass a (PutPublish r x) = false
-takesEffect stamped pass a (PutStamp r c) = stamped c
-takesEffect stamped pass a (PutHandIn r c) = false
-takesEffect stamped pass a FlushTake = false
-takesEffect stamped pass a (FlushRead m ts) = false
-takesEffect stamped pass a (FlushFree m) = false
-takesEffect stamped pass a OpenAnnounce = false
-takesEffect stamped pass a OpenPass = pass a
-takesEffect stamped pass a (ReadEnter r) = false
-takesEffect stamped pass a (ReadStand r c) = false
-takesEffect stamped pass a CloseWithdraw = false
-takesEffect stamped pass a (GetShow r) = false
+-- Of the effect that a worker's place waits for and its announced time: its put is stamped, or its open's time is passed. A put whose version is
+-- unstamped stands before its second step; so does an open whose time is not passed.
+abbrev pub comes : (ℕ → Bool) → (ℕ → Bool) → ℕ → Effect → Bool
+comes stamped pass a NoEffect = false
+comes stamped pass a (ByStamp c) = stamped c
+comes stamped pass a ByClock = pass a
+
+abbrev pub takesEffect : (ℕ → Bool) → (ℕ → Bool) → ℕ → Doing → Bool
+takesEffect stamped pass a d = comes stamped pass a (about d .effect)
 
 -- the numbers below n that pass a test, lowest first
 unfoldable pub filterBelow : (ℕ → Bool) → ℕ → List ℕ
@@ -251,15 +224,13 @@ atEnd Close = true
 atEnd (Get r) = true
 atEnd Collect = true
 
--- the answer finishes an operation
-unfoldable pub finishes : Answer → Bool
-finishes Ok = true
-finishes Going = false
-finishes (Freed c) = false
-finishes (At t) = true
-finishes (Value x) = true
-finishes Done = true
-finishes (No k) = false
+-- the answer finishes an operation: it ends it and is no refusal
+abbrev pub isNone : Option ℕ → Bool
+isNone none = true
+isNone (some k) = false
+
+abbrev pub finishes : Answer → Bool
+finishes a = said a .ends && isNone (said a .refusal)
 
 -- the call of worker w that a step answered a finishes, where it takes effect at its end
 unfoldable pub endEffects : List Call → ℕ → Answer → List ℕ
@@ -323,13 +294,21 @@ AnswersWith Unfinished x = Unit {0}
 AnswersWith (RefusedAt i) x = Unit {0}
 AnswersWith (FinishedAt i a) x = (n : Reading) × (x ≡ some n) × (a ≡ Value n)
 
+-- the operations that show something
+abbrev pub showing : Operation → Bool
+showing (Put r x) = false
+showing Open = false
+showing (Read r) = true
+showing Close = false
+showing (Get r) = true
+showing Collect = false
+
+abbrev pub AgreesIf : Bool → Ending → Option Reading → Type 0
+AgreesIf true e s = AnswersWith e s
+AgreesIf false e s = Unit {0}
+
 abbrev pub Agrees : Operation → Ending → Option Reading → Type 0
-Agrees (Put r x) e s = Unit {0}
-Agrees Open e s = Unit {0}
-Agrees (Read r) e s = AnswersWith e s
-Agrees Close e s = Unit {0}
-Agrees (Get r) e s = AnswersWith e s
-Agrees Collect e s = Unit {0}
+Agrees c e s = AgreesIf (showing c) e s
 
 -- "They are fed the operations in the order, each with the worker, register and value of its record and with no answer": from plain
 -- registers p on, along o

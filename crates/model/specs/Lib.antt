@@ -1,5 +1,6 @@
 -- Document 01 as definitions, in its order.
 pub mod Store
+pub mod About
 pub mod Batch
 pub mod Rules
 pub mod Answer

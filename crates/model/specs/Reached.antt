@@ -7,7 +7,8 @@ use mathlib.Core.List.{List, [], _∷_}
 use Prim.Native.Nat.{ℕ, zero, suc, _+_, _*_, _-_, _≤_, _<_}
 use lib.Dec.{ltb}
 use lib.ListN.{length}
-use Rattle.model.specs.Store.{lastClock, Reading, Slot, Doing, Idle, PutPublish, PutStamp, PutHandIn, FlushTake, FlushRead, FlushFree, OpenAnnounce, OpenPass, ReadEnter, ReadStand, CloseWithdraw, GetShow, Worker, Store, Hub, blank, up, workerAt, slotAt, newestOf}
+use Rattle.model.specs.Store.{lastClock, Reading, Slot, PutPublish, Worker, Store, Hub, blank, up, workerAt, slotAt, newestOf}
+use Rattle.model.specs.About.{Hand, Empty, Covered, Merged, Needless, about}
 use Rattle.model.specs.Rules.{Rules, Allowed, Ruled}
 use Rattle.model.specs.Answer.{Ok, No}
 use Rattle.model.specs.Steps.{stepAt}
@@ -22,25 +23,16 @@ sumBy f (x ∷ l) = f x + sumBy f l
 ------------------------------------------------------------------------
 -- Bounds
 
--- how many versions a worker's place holds: the one that a put covers, those of a merged list, the needless ones not yet freed
-abbrev pub inHand : Doing → ℕ
-inHand Idle = 0
-inHand (PutPublish r x) = 0
-inHand (PutStamp r c) = 1
-inHand (PutHandIn r c) = 1
-inHand FlushTake = 0
-inHand (FlushRead m ts) = length m
-inHand (FlushFree m) = length m
-inHand OpenAnnounce = 0
-inHand OpenPass = 0
-inHand (ReadEnter r) = 0
-inHand (ReadStand r c) = 0
-inHand CloseWithdraw = 0
-inHand (GetShow r) = 0
+-- how many versions a place has in hand
+abbrev pub inHand : Hand → ℕ
+inHand Empty = 0
+inHand (Covered c) = 1
+inHand (Merged m ts) = length m
+inHand (Needless m) = length m
 
 -- how many versions a worker holds
 abbrev pub versionsHeld : Worker → ℕ
-versionsHeld x = inHand (x .doing) + length (x .pool)
+versionsHeld x = inHand (about (x .doing) .hand) + length (x .pool)
 
 pub record Bounds (s : Store) : Type 0 where
   -- "P workers (1 to 16), V registers (1 to 256), N slots (V to 2048), a 32-bit clock"
@@ -53,7 +45,7 @@ pub record Bounds (s : Store) : Type 0 where
   -- and a local pool holds at most B
   pub local : All (λ x. length (x .pool) ≤ s .site .B) (s .workers)
   -- a merged list, and what is left of it to free, has at most 4B
-  pub merged : All (λ x. inHand (x .doing) ≤ 4 * s .site .B) (s .workers)
+  pub merged : All (λ x. inHand (about (x .doing) .hand) ≤ 4 * s .site .B) (s .workers)
   -- a queued pool has 1 to 2B
   pub queued : All (λ l. (1 ≤ length l) × (length l ≤ 2 * s .site .B)) (s .queue)
   -- the versions in pools, merged lists and puts, the free slots and the newest versions together are N

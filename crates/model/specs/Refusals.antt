@@ -4,10 +4,11 @@
 use mathlib.Core.Path.{_≡_}
 use mathlib.Core.Bool.{cond}
 use mathlib.Core.List.{List, [], _∷_}
+use mathlib.Core.Option.{Option, none, some}
 use Prim.Native.Nat.{ℕ, _<_}
 use Rattle.model.specs.Store.{Idle, Hub, blank, up, place}
 use Rattle.model.specs.Rules.{Rules}
-use Rattle.model.specs.Answer.{Answer, Ok, Going, Freed, At, Value, Done, No}
+use Rattle.model.specs.Answer.{Answer, said}
 use Rattle.model.specs.Record.{SetUp, Begin, Step, Decoded, Asks, Refuses, decode}
 use Rattle.model.specs.Apply.{takesStep, apply}
 use Rattle.model.specs.Demand.{occurrences}
@@ -35,15 +36,13 @@ pub record Refused (h : Hub) (d : Decoded) (k : ℕ) (after : Hub) : Type 0 wher
   -- "Each gives its number and leaves the store untouched; 14 and 15 set the worker idle and change nothing else."
   pub leaves : after ≡ cond (takesStep h d) (idled h d) h
 
--- What is claimed of a hub h, a record that reads as d, its answer and the hub after it.
+-- What is claimed of a hub h, a record that reads as d, the refusal in its answer, if it is one, and the hub after it.
+abbrev pub EndsBy : Hub → Decoded → Option ℕ → Hub → Type 0
+EndsBy h d none after = Unit {0}
+EndsBy h d (some k) after = Refused h d k after
+
 abbrev pub EndsWell : Hub → Decoded → Answer → Hub → Type 0
-EndsWell h d Ok after = Unit {0}
-EndsWell h d Going after = Unit {0}
-EndsWell h d (Freed c) after = Unit {0}
-EndsWell h d (At t) after = Unit {0}
-EndsWell h d (Value x) after = Unit {0}
-EndsWell h d Done after = Unit {0}
-EndsWell h d (No k) after = Refused h d k after
+EndsWell h d a after = EndsBy h d (said a .refusal) after
 
 -- under the rules given, whatever they are
 abbrev pub Demand1 : Rules → Type 0

@@ -4,7 +4,8 @@ use mathlib.Core.List.{List, [], _∷_, _++_, map}
 use Prim.Native.Nat.{ℕ, _+_}
 use lib.Dec.{ltb, leb, eqb}
 use lib.ListN.{length, set, drop}
-use Rattle.model.specs.Store.{absent, lastClock, Reading, Range, Doing, Idle, PutPublish, PutStamp, PutHandIn, FlushTake, FlushRead, FlushFree, OpenAnnounce, OpenPass, ReadEnter, ReadStand, CloseWithdraw, GetShow, Worker, Store, workerAt, slotAt, newestOf, holders, held, rangeOf, withClock, withSlots, withNewest, withFree, withQueue, withWorkers, withWorker, withDoing, place}
+use Rattle.model.specs.Store.{absent, lastClock, Reading, Range, TimeStep, OpenAnnounce, OpenPass, CloseWithdraw, Goal, Doing, Idle, PutPublish, PutStamp, PutHandIn, FlushTake, FlushRead, FlushFree, OnTime, ReadEnter, ReadStand, GetShow, Worker, Store, workerAt, slotAt, newestOf, holders, held, rangeOf, withClock, withSlots, withNewest, withFree, withQueue, withWorkers, withWorker, withDoing, place}
+use Rattle.model.specs.About.{Stance, Nowhere, StandsOn, about}
 use Rattle.model.specs.Answer.{Answer, Going, Freed, At, Value, Done, No, Stepped}
 use Rattle.model.specs.Versions.{stamp, linkSlots, unlinkSlots}
 use Rattle.model.specs.Ranges.{firstTwo, merge, neededOf, needlessOf, neededPools, joining, queuedPool}
@@ -89,20 +90,12 @@ flushRead s w m ts =
     cond (ltb (length ts) (holders s)) more last
 
 -- "A read standing on it moves to its older neighbour": from slot c to slot o
+abbrev pub moveTo : ℕ → ℕ → Doing → Stance → Doing
+moveTo c o d Nowhere = d
+moveTo c o d (StandsOn g e) = ReadStand g (cond (eqb e c) o e)
+
 unfoldable pub moveOff : ℕ → ℕ → Doing → Doing
-moveOff c o Idle = Idle
-moveOff c o (PutPublish r x) = PutPublish r x
-moveOff c o (PutStamp r d) = PutStamp r d
-moveOff c o (PutHandIn r d) = PutHandIn r d
-moveOff c o FlushTake = FlushTake
-moveOff c o (FlushRead m ts) = FlushRead m ts
-moveOff c o (FlushFree m) = FlushFree m
-moveOff c o OpenAnnounce = OpenAnnounce
-moveOff c o OpenPass = OpenPass
-moveOff c o (ReadEnter r) = ReadEnter r
-moveOff c o (ReadStand r d) = ReadStand r (cond (eqb d c) o d)
-moveOff c o CloseWithdraw = CloseWithdraw
-moveOff c o (GetShow r) = GetShow r
+moveOff c o d = moveTo c o d (about d .stance)
 
 unfoldable pub workerOff : ℕ → ℕ → Worker → Worker
 workerOff c o x = withDoing x (moveOff c o (x .doing))
@@ -131,7 +124,7 @@ openAnnounce s w =
     let last : Stepped = record { store = place s w Idle; answer = No 15 } in
     let more : Stepped =
     record {
-      store = withWorker s w (record { doing = OpenPass; announced = s .clock; pool = workerAt s w .pool });
+      store = withWorker s w (record { doing = OnTime OpenPass; announced = s .clock; pool = workerAt s w .pool });
       answer = Going;
     } in
     cond (eqb (s .clock) lastClock) last more
@@ -153,14 +146,16 @@ unfoldable pub answerFor : Reading → Answer
 answerFor x = Value x
 
 -- Read (1) "Stamp the register, stand on its newest version."
-unfoldable pub readEnter : Store → ℕ → ℕ → Stepped
-readEnter s w r = record { store = place (stamp s r) w (ReadStand r (newestOf s r)); answer = Going }
+unfoldable pub readEnter : Store → ℕ → Goal → Stepped
+readEnter s w g =
+    let r = g .register in
+    record { store = place (stamp s r) w (ReadStand g (newestOf s r)); answer = Going }
 
 -- Read (2) "If its low is at most the worker's time, answer its value; else move to the older one. Repeat (2)."
-unfoldable pub readStand : Store → ℕ → ℕ → ℕ → Stepped
-readStand s w r c =
+unfoldable pub readStand : Store → ℕ → Goal → ℕ → Stepped
+readStand s w g c =
     let found : Stepped = record { store = place s w Idle; answer = answerFor (slotAt s c .value) } in
-    let on : Stepped = record { store = place s w (ReadStand r (slotAt s c .older)); answer = Going } in
+    let on : Stepped = record { store = place s w (ReadStand g (slotAt s c .older)); answer = Going } in
     cond (leb (slotAt s c .low) (workerAt s w .announced)) found on
 
 -- Get: "Stamp, answer the newest value."
@@ -179,6 +174,11 @@ closeWithdraw s w =
 ------------------------------------------------------------------------
 -- One step of worker w, which is at the place given. An idle worker has none: refusal 11.
 
+unfoldable pub timeStep : Store → ℕ → TimeStep → Stepped
+timeStep s w OpenAnnounce = openAnnounce s w
+timeStep s w OpenPass = openPass s w
+timeStep s w CloseWithdraw = closeWithdraw s w
+
 unfoldable pub stepAt : Store → ℕ → Doing → Stepped
 stepAt s w Idle = record { store = s; answer = No 11 }
 stepAt s w (PutPublish r x) = putPublish s w r x (s .free)
@@ -187,9 +187,7 @@ stepAt s w (PutHandIn r c) = putHandIn s w c
 stepAt s w FlushTake = flushTake s w
 stepAt s w (FlushRead m ts) = flushRead s w m ts
 stepAt s w (FlushFree m) = flushFree s w m
-stepAt s w OpenAnnounce = openAnnounce s w
-stepAt s w OpenPass = openPass s w
-stepAt s w (ReadEnter r) = readEnter s w r
-stepAt s w (ReadStand r c) = readStand s w r c
-stepAt s w CloseWithdraw = closeWithdraw s w
+stepAt s w (OnTime y) = timeStep s w y
+stepAt s w (ReadEnter g) = readEnter s w g
+stepAt s w (ReadStand g c) = readStand s w g c
 stepAt s w (GetShow r) = getShow s w r

@@ -34,6 +34,16 @@ pub record Range : Type 0 where
   pub low : ℕ
   pub high : ℕ
 
+-- A step that moves the worker's time and no version: open (1) and (2), close.
+pub data TimeStep : Type 0 where
+  OpenAnnounce : TimeStep
+  OpenPass : TimeStep
+  CloseWithdraw : TimeStep
+
+-- what a read is for: the register that it reads
+pub record Goal : Type 0 where
+  pub register : ℕ
+
 -- What a worker is doing: "nothing, or one operation with its place in it". A place is named after the step that comes next.
 pub data Doing : Type 0 where
   Idle : Doing
@@ -49,15 +59,13 @@ pub data Doing : Type 0 where
   FlushRead : List Range → List ℕ → Doing
   -- flush (4), and (5) once none is left: the needless ranges not yet freed
   FlushFree : List Range → Doing
-  -- open (1) and (2)
-  OpenAnnounce : Doing
-  OpenPass : Doing
-  -- read (1): the register
-  ReadEnter : ℕ → Doing
-  -- read (2): the register and the slot on which the read stands
-  ReadStand : ℕ → ℕ → Doing
-  CloseWithdraw : Doing
-  -- the register
+  -- open (1) and (2), close
+  OnTime : TimeStep → Doing
+  -- read (1)
+  ReadEnter : Goal → Doing
+  -- read (2): also the slot on which the read stands
+  ReadStand : Goal → ℕ → Doing
+  -- get: the register
   GetShow : ℕ → Doing
 
 -- "A worker's record says what it is doing (nothing, or one operation with its place in it), its announced time or none, and its local pool."

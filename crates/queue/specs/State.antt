@@ -31,7 +31,14 @@ room q n = ltb 0 n && ltb (q .pools) 2048 && leb (q .queued + n) 2048
 
 -- src's first n ranges as a pool at the end; an empty pool is not queued, nor one without room
 unfoldable pub pushed : Queue → List ℕ → ℕ → Queue
-pushed q src n = cond (room q n) (record { queue = overAt (3 * q .queued) (take (3 * n) src) (q .queue); lens = set (q .lens) (q .pools) n; pools = q .pools + 1; queued = q .queued + n }) q
+pushed q src n =
+    cond (room q n) (record {
+      queue = overAt (3 * q .queued) (take (3 * n) src) (q .queue);
+      lens = set (q .lens)
+          (q .pools) n;
+      pools = q .pools + 1;
+      queued = q .queued + n;
+    }) q
 
 ------------------------------------------------------------------------
 -- Up to two pools less
@@ -57,7 +64,14 @@ taken q = cond (mayTake q) (merge (rangesAt (q .queue) 0 (firstLength q)) (range
 
 -- and the rest moves to the front
 unfoldable pub rest : Queue → Queue
-rest q = cond (mayTake q) (record { queue = shifted (q .queue) (3 * firstRanges q) (3 * q .queued); lens = shifted (q .lens) (min 2 (q .pools)) (q .pools); pools = q .pools - 2; queued = q .queued - firstRanges q }) q
+rest q =
+    cond (mayTake q) (record {
+      queue = shifted (q .queue) (3 * firstRanges q) (3 * q .queued);
+      lens = shifted (q .lens) (min 2 (q .pools))
+          (q .pools);
+      pools = q .pools - 2;
+      queued = q .queued - firstRanges q;
+    }) q
 
 -- what taking makes of the queue q₀ and of the memory for the merged list, and how many ranges that has
 pub record Took (q₀ q : Queue) (merged₀ merged : List ℕ) (count : ℕ) : Type 0 where

@@ -5,8 +5,10 @@ use mathlib.Core.List.{List}
 use Prim.Native.Nat.{ℕ, zero, suc, _+_, _*_}
 use lib.Dec.{ltb, leb, eqb}
 use lib.ListN.{getD}
-use Rattle.worker.specs.declared.Doing.{Doing}
-use Rattle.worker.specs.declared.Doing.the-variants.{Idle, PutPublish, PutStamp, PutHandIn, FlushTake, FlushRead, FlushFree, OpenAnnounce, OpenPass, ReadEnter, ReadStand, CloseWithdraw, GetShow}
+use Rattle.worker.specs.declared.Named.{Named}
+use Rattle.worker.specs.declared.Named.the-variants.{Nothing, Is}
+use Rattle.worker.specs.declared.Facts.{Facts}
+use Rattle.worker.specs.About.{aboutOf}
 use Rattle.worker.specs.declared.Pool.{Pool}
 use Rattle.worker.specs.declared.Worker.{Worker}
 use Rattle.state.specs.declared.Hub.{Hub}
@@ -30,42 +32,26 @@ poolFits q n = cond (ltb 64 (q .len)) false (belowTo (q .slots) n (q .len))
 abbrev pub listFits : ℕ → ℕ → List ℕ → ℕ → Bool
 listFits m w merged n = cond (ltb 256 m) false (slotsBelow merged (256 * w) n m)
 
-abbrev pub handIn : Doing → ℕ → List ℕ → ℕ → Bool
-handIn Idle w merged n = true
-handIn (PutPublish r x) w merged n = true
-handIn (PutStamp r c) w merged n = true
-handIn (PutHandIn r c) w merged n = true
-handIn FlushTake w merged n = true
-handIn (FlushRead m k) w merged n = listFits m w merged n
-handIn (FlushFree m) w merged n = listFits m w merged n
-handIn OpenAnnounce w merged n = true
-handIn OpenPass w merged n = true
-handIn (ReadEnter r) w merged n = true
-handIn (ReadStand r c) w merged n = true
-handIn CloseWithdraw w merged n = true
-handIn (GetShow r) w merged n = true
+abbrev pub handIn : Named → ℕ → List ℕ → ℕ → Bool
+handIn Nothing w merged n = true
+handIn (Is m) w merged n = listFits m w merged n
 
-unfoldable pub handFits : Doing → ℕ → List ℕ → ℕ → Bool
-handFits d w merged n = cond (leb 16 w) false (handIn d w merged n)
+unfoldable pub handFits : Named → ℕ → List ℕ → ℕ → Bool
+handFits x w merged n = cond (leb 16 w) false (handIn x w merged n)
+
+-- a register or a slot, if there is one, is below n
+abbrev pub namedBelow : Named → ℕ → Bool
+namedBelow Nothing n = true
+namedBelow (Is i) n = ltb i n
 
 -- registers below V, slots below N, and no more times read than there are workers
-unfoldable pub placeFits : Doing → ℕ → ℕ → ℕ → Bool
-placeFits Idle p v n = true
-placeFits (PutPublish r x) p v n = ltb r v
-placeFits (PutStamp r c) p v n = ltb r v && ltb c n
-placeFits (PutHandIn r c) p v n = ltb r v && ltb c n
-placeFits FlushTake p v n = true
-placeFits (FlushRead m k) p v n = leb k p
-placeFits (FlushFree m) p v n = true
-placeFits OpenAnnounce p v n = true
-placeFits OpenPass p v n = true
-placeFits (ReadEnter r) p v n = ltb r v
-placeFits (ReadStand r c) p v n = ltb r v && ltb c n
-placeFits CloseWithdraw p v n = true
-placeFits (GetShow r) p v n = ltb r v
+unfoldable pub placeFits : Facts → ℕ → ℕ → ℕ → Bool
+placeFits y p v n = namedBelow (y .register) v && namedBelow (y .slot) n && leb (y .read) p
 
 unfoldable pub workerFits : Worker → ℕ → List ℕ → ℕ → ℕ → ℕ → Bool
-workerFits x w merged p v n = placeFits (x .doing) p v n && poolFits (x .pool) n && handFits (x .doing) w merged n
+workerFits x w merged p v n =
+    let y = aboutOf (x .doing) in
+    placeFits y p v n && poolFits (x .pool) n && handFits (y .ranges) w merged n
 
 -- the first k workers
 unfoldable pub workersFit : Hub → List ℕ → ℕ → Bool

@@ -2,9 +2,10 @@
 ghost use mathlib.Core.Path.{_≡_};
 ghost use Prim.Native.Nat.{_+_, _*_, _<_, _≤_};
 ghost use lib.ListN.{length};
-ghost use Rattle.ready.specs.Ready.{belowTo, slotsBelow, poolFits, listFits, handFits, placeFits, workerFits, workersFit, lensFit, lensSum, sizesFit, readyOf};
+ghost use Rattle.ready.specs.Ready.{belowTo, slotsBelow, poolFits, listFits, handFits, namedBelow, placeFits, workerFits, workersFit, lensFit, lensSum, sizesFit, readyOf};
 use state::Hub;
-use worker::Doing;
+use worker::Facts;
+use worker::Named;
 use worker::Pool;
 use worker::Worker;
 
@@ -67,37 +68,36 @@ fn list_fits(m: u16, w: usize, merged: &[u32; 12288], n: u32) -> bool
     slots_below(merged, 256 * w, wide16(m), n)
 }
 
-// The same of the list that belongs to worker w's place, if there is one.
-fn hand_fits(d: Doing, w: usize, merged: &[u32; 12288], n: u32) -> bool
-    ensures { λ r. ⌜ r ≡ handFits d w (now (merged .entry)) n ⌝ }
+// The same of the list that worker w's place has, if there is one.
+fn hand_fits(ranges: Named, w: usize, merged: &[u32; 12288], n: u32) -> bool
+    ensures { λ r. ⌜ r ≡ handFits ranges w (now (merged .entry)) n ⌝ }
 {
     if 16 <= w {
         return false;
     }
-    match d {
-        Doing::FlushRead { merged: m, read: _ } => list_fits(m, w, merged, n),
-        Doing::FlushFree { left } => list_fits(left, w, merged, n),
-        _ => true,
+    match ranges {
+        Named::Nothing => true,
+        Named::Is(m) => list_fits(m, w, merged, n),
     }
 }
 
-// Whether a worker's place is in range.
-fn place_fits(d: Doing, p: u8, v: u16, n: u16) -> bool
-    ensures { λ r. ⌜ r ≡ placeFits d p v n ⌝ }
+// Whether a register or a slot, if there is one, is below n.
+fn below(x: Named, n: u16) -> bool
+    ensures { λ r. ⌜ r ≡ namedBelow x n ⌝ }
 {
-    match d {
-        Doing::PutPublish {
-            register,
-            reading: _,
-        } => register < v,
-        Doing::PutStamp { register, covered } => (register < v) & (covered < n),
-        Doing::PutHandIn { register, covered } => (register < v) & (covered < n),
-        Doing::FlushRead { merged: _, read } => read <= p,
-        Doing::ReadEnter { register } => register < v,
-        Doing::ReadStand { register, slot } => (register < v) & (slot < n),
-        Doing::GetShow { register } => register < v,
-        _ => true,
+    match x {
+        Named::Nothing => true,
+        Named::Is(i) => i < n,
     }
+}
+
+// Whether the register, the slot and the count of times that a worker's place names are in range.
+fn place_fits(y: Facts, p: u8, v: u16, n: u16) -> bool
+    ensures { λ r. ⌜ r ≡ placeFits y p v n ⌝ }
+{
+    let register = y.register;
+    let slot = y.slot;
+    (below(register, v) & below(slot, n)) & (y.read <= p)
 }
 
 // Whether worker w's record x is in range.
@@ -105,8 +105,10 @@ fn worker_fits(x: Worker, w: usize, merged: &[u32; 12288], p: u8, v: u16, n: u16
     ensures { λ r. ⌜ r ≡ workerFits x w (now (merged .entry)) p v n ⌝ }
 {
     let d = x.doing;
+    let y = worker::about(d);
+    let ranges = y.ranges;
     let q = x.pool;
-    (place_fits(d, p, v, n) & pool_fits(q, n)) & hand_fits(d, w, merged, n as u32)
+    (place_fits(y, p, v, n) & pool_fits(q, n)) & hand_fits(ranges, w, merged, n as u32)
 }
 
 // Whether the first p workers' records are in range.

@@ -25,13 +25,15 @@ storing-start d from n x =
     let f : from + 0 ≡ from = omega arith in
     record { within = omega arith; kept = refl; bytes = rw (e, f) }
 
-pub storing-turn : (d₀ d : List ℕ) (from n x rest i : ℕ) → Storing d₀ d from n x rest i → i < n → Storing d₀ (set d (from + i) (rest % 256)) from n x (rest / 256) (i + 1)
+pub storing-turn : (d₀ d : List ℕ) (from n x rest i : ℕ) → Storing d₀ d from n x rest i → i < n
+    → Storing d₀ (set d (from + i) (rest % 256)) from n x (rest / 256) (i + 1)
 storing-turn d₀ d from n x rest i w h =
     let e : n - i ≡ suc (n - (i + 1)) = omega arith in
     let f : from + (i + 1) ≡ suc (from + i) = omega arith in
     record { within = omega arith; kept = length-set d (from + i) (rest % 256) ∙ w .kept; bytes = rw f (rw e at (w .bytes)) }
 
-pub storing-end : (d₀ d : List ℕ) (from n x rest i : ℕ) → Storing d₀ d from n x rest i → n ≤ i → from + n ≤ length d₀ → d ≡ overAt from (bytesOf n x) d₀
+pub storing-end : (d₀ d : List ℕ) (from n x rest i : ℕ) → Storing d₀ d from n x rest i → n ≤ i → from + n ≤ length d₀
+    → d ≡ overAt from (bytesOf n x) d₀
 unfolding overAt
 storing-end d₀ d from n x rest i w h k =
     let e : n - i ≡ 0 = omega arith in

@@ -9,14 +9,17 @@ use Rattle.lists.specs.Over.{overAt}
 use Rattle.model.specs.Row.{bytesOf}
 
 -- numbers of 2, 2, 4 and 8 bytes, stored one after the other, fill sixteen bytes
-pub four-numbers : (d : List ℕ) (r z t v : ℕ) → length d ≡ 16 → overAt 8 (bytesOf 8 v) (overAt 4 (bytesOf 4 t) (overAt 2 (bytesOf 2 z) (overAt 0 (bytesOf 2 r) d))) ≡ bytesOf 2 r ++ bytesOf 2 z ++ bytesOf 4 t ++ bytesOf 8 v
+pub four-numbers : (d : List ℕ) (r z t v : ℕ) → length d ≡ 16
+    → overAt 8 (bytesOf 8 v) (overAt 4 (bytesOf 4 t) (overAt 2 (bytesOf 2 z) (overAt 0 (bytesOf 2 r) d))) ≡ bytesOf 2 r ++ bytesOf 2 z ++ bytesOf 4 t
+    ++ bytesOf 8 v
 unfolding overAt
 four-numbers d r z t v h =
     let e : drop 8 (drop 4 (drop 2 (drop 2 d))) ≡ [] = simp drop-drop (drop-of-length-le d {i = 16} (omega arith)) in
     ap (λ (l : List ℕ). bytesOf 2 r ++ bytesOf 2 z ++ bytesOf 4 t ++ bytesOf 8 v ++ l) e
 
 -- sixteen bytes that were lent on from place i come back
-pub row-back : (buf part row : List ℕ) (i : ℕ) → part ≡ row → take i buf ++ (part ++ drop (i + 16 - i) (drop i buf)) ≡ take i buf ++ row ++ drop (i + 16) buf
+pub row-back : (buf part row : List ℕ) (i : ℕ) → part ≡ row
+    → take i buf ++ (part ++ drop (i + 16 - i) (drop i buf)) ≡ take i buf ++ row ++ drop (i + 16) buf
 row-back buf part row i h =
     let e : i + (i + 16 - i) ≡ i + 16 = omega arith in
     rw (h, drop-drop, e, append-assoc)

@@ -98,7 +98,13 @@ module _ (s : Store) (S : Sound s) (m : Memory) (Z : Sized m) where
       record {
         workers =
             length-over (map workerRep (s .workers)) (replicate 16 (workerRep startWorker))
-            (omega (arith, length-map (s .workers) workerRep, length-replicate 16 (workerRep startWorker), S .bounds .workers .1, S .bounds .workers .2))
+            (omega (
+              arith,
+              length-map (s .workers) workerRep,
+              length-replicate 16 (workerRep startWorker),
+              S .bounds .workers .1,
+              S .bounds .workers .2,
+            ))
             ∙ length-replicate 16 (workerRep startWorker);
         newest = length-over (s .newest) (m .newest) (omega (arith, Z .newest, S .bounds .registers .1, S .bounds .registers .2)) ∙ Z .newest;
         free =

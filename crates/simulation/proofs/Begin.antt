@@ -8,13 +8,15 @@ use Rattle.model.specs.Store as Model
 use Rattle.model.specs.Store.{Store, up, workerAt, withDoing, place}
 use Rattle.model.specs.Answer as Answers
 use Rattle.model.specs.Record as Record
-use Rattle.model.specs.Apply.{firstPlace}
+use Rattle.model.specs.About.{Facts}
+use Rattle.model.specs.Apply.{terms}
+use Rattle.model.proofs.View.{first-about}
 use Rattle.worker.specs.declared.Worker.{Worker}
-use Rattle.worker.specs.Rep.{doingRep, timesRep, workerRep}
+use Rattle.worker.specs.Rep.{doingRep, timesIn, timesRep, workerRep}
 use Rattle.state.specs.declared.Hub.{Hub}
 use Rattle.state.specs.State.{workerIn, withWorkerIn, atPlace}
 use Rattle.gate.specs.declared.Gate.the-variants.{Start}
-use Rattle.simulation.specs.Memory.{Memory, hubRep, inHandWords, write}
+use Rattle.simulation.specs.Memory.{Memory, hubRep, handWords, inHandWords, write}
 use Rattle.simulation.specs.Left.{Sized}
 use Rattle.simulation.specs.Shell.{obeyIn}
 use Rattle.simulation.proofs.Sound.{Sound}
@@ -22,44 +24,33 @@ use Rattle.simulation.proofs.Laid.{memory-path, hub-is, slots-is, newes
 use Rattle.simulation.proofs.Refuse.{Follows}
 
 -- an operation begins with no time read and no list in hand
-first-times : (o : Record.Operation) → timesRep (firstPlace o) ≡ replicate 16 0
-unfolding firstPlace
-first-times (Record.Put r x) = refl
-first-times Record.Open = refl
-first-times (Record.Read r) = refl
-first-times Record.Close = refl
-first-times (Record.Get r) = refl
-first-times Record.Collect = refl
+first-times : (o : Record.Operation) → timesRep (terms o .first) ≡ replicate 16 0
+first-times o = ap (λ (y : Facts). timesIn (y .hand)) (first-about o)
 
-first-hand : (o : Record.Operation) → inHandWords Model.Idle ≡ inHandWords (firstPlace o) ++ []
-unfolding firstPlace inHandWords
-first-hand (Record.Put r x) = refl
-first-hand Record.Open = refl
-first-hand (Record.Read r) = refl
-first-hand Record.Close = refl
-first-hand (Record.Get r) = refl
-first-hand Record.Collect = refl
+first-hand : (o : Record.Operation) → inHandWords Model.Idle ≡ inHandWords (terms o .first) ++ []
+unfolding handWords
+first-hand o = sym (ap (λ (y : Facts). handWords (y .hand) ++ []) (first-about o))
 
 module _ (s : Store) (m : Memory) (S : Sound s) (Z : Sized m) (laid : m ≡ write s m)
     (w : ℕ) (inside : w < s .site .P) (idle : workerAt s w .doing ≡ Model.Idle) (o : Record.Operation) where
   abbrev begunWorker : Model.Worker
-  begunWorker = withDoing (workerAt s w) (firstPlace o)
+  begunWorker = withDoing (workerAt s w) (terms o .first)
 
-  begun-worker : atPlace (workerRep (workerAt s w)) (doingRep (firstPlace o)) ≡ workerRep begunWorker
+  begun-worker : atPlace (workerRep (workerAt s w)) (doingRep (terms o .first)) ≡ workerRep begunWorker
   begun-worker =
       let x : Worker = workerRep (workerAt s w) in
-      ap (λ (l : List ℕ). record { doing = doingRep (firstPlace o); announced = x .announced; pool = x .pool; times = l })
+      ap (λ (l : List ℕ). record { doing = doingRep (terms o .first); announced = x .announced; pool = x .pool; times = l })
       (ap timesRep idle ∙ sym (first-times o))
 
-  begun-hub : withWorkerIn (m .hub) w (atPlace (workerIn (m .hub) w) (doingRep (firstPlace o))) ≡ hubRep (place s w (firstPlace o))
+  begun-hub : withWorkerIn (m .hub) w (atPlace (workerIn (m .hub) w) (doingRep (terms o .first))) ≡ hubRep (place s w (terms o .first))
   begun-hub =
-      ap (λ (h : Hub). withWorkerIn h w (atPlace (workerIn h w) (doingRep (firstPlace o)))) (hub-is s m laid)
-      ∙ ap (λ (x : Worker). withWorkerIn (hubRep s) w (atPlace x (doingRep (firstPlace o)))) (worker-at s S w inside (workerAt s w .doing) refl)
+      ap (λ (h : Hub). withWorkerIn h w (atPlace (workerIn h w) (doingRep (terms o .first)))) (hub-is s m laid)
+      ∙ ap (λ (x : Worker). withWorkerIn (hubRep s) w (atPlace x (doingRep (terms o .first)))) (worker-at s S w inside (workerAt s w .doing) refl)
       ∙ ap (withWorkerIn (hubRep s) w) begun-worker
       ∙ worker-put s S w inside begunWorker
 
   -- the code begins the operation as the model does
-  pub begun : Follows m (Start w (doingRep (firstPlace o))) (record { hub = up (place s w (firstPlace o)); answer = Answers.Ok })
+  pub begun : Follows m (Start w (doingRep (terms o .first))) (record { hub = up (place s w (terms o .first)); answer = Answers.Ok })
   unfolding obeyIn
   begun =
       record {

@@ -24,7 +24,8 @@ pub three : (s : List Slot) (up d : ℕ) (l : List ℕ) (c : ℕ) → Linked s u
 unfolding occurrences
 three s up d [] c t h one b = absurd (omega arith)
 three s up d (e ∷ l) c t h one b =
-    ⊎-elim own (λ x. three s d e l c (t .2) (omega (arith, hit-other e c (x .0))) (λ i. omega (arith, one i)) (λ i y. b i (omega (arith, y)))) (eq-cases e c)
+    ⊎-elim own (λ x. three s d e l c (t .2) (omega (arith, hit-other e c (x .0))) (λ i. omega (arith, one i)) (λ i y. b i (omega (arith, y))))
+    (eq-cases e c)
   where
     own : (e ≡ c) × (eqb e c ≡ true) → Three s c
     own x =

@@ -4,6 +4,7 @@ use mathlib.Core.Path.{_≡_, refl, sym, ap, _∙_, subst}
 use mathlib.Core.Bool.{Bool, true, false, cond, _&&_, and-false}
 use mathlib.Core.Logic.{⊎-elim}
 use mathlib.Core.List.{List, map}
+use mathlib.Core.Option.{Option, none, some}
 use Prim.Native.Nat.{ℕ, zero, suc, _≤_, _<_}
 use native.Mathlib.Omega.{arith}
 use lib.Dec.{leb}
@@ -13,13 +14,13 @@ use borrow.Author.Tests.{le-leb, lt-leb}
 use Rattle.model.specs.Store as Model
 use Rattle.model.specs.Store.{Store, blank, up}
 use Rattle.model.specs.Rules.{document01}
-use Rattle.model.specs.Answer.{Applied}
+use Rattle.model.specs.Answer.{said, Applied}
 use Rattle.model.specs.Record.{Sizes, SetUp, Begin, Step, Decoded, Asks, Refuses, decode}
 use Rattle.model.specs.Apply.{refuse, inRanges, fresh, setUp, obey, applyDecoded, apply}
 use Rattle.model.proofs.Basic.{le-cases, and-both}
 use Rattle.model.proofs.Setup.{in-ranges}
 use Rattle.values.specs.declared.Answer.{Answer}
-use Rattle.values.specs.declared.Answer.the-variants.{Ok, Going, Freed, At, Value, Done, No}
+use Rattle.values.specs.Meaning.{answerOf}
 use Rattle.slots.specs.declared.Slot.{Slot}
 use Rattle.slots.specs.Slots.{slotRep, slotOf, vacantSlot, linkedAnd, linkedTo}
 use Rattle.state.specs.declared.Hub.{Hub}
@@ -27,7 +28,7 @@ use Rattle.ready.specs.Ready.{sizesFit, readyOf}
 use Rattle.simulation.specs.Memory.{Memory, cut, write, writeHub}
 use Rattle.simulation.specs.Left.{LeftByRecords, Left, Sized, ready}
 use Rattle.simulation.specs.Shell.{doneOf}
-use Rattle.simulation.specs.Public.{takesStepIn, idledIn, EndsWell, Does}
+use Rattle.simulation.specs.Public.{takesStepIn, idledIn, EndsBy, Does}
 use Rattle.simulation.specs.Demands.{Bytes}
 use Rattle.simulation.proofs.Laws.{over-take, over-drop, both-parts, map-take}
 use Rattle.simulation.proofs.Sound.{sound, left-next}
@@ -187,14 +188,9 @@ module _ (m m′ : Memory) (rest : drop 2048 (m′ .slots) ≡ drop 2048 (m .slo
   idled-rest (Asks (Step w)) = refl
   idled-rest (Refuses k) = refl
 
-  ends-cut : (d : Decoded) (y : Answer) → EndsWell (cut m) d y (cut m′) → EndsWell m d y m′
-  ends-cut d Ok t = tt
-  ends-cut d Going t = tt
-  ends-cut d (Freed c) t = tt
-  ends-cut d (At c) t = tt
-  ends-cut d (Value x) t = tt
-  ends-cut d Done t = tt
-  ends-cut d (No k) t =
+  ends-cut : (d : Decoded) (y : Option ℕ) → EndsBy (cut m) d y (cut m′) → EndsBy m d y m′
+  ends-cut d none t = tt
+  ends-cut d (some k) t =
       let same = takes-cut d in
       record { number = rw (← same) (t .number); leaves = by (takesStepIn m d) (t .leaves ∙ rw same) }
     where
@@ -216,7 +212,7 @@ does-cut m m′ b y D rest =
           let A = apply-cut (cut m) (m .slots) b in
           (written m m′ rest (apply document01 (blank (map slotOf (m .slots))) b .hub) (A .few) (d .0 ∙ A .memory), d .1 ∙ A .answer);
       nine = λ e. D .nine (ready-cut m ∙ e);
-      ends = ends-cut m m′ rest (decode b) y (D .ends);
+      ends = ends-cut m m′ rest (decode b) (said (answerOf y) .refusal) (D .ends);
     }
 
 sized-cut : (m : Memory) → Sized m → Sized (cut m)

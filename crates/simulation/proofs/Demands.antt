@@ -19,16 +19,17 @@ use Rattle.slots.specs.Slots.{slotOf}
 use Rattle.simulation.specs.Memory.{Memory}
 use Rattle.simulation.specs.Left.{Sized, ready}
 use Rattle.simulation.specs.Public.{Does}
-use Rattle.simulation.specs.Demands.{Turn, Calls, exchangeOf, CodeDemand3, Demands}
+use Rattle.simulation.specs.Demands.{EventIn, Calls, exchangeOf, CodeDemand3, Demands}
 use Rattle.simulation.proofs.Again.{LeftAs, setup-written, record-written}
 use Rattle.simulation.proofs.Assembly.{left-ready}
 
 -- what was sent
-abbrev sent : List Turn → List (List ℕ)
-sent ts = map (λ (t : Turn). t .bytes) ts
+abbrev sent : List EventIn → List (List ℕ)
+sent ts = map (λ (t : EventIn). t .bytes) ts
 
 -- calls on memory that records left are answered as the model answers them
-follow : (ts : List Turn) (m : Memory) (h : Model.Hub) → LeftAs h m → Calls m ts → map exchangeOf ts ≡ map exchange (events h (allUnder document01 (sent ts)))
+follow : (ts : List EventIn) (m : Memory) (h : Model.Hub) → LeftAs h m → Calls m ts
+    → map exchangeOf ts ≡ map exchange (events h (allUnder document01 (sent ts)))
 unfolding Calls events
 follow [] m h L C = refl
 follow (t ∷ ts) m h (s, e, L, Z) C =
@@ -40,7 +41,8 @@ follow (t ∷ ts) m h (s, e, L, Z) C =
     ∙ ap (λ (k : Model.Hub). map exchange (events k (allUnder document01 (sent (t ∷ ts))))) (sym e)
 
 -- memory on which a setup is accepted did not count as set up
-pub was-blank : (m m′ : Memory) (b : List ℕ) (y : Answer) → Does m b y m′ → (z : Sizes) → decode b ≡ Asks (SetUp z) → answerOf y ≡ Ok → ready m ≡ false
+pub was-blank : (m m′ : Memory) (b : List ℕ) (y : Answer) → Does m b y m′ → (z : Sizes) → decode b ≡ Asks (SetUp z) → answerOf y ≡ Ok
+    → ready m ≡ false
 was-blank m m′ b y D z d ok = by (ready m) refl
   where
     by : (t : Bool) → ready m ≡ t → ready m ≡ false
@@ -50,7 +52,7 @@ was-blank m m′ b y D z d ok = by (ready m) refl
         absurd (omega arith)
     by false e = e
 
-demand-3 : (m : Memory) (first : Turn) (ts : List Turn) → Sized m → ready m ≡ false → Calls m (first ∷ ts) → answerOf (first .answer) ≡ Ok
+demand-3 : (m : Memory) (first : EventIn) (ts : List EventIn) → Sized m → ready m ≡ false → Calls m (first ∷ ts) → answerOf (first .answer) ≡ Ok
     → CodeDemand3 m first ts
 unfolding Calls
 demand-3 m first ts Z e C ok =
@@ -58,7 +60,9 @@ demand-3 m first ts Z e C ok =
     let b = C .1 .blank e in
     let a : apply document01 (blank row) (first .bytes) .answer ≡ Ok = sym (b .1) ∙ ok in
     record {
-      answers = follow ts (first .after) (apply document01 (blank row) (first .bytes) .hub) (setup-written m (first .after) (first .bytes) Z row a (b .0)) (C .3);
+      answers =
+          follow ts (first .after) (apply document01 (blank row) (first .bytes) .hub) (setup-written m (first .after) (first .bytes) Z row a (b .0))
+          (C .3);
       demand = demand row (under document01 (first .bytes)) a (allUnder document01 (sent ts));
     }
 

@@ -25,13 +25,15 @@ use Rattle.worker.specs.declared.Announced.{Announced}
 use Rattle.worker.specs.declared.Announced.the-variants.{Nothing, At}
 use Rattle.worker.specs.declared.Doing.{Doing}
 use Rattle.worker.specs.declared.Doing.the-variants.{Idle, PutPublish, PutStamp, PutHandIn, FlushTake, FlushRead, FlushFree}
-use Rattle.worker.specs.declared.Doing.the-variants.{OpenAnnounce, OpenPass, ReadEnter, ReadStand, CloseWithdraw, GetShow}
+use Rattle.worker.specs.declared.Doing.the-variants.{OnTime, ReadEnter, ReadStand, GetShow}
+use Rattle.worker.specs.declared.TimeStep.the-variants.{OpenAnnounce, OpenPass, CloseWithdraw}
+use Rattle.worker.specs.About.{aboutOf}
 use Rattle.worker.specs.declared.Pool.{Pool}
 use Rattle.worker.specs.declared.Worker.{Worker}
 use Rattle.state.specs.State.{nobody, workerIn, withWorkersIn, atPlace}
 use Rattle.gate.specs.declared.Gate.{Gate}
 use Rattle.gate.specs.declared.Gate.the-variants.{Refuse, Make, Start, Go}
-use Rattle.gate.specs.Gate.{operationRep, decodedRep, decodedIn, idleOf, registerOk, openOk, timeOk, beginGate, sizesOk, gateOf, whoOf}
+use Rattle.gate.specs.Gate.{operationRep, decodedRep, decodedIn, termsOf, registerOk, openOk, timeOk, beginGate, sizesOk, gateOf, whoOf}
 use Rattle.step.specs.declared.Outcome.{Outcome}
 use Rattle.step.specs.declared.Next.{Next}
 use Rattle.step.specs.declared.Next.the-variants.{Taken}
@@ -48,7 +50,8 @@ use Rattle.simulation.proofs.Gates.{gateBy}
 ------------------------------------------------------------------------
 -- Memory that counts as set up
 
-pub setup-nine : (m : Memory) (b : List ℕ) → ready m ≡ true → (z : Sizes) → decode b ≡ Asks (SetUp z) → answerOf (doneOf m b .answer) ≡ Model·Answer.No 9
+pub setup-nine : (m : Memory) (b : List ℕ) → ready m ≡ true → (z : Sizes) → decode b ≡ Asks (SetUp z)
+    → answerOf (doneOf m b .answer) ≡ Model·Answer.No 9
 unfolding doneOf doneAs gateOf obeyIn
 setup-nine m b e z d =
     let said : Record.Decoded → Bool → Model·Answer.Answer =
@@ -71,7 +74,7 @@ ReadNumbered (Record.Refuses k) = Numbered k
 abbrev Steps : Record.Decoded → Bool → ℕ → Doing → Bool
 Steps (Asks (SetUp z)) up p d = false
 Steps (Asks (Record.Begin w o)) up p d = false
-Steps (Asks (Record.Step w)) up p d = up && (ltb w p && not (idleOf d))
+Steps (Asks (Record.Step w)) up p d = up && (ltb w p && not (aboutOf d .idle))
 Steps (Record.Refuses k) up p d = false
 
 -- the number with which the gate refuses a record that reads as r, which takes no step then, and the worker that it lets step
@@ -95,11 +98,12 @@ begin-numbered : (up : Bool) (p v w u : ℕ) (o : Record.Operation) (d : Doing) 
 unfolding beginGate occurrences
 begin-numbered up p v w u o d t =
     let N : Gate → Type 0 = GateNumbered (Asks (Record.Begin u o)) up p d in
+    let x = termsOf (operationRep o) in
     cond-both N (ltb w p) _ _
-    (λ e. cond-both N (registerOk (operationRep o) v) _ _
-    (λ f. cond-both N (idleOf d) _ _
-    (λ g. cond-both N (openOk (operationRep o) t) _ _
-    (λ h. cond-both N (timeOk (operationRep o) t) _ _ (λ n. tt) (λ n. (omega arith, refl)))
+    (λ e. cond-both N (registerOk (x .register) v) _ _
+    (λ f. cond-both N (aboutOf d .idle) _ _
+    (λ g. cond-both N (openOk (x .time) t) _ _
+    (λ h. cond-both N (timeOk (x .time) t) _ _ (λ n. tt) (λ n. (omega arith, refl)))
     (λ n. (omega arith, refl)))
     (λ n. (omega arith, refl)))
     (λ n. (omega arith, refl)))
@@ -148,7 +152,7 @@ module _ (m : Memory) (r : Record.Decoded) where
     refusedAt k = outcomeOf Idle (x .announced) (m .hub .clock) (m .hub .free) (No k)
 
     -- a step is taken where the worker is not idle
-    takes : (d : Doing) → x .doing ≡ d → takesStepIn m r ≡ not (idleOf d)
+    takes : (d : Doing) → x .doing ≡ d → takesStepIn m r ≡ not (aboutOf d .idle)
     unfolding takesStepIn
     takes d e = rw (s, set-up, below, e)
 
@@ -171,7 +175,8 @@ module _ (m : Memory) (r : Record.Decoded) where
     unfolding handedIn putHandInStep
     hand-in-ends c =
         let q : Pool = handedPool (x .pool) c (slotAtIn (m .slots) c) in
-        cond-both (λ (y : Answer). EndsWell m r y (handedIn m w x c .memory)) (eqb (q .len) (batchOf (m .hub .p % 256))) Going Done (λ f. tt) (λ f. tt)
+        cond-both (λ (y : Answer). EndsWell m r y (handedIn m w x c .memory)) (eqb (q .len) (batchOf (m .hub .p % 256))) Going Done (λ f. tt)
+        (λ f. tt)
 
     -- flush (2) and (3)
     read-ends : (n k : ℕ) → NextEnds (readOrSplit n k (m .hub .p))
@@ -200,12 +205,13 @@ module _ (m : Memory) (r : Record.Decoded) where
     step-ends FlushTake e = tt
     step-ends (FlushRead n k) e = read-ends n k
     step-ends (FlushFree n) e = free-ends n
-    step-ends OpenAnnounce e = cond-both StillEnds (eqb (m .hub .clock) lastClock) _ _ (λ f. sets-idle 15 (takes OpenAnnounce e) (omega arith)) (λ f. tt)
-    step-ends OpenPass e = pass-ends (x .announced)
+    step-ends (OnTime OpenAnnounce) e =
+        cond-both StillEnds (eqb (m .hub .clock) lastClock) _ _ (λ f. sets-idle 15 (takes (OnTime OpenAnnounce) e) (omega arith)) (λ f. tt)
+    step-ends (OnTime OpenPass) e = pass-ends (x .announced)
+    step-ends (OnTime CloseWithdraw) e = tt
     step-ends (ReadEnter i) e = tt
     step-ends (ReadStand i v) e =
         cond-both StillEnds (leb (slotAtIn (m .slots) v .low) (timeOf (x .announced))) _ _ (λ f. tt) (λ f. tt)
-    step-ends CloseWithdraw e = tt
     step-ends (GetShow i) e = tt
 
 ------------------------------------------------------------------------

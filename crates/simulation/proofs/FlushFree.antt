@@ -29,7 +29,7 @@ use Rattle.step.specs.declared.Next.the-variants.{Free}
 use Rattle.step.specs.Step.{stepOf}
 use Rattle.flush.specs.Flush.{partOf}
 use Rattle.freeing.specs.Freeing.{nextToFree, oneMore, freedStep, freedRow, freedFree}
-use Rattle.simulation.specs.Memory.{Memory, hubRep, inHandWords, mergedOver, write}
+use Rattle.simulation.specs.Memory.{Memory, hubRep, handWords, mergedOver, write}
 use Rattle.simulation.specs.Left.{Sized}
 use Rattle.simulation.specs.Shell.{offWorker, freedIn, nextIn, goIn}
 use Rattle.simulation.proofs.Laws.{free-push, merged-map}
@@ -84,7 +84,7 @@ module _ (s : Store) (m : Memory) (w : ℕ) (ρ : Range) (l : List Range) (S : S
   -- The range that is freed next
 
   part : partOf (m .merged) w ≡ over (flat (reverse (ρ ∷ l))) (partOf (m .merged) w)
-  unfolding inHandWords
+  unfolding handWords
   part = list-is s S w wb m Z laid d e (omega (arith, within .0, length-flat (reverse (ρ ∷ l)), length-reverse (ρ ∷ l)))
 
   slot-there : getD (m .merged) (768 * w + 3 * length l) 0 ≡ c
@@ -131,7 +131,8 @@ module _ (s : Store) (m : Memory) (w : ℕ) (ρ : Range) (l : List Range) (S : S
 
   free-left : set (m .free) (m .hub .free) (short freed) ≡ over (reverse (c ∷ s .free)) (m .free)
   free-left =
-      ap₂ (set (m .free)) (ap (λ (h : Hub). h .free) (hub-is s m laid)) short-is ∙ free-push c (s .free) (m .free) (rw (Z .free) room) (free-is s m laid)
+      ap₂ (set (m .free)) (ap (λ (h : Hub). h .free) (hub-is s m laid)) short-is
+      ∙ free-push c (s .free) (m .free) (rw (Z .free) room) (free-is s m laid)
 
   slots-left : unlinkedIn (m .slots) freed ≡ over (map slotRep (unlinkSlots (s .slots) c)) (m .slots)
   slots-left =
@@ -141,7 +142,7 @@ module _ (s : Store) (m : Memory) (w : ℕ) (ρ : Range) (l : List Range) (S : S
       ∙ unlinked-row (s .slots) (m .slots) c (rw k (apart .inside)) (rw k (apart .newer)) (omega (arith, small)) (rw k (apart .older))
 
   merged-left : m .merged ≡ mergedOver (map (workerOff c o) ws) (m .merged)
-  unfolding inHandWords
+  unfolding handWords
   merged-left =
       let last : List ℕ = ρ .slot ∷ ρ .low ∷ ρ .high ∷ [] in
       list-kept s S w wb m Z laid d went last e (ap flat (reverse-cons ρ l) ∙ flat-snoc (reverse l) ρ)

@@ -23,7 +23,7 @@ use Rattle.state.specs.State.{workerIn}
 use Rattle.step.specs.declared.Next.the-variants.{Read, Split}
 use Rattle.step.specs.Step.{stepOf}
 use Rattle.flush.specs.Flush.{flushReadStep}
-use Rattle.simulation.specs.Memory.{Memory, inHandWords, mergedOver, write}
+use Rattle.simulation.specs.Memory.{Memory, handWords, mergedOver, write}
 use Rattle.simulation.specs.Left.{Sized}
 use Rattle.simulation.specs.Shell.{queueIn, readIn, nextIn, goIn}
 use Rattle.simulation.proofs.Laws.{worker-in}
@@ -78,11 +78,12 @@ module _ (s : Store) (m : Memory) (w : ℕ) (l : List Range) (ts : List ℕ) (S 
   stepped : stepAt s w d ≡ record { store = withWorker s w after; answer = Model·Answer.Going }
   unfolding stepAt flushRead readTimes
   stepped =
-      cond-yes (ltb k (s .site .P)) (record { store = withWorker s w after; answer = Model·Answer.Going }) (flushSplit s w l ts) (lt-ltb k (s .site .P) more)
+      cond-yes (ltb k (s .site .P)) (record { store = withWorker s w after; answer = Model·Answer.Going }) (flushSplit s w l ts)
+      (lt-ltb k (s .site .P) more)
 
   -- the merged list is the same
   kept : m .merged ≡ mergedOver (set (s .workers) w after) (m .merged)
-  unfolding inHandWords
+  unfolding handWords
   kept = list-kept s S w wb m Z laid d after [] e (sym (append-nil (flat l)))
 
   pub read-time-sim : Simulates s m w d

@@ -1,7 +1,8 @@
 -- Flush (4): the readers that stand on the version that is unlinked. The code moves them in all sixteen records and with slots of sixteen
 -- bits, the model in the P workers. A reader that moves stands below N afterwards, so that its slot is the same in both, and the records
 -- beyond the P workers are idle.
-use mathlib.Core.Path.{_≡_, refl, ap, ap₂, _∙_}
+use mathlib.Core.Path.{_≡_, refl, sym, ap, ap₂, subst, _∙_}
+use mathlib.Core.Logic.{⊎-elim}
 use mathlib.Core.Bool.{Bool, true, false, cond}
 use mathlib.Core.List.{List, [], _∷_, _++_, map, map-append}
 use Prim.Native.Nat.{ℕ, zero, suc, _≤_, _<_}
@@ -12,19 +13,25 @@ use Rattle.lists.specs.Over.{over}
 use Rattle.model.specs.Store as Model
 use Rattle.model.specs.Store.{Store, startWorker, withDoing}
 use Rattle.model.specs.Steps.{moveOff, workerOff}
+use Rattle.model.specs.About.{Nowhere, about}
+use Rattle.model.proofs.View.{off-cases}
 use Rattle.arrays.specs.Arrays.{short}
 use Rattle.worker.specs.declared.Worker.{Worker}
 use Rattle.worker.specs.declared.Doing.the-variants as D
-use Rattle.worker.specs.Rep.{workerRep}
+use Rattle.worker.specs.declared.Goal.{Goal}
+use Rattle.worker.specs.Rep.{goalRep, doingRep, workerRep}
+use Rattle.freeing.specs.Freeing.{offTo}
 use Rattle.state.specs.State.{atPlace}
-use Rattle.simulation.specs.Memory.{inHandWords}
+use Rattle.simulation.specs.Memory.{handWords, inHandWords}
 use Rattle.simulation.specs.Shell.{offWorker}
+use Rattle.simulation.proofs.Facts.{stanceRep, same-facts}
 use Rattle.simulation.proofs.Sound.{PlaceIn}
 
--- the slot that a reader on slot d has afterwards
-moved : (n o d : ℕ) (t : Bool) → n ≤ 2048 → cond t o d < n → cond t (short o) d ≡ cond t o d
-moved n o d true h k = omega arith
-moved n o d false h k = refl
+-- the place of a reader on slot v afterwards
+moved : (n o v : ℕ) (g : Goal) (t : Bool) → n ≤ 2048 → cond t o v < n
+    → cond t (D.ReadStand g (short o)) (D.ReadStand g v) ≡ D.ReadStand g (cond t o v)
+moved n o v g true h k = ap (D.ReadStand g) (omega arith)
+moved n o v g false h k = refl
 
 map-drop : {A B : Type 0} (f : A → B) (n : ℕ) (l : List A) → map f (drop n l) ≡ drop n (map f l)
 map-drop f zero l = refl
@@ -44,21 +51,24 @@ module _ (s : Store) (c o : ℕ) (small : s .site .N ≤ 2048) where
       × (inHandWords (moveOff c o d) ≡ inHandWords d)
 
   off : (t : ℕ) (x : Model.Worker) (d : Model.Doing) → Off t x d
-  unfolding moveOff inHandWords
-  off t x Model.Idle = (λ p. refl, refl)
-  off t x (Model.PutPublish r y) = (λ p. refl, refl)
-  off t x (Model.PutStamp r v) = (λ p. refl, refl)
-  off t x (Model.PutHandIn r v) = (λ p. refl, refl)
-  off t x Model.FlushTake = (λ p. refl, refl)
-  off t x (Model.FlushRead m ts) = (λ p. refl, refl)
-  off t x (Model.FlushFree m) = (λ p. refl, refl)
-  off t x Model.OpenAnnounce = (λ p. refl, refl)
-  off t x Model.OpenPass = (λ p. refl, refl)
-  off t x (Model.ReadEnter r) = (λ p. refl, refl)
-  off t x (Model.ReadStand r v) =
-      (λ p. ap (λ (k : ℕ). atPlace (workerRep (withDoing x (Model.ReadStand r v))) (D.ReadStand r k)) (moved (s .site .N) o v (eqb v c) small (p .1)), refl)
-  off t x Model.CloseWithdraw = (λ p. refl, refl)
-  off t x (Model.GetShow r) = (λ p. refl, refl)
+  unfolding moveOff handWords
+  off t x d = ⊎-elim stands apart (off-cases d)
+    where
+      stands : (g : Model.Goal) × (v : ℕ) × (d ≡ Model.ReadStand g v) → Off t x d
+      stands u =
+          let g = u .0 in
+          let v = u .1 in
+          subst (Off t x) (sym (u .2)) (
+            λ p. ap (atPlace (workerRep (withDoing x (Model.ReadStand g v)))) (moved (s .site .N) o v (goalRep g) (eqb v c) small (p .1)),
+            refl,
+          )
+
+      apart : (about d .stance ≡ Nowhere) × ((a b : ℕ) → moveOff a b d ≡ d) → Off t x d
+      apart u =
+          let k = u .1 c o in (
+            λ p. rw k (ap (λ y. atPlace (workerRep (withDoing x d)) (offTo c (short o) (doingRep d) y)) (same-facts d .1 ∙ ap stanceRep (u .0))),
+            ap inHandWords k,
+          )
 
   pub off-list : (x : Model.Worker) → inHandWords (workerOff c o x .doing) ≡ inHandWords (x .doing)
   unfolding workerOff

@@ -15,6 +15,7 @@ use Rattle.model.specs.Store.{Store, Range, startWorker, workerAt, withWorker, 
 use Rattle.model.specs.Answer as Model·Answer
 use Rattle.model.specs.Batch.{batchOf}
 use Rattle.model.specs.Ranges.{merge, filter, needed, neededOf, needlessOf, neededPools, joining, queuedPool}
+use Rattle.model.specs.About.{about}
 use Rattle.model.specs.Reached.{sumBy, inHand, versionsHeld}
 use Rattle.model.specs.Demand.{All}
 use Rattle.model.specs.Steps.{stepAt, flushRead, flushSplit}
@@ -35,7 +36,7 @@ use Rattle.step.specs.declared.Next.the-variants.{Read, Split}
 use Rattle.step.specs.Step.{stepOf}
 use Rattle.flush.specs.Flush.{partOf, withPart}
 use Rattle.splitting.specs.Splitting.{requeued, maySplit, mayCut, needlessBy, neededBy, needlessCount, splitLeft, splitQueue, splitMerged}
-use Rattle.simulation.specs.Memory.{Memory, inHandWords, mergedOver, write}
+use Rattle.simulation.specs.Memory.{Memory, handWords, mergedOver, write}
 use Rattle.simulation.specs.Left.{Sized}
 use Rattle.simulation.specs.Shell.{queueIn, splitIn, nextIn, goIn}
 use Rattle.simulation.proofs.Sound.{Sound, PlaceIn}
@@ -53,7 +54,8 @@ length-parts p (x ∷ l) =
     let yes : List Range = filter p l in
     let no : List Range = filter (λ ρ. not (p ρ)) l in
     let h = length-parts p l in
-    elim (p x) as (λ t. length (cond t (x ∷ yes) yes) + length (cond (not t) (x ∷ no) no) ≡ suc (length l)) [ true ↦ omega arith | false ↦ omega arith ]
+    elim (p x) as (λ t. length (cond t (x ∷ yes) yes) + length (cond (not t) (x ∷ no) no) ≡ suc (length l))
+    [ true ↦ omega arith | false ↦ omega arith ]
 
 -- pools that are not empty are not more than their ranges
 pools-ranges : (b : ℕ) (ps : List (List Range)) → All (λ l. (1 ≤ length l) × (length l ≤ b)) ps → length ps ≤ sumBy length ps
@@ -117,7 +119,7 @@ module _ (s : Store) (m : Memory) (w : ℕ) (l : List Range) (ts : List ℕ) (S 
   times-is = let n = within .2 in ap (λ (k : ℕ). take k times) workers-is ∙ take-over ts (replicate 16 0) (s .site .P) (omega arith)
 
   listed-is : listed ≡ l
-  unfolding inHandWords
+  unfolding handWords
   listed-is =
       ap (λ (z : List ℕ). rangesAt z 0 (length l)) (list-is s S w wb m Z laid d e (omega (arith, within .0, length-flat l)))
       ∙ rangesAt-over l (partOf (m .merged) w)
@@ -142,7 +144,7 @@ module _ (s : Store) (m : Memory) (w : ℕ) (l : List Range) (ts : List ℕ) (S 
   room : length (joinedRanges (s .queue)) + length stay + length (own .pool) < 2048
   room =
       let h : versionsHeld own ≤ sumBy versionsHeld (s .workers) = sumBy-one versionsHeld (s .workers) w startWorker (among s S w wb) in
-      let i : inHand (own .doing) ≡ length l = ap inHand e in
+      let i : inHand (about (own .doing) .hand) ≡ length l = ap (λ (d : Model.Doing). inHand (about d .hand)) e in
       let v = S .bounds .registers .0 in
       let n = S .bounds .slots .1 in
       omega (arith, ranges-few s S, length-parts (needed ts) l)
@@ -175,7 +177,7 @@ module _ (s : Store) (m : Memory) (w : ℕ) (l : List Range) (ts : List ℕ) (S 
   recordOf n = record { doing = D.FlushFree n; announced = announcedRep (own .announced); pool = poolRep []; times = replicate 16 0 }
 
   merged-split : splitMerged (m .merged) w (length l) times p local ≡ mergedOver (set (s .workers) w after) (m .merged)
-  unfolding splitMerged inHandWords
+  unfolding splitMerged handWords
   merged-split =
       cond-yes (maySplit w (length l) p local) _ (m .merged) may
       ∙ ap (λ (r : List Range). withPart (m .merged) w (over (flat (reverse r)) (partOf (m .merged) w))) go-is

@@ -9,6 +9,7 @@ use Rattle.lists.specs.Over.{over}
 use Rattle.model.specs.Store as Model
 use Rattle.model.specs.Store.{Store, Range, workerAt, withDoing}
 use Rattle.model.specs.Ranges.{firstTwo}
+use Rattle.model.specs.About.{about}
 use Rattle.model.specs.Reached.{inHand}
 use Rattle.model.specs.Steps.{stepAt, flushTake}
 use Rattle.values.specs.declared.Answer.the-variants.{Going}
@@ -24,7 +25,7 @@ use Rattle.queue.specs.Rep.{queueRep}
 use Rattle.queue.proofs.Rep.{take-rep}
 use Rattle.step.specs.Step.{stepOf}
 use Rattle.flush.specs.Flush.{partOf, withPart}
-use Rattle.simulation.specs.Memory.{Memory, inHandWords, mergedOver, write}
+use Rattle.simulation.specs.Memory.{Memory, handWords, mergedOver, write}
 use Rattle.simulation.specs.Left.{Sized}
 use Rattle.simulation.specs.Shell.{queueIn, tookIn, nextIn, goIn}
 use Rattle.simulation.proofs.Sound.{Sound}
@@ -47,8 +48,8 @@ module _ (s : Store) (m : Memory) (w : ℕ) (S : Sound s) (Z : Sized m) (laid : 
   few : length two ≤ 256
   unfolding stepAt flushTake
   few =
-      let z : inHand (after .doing) ≤ 4 * s .site .B =
-      all-set (λ x. inHand (x .doing) ≤ 4 * s .site .B) (s .workers) w after (among s S w wb) (next .bounds .merged) in
+      let z : inHand (about (after .doing) .hand) ≤ 4 * s .site .B =
+      all-set (λ x. inHand (about (x .doing) .hand) ≤ 4 * s .site .B) (s .workers) w after (among s S w wb) (next .bounds .merged) in
       let b = S .bounds .batch .1 in
       omega arith
 
@@ -67,7 +68,7 @@ module _ (s : Store) (m : Memory) (w : ℕ) (S : Sound s) (Z : Sized m) (laid : 
       λ i. recordOf (n i) (sym (padded-nil 16) i)
 
   merged-is : withPart (m .merged) w (over (flat (taken q)) (partOf (m .merged) w)) ≡ mergedOver (set (s .workers) w after) (m .merged)
-  unfolding inHandWords
+  unfolding handWords
   merged-is =
       ap (λ (l : List Range). withPart (m .merged) w (over (flat l) (partOf (m .merged) w))) (took .0)
       ∙ list-put s S w wb m Z laid after (omega (arith, few, length-flat two))

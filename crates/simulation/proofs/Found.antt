@@ -56,7 +56,8 @@ module _ (s : Store) (m : Memory) (S : Sound s) (laid : m ≡ write s m) where
     newest-short = ap short newest-is ∙ short-is (newestOf s r) (omega (arith, S .newest r h, S .bounds .slots .1))
 
     -- the row in which it is stamped
-    pub stamp-row : stampedIn (m .slots) (newestAt (m .newest) r) (s .clock) ≡ over (map slotRep (stampSlots (s .slots) (newestOf s r) (s .clock))) (m .slots)
+    pub stamp-row : stampedIn (m .slots) (newestAt (m .newest) r) (s .clock)
+        ≡ over (map slotRep (stampSlots (s .slots) (newestOf s r) (s .clock))) (m .slots)
     stamp-row =
         let n = S .bounds .slots in
         ap (λ (i : ℕ). stampedIn (m .slots) i (s .clock)) newest-is

@@ -23,7 +23,7 @@ use Rattle.slots.specs.declared.Slot.{Slot}
 use Rattle.slots.specs.Slots.{slotRep, slotOf, vacantSlot, madeSlot, madeTo}
 use Rattle.state.specs.State.{freshHub}
 use Rattle.arrays.specs.Arrays.{short, fillTo}
-use Rattle.simulation.specs.Memory.{hubRep, inHandWords, mergedOver}
+use Rattle.simulation.specs.Memory.{hubRep, handWords, mergedOver}
 use Rattle.simulation.proofs.Laid.{hub-path}
 
 ------------------------------------------------------------------------
@@ -74,7 +74,8 @@ first-last : (v : ℕ) (l : List Model.Slot) (z : Model.Slot) → firstSlots v (
 unfolding firstSlots
 first-last zero [] z = refl
 first-last (suc v) [] z = rw (leb·suc-suc 0 v, leb·zero v)
-first-last zero (y ∷ l) z = ap (λ (r : List Model.Slot). alone y ∷ r) (first-last zero l z ∙ rw (leb·suc-zero (length l), leb·suc-zero (suc (length l))))
+first-last zero (y ∷ l) z =
+    ap (λ (r : List Model.Slot). alone y ∷ r) (first-last zero l z ∙ rw (leb·suc-zero (length l), leb·suc-zero (suc (length l))))
 first-last (suc v) (y ∷ l) z = rw (first-last v l z, leb·suc-suc (suc (length l)) v)
 
 -- the same slot in memory
@@ -150,7 +151,7 @@ hub-made b z row h =
 
 -- no worker has a list in hand
 pub merged-made : (p : ℕ) (d : List ℕ) → d ≡ mergedOver (replicate p startWorker) d
-unfolding mergedOver inHandWords
+unfolding mergedOver handWords
 merged-made zero d = refl
 merged-made (suc p) d =
     sym (take-append-drop 768 d)

@@ -1,7 +1,7 @@
 -- The decision on a record is the model's, for a store in memory: the code's tests are the model's, one by one and in the same order. A
 -- worker's record is looked at only where the worker is below P, and there it is the model's worker in memory.
-use mathlib.Core.Path.{_≡_, refl, sym, ap, _∙_}
-use mathlib.Core.Bool.{Bool, true, false, true≢false, cond, not}
+use mathlib.Core.Path.{_≡_, refl, sym, ap, subst, _∙_}
+use mathlib.Core.Bool.{Bool, true, false, true≢false, cond}
 use Prim.Native.Nat.{ℕ, _<_}
 use lib.Dec.{ltb}
 use borrow.Author.Tests.{ltb-true}
@@ -11,19 +11,21 @@ use Rattle.model.specs.Rules.{document01}
 use Rattle.model.specs.Answer.{Ok, Stepped, Applied}
 use Rattle.model.specs.Record as Record
 use Rattle.model.specs.Steps.{stepAt}
-use Rattle.model.specs.Apply.{refuse, registerBelow, isIdle, mayOpen, mayUseTime, firstPlace, setUp, begin, step, obey, applyDecoded}
-use Rattle.model.proofs.Record.{idle-is}
-use Rattle.worker.specs.declared.Announced.{Announced}
+use Rattle.model.specs.Apply.{refuse, Terms, terms, registerBelow, isIdle, mayOpen, mayUseTime, setUp, begin, step, obey, applyDecoded}
+use Rattle.model.proofs.View.{idle-is}
 use Rattle.worker.specs.declared.Worker.{Worker}
-use Rattle.worker.specs.Rep.{announcedRep, doingRep, workerRep}
+use Rattle.worker.specs.Rep.{doingRep, workerRep}
 use Rattle.record.specs.declared.Decoded.{Decoded}
 use Rattle.state.specs.declared.Hub.{Hub}
 use Rattle.state.specs.State.{workerIn}
+use Rattle.worker.specs.About.{aboutOf}
+use Rattle.gate.specs.declared.Terms as Code
 use Rattle.gate.specs.declared.Gate.{Gate}
 use Rattle.gate.specs.declared.Gate.the-variants.{Refuse, Make, Start, Go}
-use Rattle.gate.specs.Gate.{operationRep, decodedRep, firstPlaceOf, idleOf, registerOk, absentTime, openOk, timeOk, beginGate, gateOf, whoOf}
+use Rattle.gate.specs.Gate.{operationRep, decodedRep, registerOk, openOk, timeOk, beginGate, gateOf, whoOf}
 use Rattle.simulation.specs.Memory.{hubRep}
 use Rattle.simulation.proofs.Laws.{worker-in}
+use Rattle.simulation.proofs.Facts.{same-facts, termsRep, same-terms, same-register, same-open, same-use}
 use Rattle.simulation.proofs.Sound.{Sound}
 
 -- the gate of a record that was read as r, by whether the memory is ready, the length of the row, and the hub by value
@@ -35,7 +37,7 @@ gateBy r ready long h =
 pub record Begun (s : Store) (w : ℕ) (o : Record.Operation) (a : Applied) : Type 0 where
   pub inside : w < s .site .P
   pub idle : workerAt s w .doing ≡ Model.Idle
-  pub is : a ≡ record { hub = up (place s w (firstPlace o)); answer = Ok }
+  pub is : a ≡ record { hub = up (place s w (terms o .first)); answer = Ok }
 
 -- what a step makes of the hub
 abbrev took : Stepped → Applied
@@ -50,78 +52,8 @@ pub record Stepping (s : Store) (w : ℕ) (a : Applied) : Type 0 where
 abbrev pub Means : Store → Gate → Applied → Type 0
 Means s (Refuse k) a = a ≡ refuse (up s) k
 Means s (Make p v n k) a = ⊥
-Means s (Start w d) a = (o : Record.Operation) × (d ≡ doingRep (firstPlace o)) × Begun s w o a
+Means s (Start w d) a = (o : Record.Operation) × (d ≡ doingRep (terms o .first)) × Begun s w o a
 Means s (Go w) a = Stepping s w a
-
-------------------------------------------------------------------------
--- The tests
-
-same-idle : (d : Model.Doing) → idleOf (doingRep d) ≡ isIdle d
-unfolding isIdle
-same-idle Model.Idle = refl
-same-idle (Model.PutPublish r x) = refl
-same-idle (Model.PutStamp r c) = refl
-same-idle (Model.PutHandIn r c) = refl
-same-idle Model.FlushTake = refl
-same-idle (Model.FlushRead m ts) = refl
-same-idle (Model.FlushFree m) = refl
-same-idle Model.OpenAnnounce = refl
-same-idle Model.OpenPass = refl
-same-idle (Model.ReadEnter r) = refl
-same-idle (Model.ReadStand r c) = refl
-same-idle Model.CloseWithdraw = refl
-same-idle (Model.GetShow r) = refl
-
-same-register : (o : Record.Operation) (v : ℕ) → registerOk (operationRep o) v ≡ registerBelow v o
-unfolding registerBelow
-same-register (Record.Put r x) v = refl
-same-register Record.Open v = refl
-same-register (Record.Read r) v = refl
-same-register Record.Close v = refl
-same-register (Record.Get r) v = refl
-same-register Record.Collect v = refl
-
-no-time : (t : ℕ) → absentTime (announcedRep t) ≡ not (ltb t absent)
-no-time t = go (ltb t absent)
-  where
-    go : (y : Bool) → absentTime (cond y (Announced.At t) Announced.Nothing) ≡ not y
-    go true = refl
-    go false = refl
-
-same-open : (o : Record.Operation) (t : ℕ) → openOk (operationRep o) (announcedRep t) ≡ mayOpen o (ltb t absent)
-unfolding mayOpen
-same-open (Record.Put r x) t = refl
-same-open Record.Open t = no-time t
-same-open (Record.Read r) t = refl
-same-open Record.Close t = refl
-same-open (Record.Get r) t = refl
-same-open Record.Collect t = refl
-
-always : (t : Bool) → cond t true true ≡ true
-always true = refl
-always false = refl
-
-twice : (t : Bool) → cond (not t) false true ≡ t
-twice true = refl
-twice false = refl
-
-same-use : (o : Record.Operation) (t : ℕ) → timeOk (operationRep o) (announcedRep t) ≡ mayUseTime o (ltb t absent)
-unfolding mayUseTime
-same-use (Record.Put r x) t = always (absentTime (announcedRep t))
-same-use Record.Open t = always (absentTime (announcedRep t))
-same-use (Record.Read r) t = ap (λ (y : Bool). cond y false true) (no-time t) ∙ twice (ltb t absent)
-same-use Record.Close t = ap (λ (y : Bool). cond y false true) (no-time t) ∙ twice (ltb t absent)
-same-use (Record.Get r) t = always (absentTime (announcedRep t))
-same-use Record.Collect t = always (absentTime (announcedRep t))
-
-same-place : (o : Record.Operation) → firstPlaceOf (operationRep o) ≡ doingRep (firstPlace o)
-unfolding firstPlace
-same-place (Record.Put r x) = refl
-same-place Record.Open = refl
-same-place (Record.Read r) = refl
-same-place Record.Close = refl
-same-place (Record.Get r) = refl
-same-place Record.Collect = refl
 
 ------------------------------------------------------------------------
 -- The decision
@@ -140,22 +72,26 @@ module _ (s : Store) (S : Sound s) where
   who-is w i = worker-in s w (S .bounds .workers .2) (S .bounds .workers .1) (ltb-true w (s .site .P) i)
 
   begins : (w : ℕ) (o : Record.Operation)
-      → Means s (beginGate (s .site .P) (s .site .V') w (operationRep o) (workerIn (hubRep s) w .doing) (workerIn (hubRep s) w .announced)) (begin s w o)
+      → Means s (beginGate (s .site .P) (s .site .V') w (operationRep o) (workerIn (hubRep s) w .doing) (workerIn (hubRep s) w .announced))
+      (begin s w o)
   unfolding beginGate begin
   begins w o =
-      both M (ltb w (s .site .P)) (ltb w (s .site .P)) _ _ _ _ refl
-      (λ i. both M (registerOk (operationRep o) (s .site .V')) (registerBelow (s .site .V') o) _ _ _ _ (same-register o (s .site .V'))
-      (λ r. both M (idleOf (x .doing)) (isIdle (y .doing)) _ _ _ _ (ap (λ (z : Worker). idleOf (z .doing)) (who-is w i) ∙ same-idle (y .doing))
-      (λ e. both M (openOk (operationRep o) (x .announced)) (mayOpen o (ltb (y .announced) absent)) _ _ _ _
-      (ap (λ (z : Worker). openOk (operationRep o) (z .announced)) (who-is w i) ∙ same-open o (y .announced))
-      (λ f. both M (timeOk (operationRep o) (x .announced)) (mayUseTime o (ltb (y .announced) absent)) _ _ _ _
-      (ap (λ (z : Worker). timeOk (operationRep o) (z .announced)) (who-is w i) ∙ same-use o (y .announced))
-      (λ u. (o, same-place o, record { inside = ltb-true w (s .site .P) i; idle = idle-is (y .doing) e; is = refl }))
+      subst (λ (z : Code.Terms). M (chosen z) (begin s w o)) (sym (same-terms o))
+      (both M (ltb w (s .site .P)) (ltb w (s .site .P)) _ _ _ _ refl
+      (λ i. both M (registerOk (z .register) (s .site .V'))
+      (registerBelow (s .site .V') (a .register)) _ _ _ _ (same-register (a .register) (s .site .V'))
+      (λ r. both M (aboutOf (x .doing) .idle) (isIdle (y .doing))
+      _ _ _ _ (ap (λ (k : Worker). aboutOf (k .doing) .idle) (who-is w i) ∙ same-facts (y .doing) .0)
+      (λ e. both M (openOk (z .time) (x .announced)) (mayOpen (a .time) (ltb (y .announced) absent)) _ _ _ _
+      (ap (λ (k : Worker). openOk (z .time) (k .announced)) (who-is w i) ∙ same-open (a .time) (y .announced))
+      (λ f. both M (timeOk (z .time) (x .announced)) (mayUseTime (a .time) (ltb (y .announced) absent)) _ _ _ _
+      (ap (λ (k : Worker). timeOk (z .time) (k .announced)) (who-is w i) ∙ same-use (a .time) (y .announced))
+      (λ u. (o, refl, record { inside = ltb-true w (s .site .P) i; idle = idle-is (y .doing) e; is = refl }))
       (λ n. refl))
       (λ n. refl))
       (λ n. refl))
       (λ n. refl))
-      (λ n. refl)
+      (λ n. refl))
     where
       M : Gate → Applied → Type 0
       M = Means s
@@ -165,6 +101,23 @@ module _ (s : Store) (S : Sound s) where
 
       y : Model.Worker
       y = workerAt s w
+
+      a : Terms
+      a = terms o
+
+      z : Code.Terms
+      z = termsRep a
+
+      -- the decision, of the terms given
+      chosen : Code.Terms → Gate
+      chosen q =
+          cond (ltb w (s .site .P))
+          (cond (registerOk (q .register) (s .site .V'))
+          (cond (aboutOf (x .doing) .idle)
+          (cond (openOk (q .time) (x .announced)) (cond (timeOk (q .time) (x .announced)) (Start w (q .first)) (Refuse 13)) (Refuse 12))
+          (Refuse 10))
+          (Refuse 4))
+          (Refuse 3)
 
   -- the decision on a record that was read as r is the model's
   pub gate-left : (r : Record.Decoded) (long : ℕ)

@@ -24,7 +24,7 @@ use Rattle.worker.proofs.Ranges.{append-rep}
 use Rattle.step.specs.Step.{stepOf}
 use Rattle.flush.specs.declared.Handed.{Handed}
 use Rattle.flush.specs.Flush.{word, handedPool, handed, putHandInStep}
-use Rattle.simulation.specs.Memory.{Memory, inHandWords, write}
+use Rattle.simulation.specs.Memory.{Memory, handWords, inHandWords, write}
 use Rattle.simulation.specs.Left.{Sized}
 use Rattle.simulation.specs.Shell.{withRecord, answered, queueIn, handedIn, nextIn, goIn}
 use Rattle.simulation.proofs.Sound.{Sound, PlaceIn}
@@ -50,7 +50,7 @@ same-answer false = refl
 
 -- no list is in hand before and after
 no-list : (r c : ℕ) (t : Bool) → inHandWords (Model.PutHandIn r c) ≡ inHandWords (cond t Model.FlushTake Model.Idle) ++ []
-unfolding inHandWords
+unfolding handWords
 no-list r c true = refl
 no-list r c false = refl
 

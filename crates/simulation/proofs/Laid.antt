@@ -37,11 +37,13 @@ cond-no false x y e = refl
 ------------------------------------------------------------------------
 -- Records by their fields
 
-pub memory-path : {m m′ : Memory} → m .hub ≡ m′ .hub → m .slots ≡ m′ .slots → m .newest ≡ m′ .newest → m .free ≡ m′ .free → m .queue ≡ m′ .queue → m .lens ≡ m′ .lens → m .merged ≡ m′ .merged → m ≡ m′
+pub memory-path : {m m′ : Memory} → m .hub ≡ m′ .hub → m .slots ≡ m′ .slots → m .newest ≡ m′ .newest → m .free ≡ m′ .free → m .queue ≡ m′ .queue
+    → m .lens ≡ m′ .lens → m .merged ≡ m′ .merged → m ≡ m′
 memory-path h s n f q l g =
     λ i. record { hub = h i; slots = s i; newest = n i; free = f i; queue = q i; lens = l i; merged = g i }
 
-pub hub-path : {h h′ : Hub} → h .p ≡ h′ .p → h .v ≡ h′ .v → h .n ≡ h′ .n → h .clock ≡ h′ .clock → h .free ≡ h′ .free → h .pools ≡ h′ .pools → h .queued ≡ h′ .queued → h .workers ≡ h′ .workers → h ≡ h′
+pub hub-path : {h h′ : Hub} → h .p ≡ h′ .p → h .v ≡ h′ .v → h .n ≡ h′ .n → h .clock ≡ h′ .clock → h .free ≡ h′ .free → h .pools ≡ h′ .pools
+    → h .queued ≡ h′ .queued → h .workers ≡ h′ .workers → h ≡ h′
 hub-path p v n c f k q w =
     λ i. record { p = p i; v = v i; n = n i; clock = c i; free = f i; pools = k i; queued = q i; workers = w i }
 
@@ -85,7 +87,8 @@ module _ (s : Store) (m : Memory) (laid : m ≡ write s m) where
 module _ (s : Store) (S : Sound s) (w : ℕ) (wb : w < s .site .P) where
   -- of the hub by value, at the place d
   pub worker-at : (d : Model.Doing) → workerAt s w .doing ≡ d → workerIn (hubRep s) w ≡ workerRep (withDoing (workerAt s w) d)
-  worker-at d e = worker-in s w (S .bounds .workers .2) (S .bounds .workers .1) wb ∙ ap (λ (y : Model.Doing). workerRep (withDoing (workerAt s w) y)) e
+  worker-at d e =
+      worker-in s w (S .bounds .workers .2) (S .bounds .workers .1) wb ∙ ap (λ (y : Model.Doing). workerRep (withDoing (workerAt s w) y)) e
 
   pub place-at : (d : Model.Doing) → workerAt s w .doing ≡ d → PlaceIn s (workerAt s w .announced) d
   place-at d e = subst (λ (y : Model.Doing). PlaceIn s (workerAt s w .announced) y) e (S .places w wb)
@@ -105,15 +108,18 @@ module _ (s : Store) (S : Sound s) (w : ℕ) (wb : w < s .site .P) where
     at-most-16 : length (s .workers) ≤ 16
     at-most-16 = rw (S .bounds .workers .2) (S .bounds .workers .1)
 
-    pub list-is : (d : Model.Doing) → workerAt s w .doing ≡ d → length (inHandWords d) ≤ 768 → partOf (m .merged) w ≡ over (inHandWords d) (partOf (m .merged) w)
+    pub list-is : (d : Model.Doing) → workerAt s w .doing ≡ d → length (inHandWords d) ≤ 768
+        → partOf (m .merged) w ≡ over (inHandWords d) (partOf (m .merged) w)
     list-is d e h =
         part-of (s .workers) (m .merged) w (Z .merged) at-most-16 among (rw e h) (merged-is s m laid)
         ∙ ap (λ (y : Model.Doing). over (inHandWords y) (partOf (m .merged) w)) e
 
     -- a front part of it is left
-    pub list-kept : (d : Model.Doing) (x : Model.Worker) (l : List ℕ) → workerAt s w .doing ≡ d → inHandWords d ≡ inHandWords (x .doing) ++ l → m .merged ≡ mergedOver (set (s .workers) w x) (m .merged)
+    pub list-kept : (d : Model.Doing) (x : Model.Worker) (l : List ℕ) → workerAt s w .doing ≡ d → inHandWords d ≡ inHandWords (x .doing) ++ l
+        → m .merged ≡ mergedOver (set (s .workers) w x) (m .merged)
     list-kept d x l e h = part-kept (s .workers) (m .merged) w x l (Z .merged) at-most-16 among (ap inHandWords e ∙ h) (merged-is s m laid)
 
     -- another list is put there
-    pub list-put : (x : Model.Worker) → length (inHandWords (x .doing)) ≤ 768 → withPart (m .merged) w (over (inHandWords (x .doing)) (partOf (m .merged) w)) ≡ mergedOver (set (s .workers) w x) (m .merged)
+    pub list-put : (x : Model.Worker) → length (inHandWords (x .doing)) ≤ 768
+        → withPart (m .merged) w (over (inHandWords (x .doing)) (partOf (m .merged) w)) ≡ mergedOver (set (s .workers) w x) (m .merged)
     list-put x h = part-set (s .workers) (m .merged) w x (Z .merged) at-most-16 among h (merged-is s m laid)

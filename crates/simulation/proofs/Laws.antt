@@ -85,21 +85,24 @@ map-set f (x ∷ l) zero v = refl
 map-set f (x ∷ l) (suc i) v = ap (λ r. f x ∷ r) (map-set f l i v)
 
 -- the model's list in memory, an entry changed
-mapped-set : {A B : Type 0} (f : A → B) (l : List A) (d : List B) (i : ℕ) (v : A) → i < length l → set (over (map f l) d) i (f v) ≡ over (map f (set l i v)) d
+mapped-set : {A B : Type 0} (f : A → B) (l : List A) (d : List B) (i : ℕ) (v : A) → i < length l
+    → set (over (map f l) d) i (f v) ≡ over (map f (set l i v)) d
 mapped-set {A} {B} f l d i v h = over-set (map f l) d i (f v) (rw (length-map l f) h) ∙ ap (λ (r : List B). over r d) (sym (map-set f l i v))
 
 ------------------------------------------------------------------------
 -- The hub by value
 
 -- a worker's record is the model's worker in memory
-pub worker-in : (s : Store) (w : ℕ) → length (s .workers) ≡ s .site .P → s .site .P ≤ 16 → w < s .site .P → workerIn (hubRep s) w ≡ workerRep (workerAt s w)
+pub worker-in : (s : Store) (w : ℕ) → length (s .workers) ≡ s .site .P → s .site .P ≤ 16 → w < s .site .P
+    → workerIn (hubRep s) w ≡ workerRep (workerAt s w)
 worker-in s w e b h =
     let k : w < length (s .workers) = omega arith in
     getD-over-in (map workerRep (s .workers)) (replicate 16 (workerRep startWorker)) w nobody (rw (length-map (s .workers) workerRep) k)
     ∙ getD-map workerRep (s .workers) w startWorker nobody k
 
 -- a worker's record replaced is the model's worker replaced
-pub worker-set : (s : Store) (w : ℕ) (x : Model.Worker) → length (s .workers) ≡ s .site .P → s .site .P ≤ 16 → w < s .site .P → withWorkerIn (hubRep s) w (workerRep x) ≡ hubRep (withWorker s w x)
+pub worker-set : (s : Store) (w : ℕ) (x : Model.Worker) → length (s .workers) ≡ s .site .P → s .site .P ≤ 16 → w < s .site .P
+    → withWorkerIn (hubRep s) w (workerRep x) ≡ hubRep (withWorker s w x)
 worker-set s w x e b h =
     ap (λ (l : List Worker). withWorkersIn (hubRep s) l) (mapped-set workerRep (s .workers) (replicate 16 (workerRep startWorker)) w x (omega arith))
 
@@ -109,7 +112,8 @@ worker-set s w x e b h =
 pub slot-at : (l : List Model.Slot) (d : List Slot) (c : ℕ) → c < length l → getD (over (map slotRep l) d) c vacantSlot ≡ slotRep (getD l c slot₀)
 slot-at l d c h = getD-over-in (map slotRep l) d c vacantSlot (rw (length-map l slotRep) h) ∙ getD-map slotRep l c slot₀ vacantSlot h
 
-pub slot-set : (l : List Model.Slot) (d : List Slot) (c : ℕ) (v : Model.Slot) → c < length l → set (over (map slotRep l) d) c (slotRep v) ≡ over (map slotRep (set l c v)) d
+pub slot-set : (l : List Model.Slot) (d : List Slot) (c : ℕ) (v : Model.Slot) → c < length l
+    → set (over (map slotRep l) d) c (slotRep v) ≡ over (map slotRep (set l c v)) d
 slot-set l d c v h = mapped-set slotRep l d c v h
 
 -- a row in which the slots lie is as long as they are
@@ -260,7 +264,8 @@ pub part-kept : (ws : List Model.Worker) (d : List ℕ) (w : ℕ) (x : Model.Wor
 part-kept ws d w x l e b h k i = part-kept′ ws d w x l (omega arith) h k i
 
 -- changes of other workers' places that change no list
-pub merged-map : (f : Model.Worker → Model.Worker) → ((x : Model.Worker) → inHandWords (f x .doing) ≡ inHandWords (x .doing)) → (ws : List Model.Worker) (d : List ℕ) → mergedOver (map f ws) d ≡ mergedOver ws d
+pub merged-map : (f : Model.Worker → Model.Worker) → ((x : Model.Worker) → inHandWords (f x .doing) ≡ inHandWords (x .doing))
+    → (ws : List Model.Worker) (d : List ℕ) → mergedOver (map f ws) d ≡ mergedOver ws d
 unfolding mergedOver
 merged-map f e [] d = refl
 merged-map f e (x ∷ ws) d = rw (e x, merged-map f e ws (drop 768 d))

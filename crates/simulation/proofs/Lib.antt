@@ -1,6 +1,7 @@
 pub mod Each
 pub mod Chains
 pub mod Laws
+pub mod Facts
 pub mod Sound
 pub mod Simulates
 pub mod Laid

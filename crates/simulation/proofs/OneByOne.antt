@@ -31,7 +31,7 @@ use Rattle.simulation.specs.Left.{Sized, ready}
 use Rattle.simulation.specs.Shell.{obeyIn, gateIn, doneAs, doneOf}
 use Rattle.simulation.specs.Demands.{Bytes, Calls}
 use Rattle.simulation.specs.Buffer.{recordAt, makes, State, next, after, before}
-use Rattle.simulation.specs.Promise.{each, answerEach, turnAt, turns, Decided, OneByOne}
+use Rattle.simulation.specs.Promise.{each, answerEach, eventAt, eventsFrom, Decided, OneByOne}
 use Rattle.simulation.proofs.Again.{LeftAs}
 use Rattle.simulation.proofs.Assembly.{StepsSimulate, setup-left, left-ready, left-again, does}
 use Rattle.simulation.proofs.Demands.{was-blank, demands}
@@ -167,8 +167,8 @@ module _ (steps : StepsSimulate) where
     each-leaves : (k : ℕ) → Leaves (each m bytes k) (recordAt bytes k)
     each-leaves k = leaves (each m bytes k) (recordAt bytes k) (each-decided k .0) (each-decided k .1) (record-bytes bytes k B)
 
-    calls-from : (n k : ℕ) → Calls (each m bytes k) (turns m bytes k n)
-    unfolding Calls turns each
+    calls-from : (n k : ℕ) → Calls (each m bytes k) (eventsFrom m bytes k n)
+    unfolding Calls eventsFrom each
     calls-from zero k = tt
     calls-from (suc n) k = (
       record-bytes bytes k B,
@@ -199,11 +199,12 @@ module _ (steps : StepsSimulate) where
           λ i. doneAs (s .1 i) (s .0 i) (recordAt bytes k) .answer
 
   -- memory on which a setup is accepted did not count as set up
-  from-setup : (m : Memory) (b : List ℕ) → Sized m → Bytes b → (z : Sizes) → decode b ≡ Asks (SetUp z) → answerOf (doneOf m b .answer) ≡ Ok → Decided m
+  from-setup : (m : Memory) (b : List ℕ) → Sized m → Bytes b → (z : Sizes) → decode b ≡ Asks (SetUp z) → answerOf (doneOf m b .answer) ≡ Ok
+      → Decided m
   from-setup m b Z B z d ok = inr (was-blank m (doneOf m b .memory) b (doneOf m b .answer) (does steps m b Z B) z d ok)
 
   pub oneByOne : OneByOne
-  unfolding each turns
+  unfolding each eventsFrom
   oneByOne =
       record {
         memory = λ m bytes kinds numbers n d Z B. same m bytes d Z B kinds numbers n .0;
@@ -225,5 +226,5 @@ module _ (steps : StepsSimulate) where
         fromSetup = from-setup;
         demand3 = λ m bytes n Z B z d ok.
             let D = from-setup m (recordAt bytes 0) Z (record-bytes bytes 0 B) z d ok in
-            demands .demand3 m (turnAt m bytes 0) (turns m bytes 1 n) Z (calls-from m bytes D Z B (suc n) 0) z d ok;
+            demands .demand3 m (eventAt m bytes 0) (eventsFrom m bytes 1 n) Z (calls-from m bytes D Z B (suc n) 0) z d ok;
       }

@@ -24,7 +24,7 @@ use Rattle.worker.specs.declared.Doing.the-variants.{PutStamp}
 use Rattle.worker.specs.Rep.{readingRep, announcedRep}
 use Rattle.step.specs.declared.Next.the-variants.{Taken}
 use Rattle.step.specs.Step.{newestAt, nextFree, outcomeOf, putPublishStep, putStampStep, stepOf}
-use Rattle.simulation.specs.Memory.{Memory, inHandWords, write}
+use Rattle.simulation.specs.Memory.{Memory, handWords, write}
 use Rattle.simulation.specs.Left.{Sized}
 use Rattle.simulation.proofs.Laws.{newest-set, free-top, free-pop}
 use Rattle.simulation.proofs.Sound.{Sound}
@@ -52,7 +52,7 @@ module _ (s : Store) (m : Memory) (w r : ℕ) (x : Model.Reading)
 
   -- refusal 14
   none : s .free ≡ [] → Simulates s m w d
-  unfolding stepOf putPublishStep stepAt putPublish inHandWords
+  unfolding stepOf putPublishStep stepAt putPublish handWords
   none p =
       kept-sim s m w d S Z laid wb e Model.Idle (workerAt s w .announced) (s .clock) (s .slots) (No 14)
       (rw (ap (λ (l : List ℕ). eqb (length l) 0) p)) (slots-is s m laid) (ap (putPublish s w r x) p) refl refl
@@ -98,17 +98,20 @@ module _ (s : Store) (m : Memory) (w r : ℕ) (x : Model.Reading)
         ∙ newest-set (s .newest) (m .newest) r f (omega (arith, S .bounds .registers .2, inside))
 
     some : Simulates s m w d
-    unfolding stepOf putPublishStep stepAt putPublish stamp inHandWords
+    unfolding stepOf putPublishStep stepAt putPublish stamp handWords
     some =
         let less : length (s .free) - 1 ≡ length free = omega (arith, ap length p) in
         let more : eqb (length (s .free)) 0 ≡ false = ap (λ (q : List ℕ). eqb (length q) 0) p ∙ eqb·suc-zero (length free) in
-        taken-sim s m w d S Z laid wb e (withDoing (workerAt s w) (Model.PutStamp r n)) (s .clock) (linkSlots l n f x) (set (s .newest) r f) free Going
+        taken-sim s m w d S Z laid wb e (withDoing (workerAt s w) (Model.PutStamp r n)) (s .clock) (linkSlots l n f x)
+        (set (s .newest) r f) free Going
         (record {
           code =
               step-is s m laid w d
               ∙ cond-no (eqb (length (s .free)) 0) _ _ more
               ∙ λ j. record {
-                next = Taken (outcomeOf (PutStamp r (newest-short s m S laid r inside j)) (announcedRep (workerAt s w .announced)) (s .clock) (less j) Going);
+                next =
+                    Taken (outcomeOf (PutStamp r (newest-short s m S laid r inside j)) (announcedRep (workerAt s w .announced)) (s .clock)
+                    (less j) Going);
                 row = row-is j;
                 newest = newest-put j;
               };
@@ -131,7 +134,7 @@ module _ (s : Store) (m : Memory) (w r : ℕ) (x : Model.Reading)
 
 module _ (s : Store) (m : Memory) (w r c : ℕ) (S : Sound s) (Z : Sized m) (laid : m ≡ write s m) (wb : w < s .site .P) where
   pub put-stamp-sim : workerAt s w .doing ≡ Model.PutStamp r c → Simulates s m w (Model.PutStamp r c)
-  unfolding stepOf putStampStep stepAt putStamp stamp inHandWords
+  unfolding stepOf putStampStep stepAt putStamp stamp handWords
   put-stamp-sim e = by (eqb (slotAt s c .high) absent) refl
     where
       known : (r < s .site .V') × (c < s .site .N)
@@ -140,7 +143,8 @@ module _ (s : Store) (m : Memory) (w r c : ℕ) (S : Sound s) (Z : Sized m) (lai
       by : (unset : Bool) → eqb (slotAt s c .high) absent ≡ unset → Simulates s m w (Model.PutStamp r c)
       by true z =
           kept-sim s m w (Model.PutStamp r c) S Z laid wb e (Model.PutHandIn r c) (workerAt s w .announced) (s .clock)
-          (stampSlots (s .slots) (newestOf s r) (s .clock)) Going (rw (slot-is s m S laid c (known .1), z)) (stamp-row s m S laid r (known .0)) (rw z) refl refl
+          (stampSlots (s .slots) (newestOf s r) (s .clock)) Going (rw (slot-is s m S laid c (known .1), z)) (stamp-row s m S laid r (known .0))
+          (rw z) refl refl
       by false z =
           kept-sim s m w (Model.PutStamp r c) S Z laid wb e (Model.PutHandIn r c) (workerAt s w .announced) (s .clock) (s .slots) Going
           (rw (slot-is s m S laid c (known .1), z)) (slots-is s m laid) (rw z) refl refl

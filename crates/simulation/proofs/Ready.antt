@@ -5,6 +5,7 @@ use mathlib.Core.Bool.{true}
 use mathlib.Core.List.{List, [], _∷_, map, reverse}
 use Prim.Native.Nat.{ℕ, _+_, _*_, _≤_, _<_}
 use native.Mathlib.Omega.{arith}
+use lib.Dec.{leb}
 use lib.ListN.{length, getD, drop, length-map, length-append, length-reverse}
 use lib.Seq.{getD-take, getD-drop}
 use borrow.Author.Tests.{lt-ltb, le-ltb, le-leb, lt-leb}
@@ -15,6 +16,7 @@ use Rattle.model.specs.Store.{Store, Range, absent, workerAt, newestOf}
 use Rattle.model.specs.Demand.{All}
 use Rattle.model.specs.Reached.{sumBy}
 use Rattle.model.proofs.Basic.{All-map, All-occurrences, getD-map, All-at}
+use Rattle.worker.specs.About.{aboutOf}
 use Rattle.worker.specs.Rep.{padded, poolRep, doingRep}
 use Rattle.worker.proofs.Rep.{padded-at}
 use Rattle.slots.specs.Slots.{vacantSlot, linkedTo}
@@ -25,7 +27,7 @@ use Rattle.ranges.proofs.WordLaws.{length-flat}
 use Rattle.queue.specs.Rep.{joinedRanges}
 use Rattle.flush.specs.Flush.{partOf}
 use Rattle.ready.specs.Ready.{poolFits, listFits, handIn, handFits, placeFits, workerFits, lensSum, readyOf}
-use Rattle.simulation.specs.Memory.{Memory, hubRep, inHandWords, write}
+use Rattle.simulation.specs.Memory.{Memory, hubRep, handWords, inHandWords, write}
 use Rattle.simulation.specs.Left.{Sized, ready}
 use Rattle.simulation.proofs.Each.{All-reverse, All-joined}
 use Rattle.simulation.proofs.Scans.{below-yes, slots-yes, ranges-below, NearIn, linked-yes, lens-yes, lens-sum, workers-yes, pool-yes}
@@ -37,21 +39,36 @@ use Rattle.simulation.proofs.Laid.{hub-is, slots-is, newest-is, free-is
 ------------------------------------------------------------------------
 -- One worker
 
-place-yes : (s : Store) (t : ℕ) (d : Model.Doing) → PlaceIn s t d → placeFits (doingRep d) (s .site .P) (s .site .V') (s .site .N) ≡ true
+place-yes : (s : Store) (t : ℕ) (d : Model.Doing) → PlaceIn s t d
+    → placeFits (aboutOf (doingRep d)) (s .site .P) (s .site .V') (s .site .N) ≡ true
 unfolding placeFits
-place-yes s t Model.Idle a = refl
-place-yes s t (Model.PutPublish r x) a = lt-ltb r (s .site .V') a
-place-yes s t (Model.PutStamp r c) a = rw (lt-ltb r (s .site .V') (a .0), lt-ltb c (s .site .N) (a .1))
-place-yes s t (Model.PutHandIn r c) a = rw (lt-ltb r (s .site .V') (a .0), lt-ltb c (s .site .N) (a .1))
-place-yes s t Model.FlushTake a = refl
-place-yes s t (Model.FlushRead m ts) a = le-leb (length ts) (s .site .P) (a .2)
-place-yes s t (Model.FlushFree m) a = refl
-place-yes s t Model.OpenAnnounce a = refl
-place-yes s t Model.OpenPass a = refl
-place-yes s t (Model.ReadEnter r) a = lt-ltb r (s .site .V') a
-place-yes s t (Model.ReadStand r c) a = rw (lt-ltb r (s .site .V') (a .0), lt-ltb c (s .site .N) (a .1))
-place-yes s t Model.CloseWithdraw a = refl
-place-yes s t (Model.GetShow r) a = lt-ltb r (s .site .V') a
+place-yes s t d a = go d a
+  where
+    p : ℕ
+    p = s .site .P
+
+    v : ℕ
+    v = s .site .V'
+
+    n : ℕ
+    n = s .site .N
+
+    -- where no times are read there is nothing to test
+    none : leb 0 p ≡ true
+    none = le-leb 0 p (omega arith)
+
+    go : (d : Model.Doing) → PlaceIn s t d → placeFits (aboutOf (doingRep d)) p v n ≡ true
+    go Model.Idle a = none
+    go (Model.PutPublish r x) a = rw (lt-ltb r v a, none)
+    go (Model.PutStamp r c) a = rw (lt-ltb r v (a .0), lt-ltb c n (a .1), none)
+    go (Model.PutHandIn r c) a = rw (lt-ltb r v (a .0), lt-ltb c n (a .1), none)
+    go Model.FlushTake a = none
+    go (Model.FlushRead m ts) a = le-leb (length ts) p (a .2)
+    go (Model.FlushFree m) a = none
+    go (Model.OnTime y) a = none
+    go (Model.ReadEnter g) a = rw (lt-ltb (g .register) v a, none)
+    go (Model.ReadStand g c) a = rw (lt-ltb (g .register) v (a .0), lt-ltb c n (a .1), none)
+    go (Model.GetShow r) a = rw (lt-ltb r v a, none)
 
 -- a list of at most 256 ranges in a worker's part of the memory
 list-yes : (l : List Range) (n w : ℕ) (merged : List ℕ) → length l ≤ 256 → All (λ ρ. ρ .slot < n) l
@@ -69,8 +86,8 @@ slots-of : (s : Store) (l : List Range) → All (RangeIn s) l → All (λ ρ. ρ
 slots-of s l t = All-map (λ ρ a. a .0) l t
 
 hand-yes : (s : Store) (t : ℕ) (d : Model.Doing) (w : ℕ) (merged : List ℕ) → PlaceIn s t d
-    → partOf merged w ≡ over (inHandWords d) (partOf merged w) → handIn (doingRep d) w merged (s .site .N) ≡ true
-unfolding inHandWords
+    → partOf merged w ≡ over (inHandWords d) (partOf merged w) → handIn (aboutOf (doingRep d) .ranges) w merged (s .site .N) ≡ true
+unfolding handWords
 hand-yes s t Model.Idle w merged a e = refl
 hand-yes s t (Model.PutPublish r x) w merged a e = refl
 hand-yes s t (Model.PutStamp r c) w merged a e = refl
@@ -79,17 +96,16 @@ hand-yes s t Model.FlushTake w merged a e = refl
 hand-yes s t (Model.FlushRead m ts) w merged a e = list-yes m (s .site .N) w merged (a .0) (slots-of s m (a .1)) e
 hand-yes s t (Model.FlushFree m) w merged a e =
     subst (λ (k : ℕ). listFits k w merged (s .site .N) ≡ true) (length-reverse m)
-    (list-yes (reverse m) (s .site .N) w merged (omega (arith, length-reverse m, a .0)) (All-reverse (λ (ρ : Range). ρ .slot < s .site .N) m (slots-of s m (a .1))) e)
-hand-yes s t Model.OpenAnnounce w merged a e = refl
-hand-yes s t Model.OpenPass w merged a e = refl
-hand-yes s t (Model.ReadEnter r) w merged a e = refl
-hand-yes s t (Model.ReadStand r c) w merged a e = refl
-hand-yes s t Model.CloseWithdraw w merged a e = refl
+    (list-yes (reverse m) (s .site .N) w merged (omega (arith, length-reverse m, a .0))
+    (All-reverse (λ (ρ : Range). ρ .slot < s .site .N) m (slots-of s m (a .1))) e)
+hand-yes s t (Model.OnTime y) w merged a e = refl
+hand-yes s t (Model.ReadEnter g) w merged a e = refl
+hand-yes s t (Model.ReadStand g c) w merged a e = refl
 hand-yes s t (Model.GetShow r) w merged a e = refl
 
 -- the list in hand fits the worker's part
 pub hand-short : (s : Store) (t : ℕ) (d : Model.Doing) → PlaceIn s t d → length (inHandWords d) ≤ 768
-unfolding inHandWords
+unfolding handWords
 hand-short s t Model.Idle a = omega arith
 hand-short s t (Model.PutPublish r x) a = omega arith
 hand-short s t (Model.PutStamp r c) a = omega arith
@@ -97,11 +113,9 @@ hand-short s t (Model.PutHandIn r c) a = omega arith
 hand-short s t Model.FlushTake a = omega arith
 hand-short s t (Model.FlushRead m ts) a = omega (arith, length-flat m, a .0)
 hand-short s t (Model.FlushFree m) a = omega (arith, length-flat (reverse m), length-reverse m, a .0)
-hand-short s t Model.OpenAnnounce a = omega arith
-hand-short s t Model.OpenPass a = omega arith
-hand-short s t (Model.ReadEnter r) a = omega arith
-hand-short s t (Model.ReadStand r c) a = omega arith
-hand-short s t Model.CloseWithdraw a = omega arith
+hand-short s t (Model.OnTime y) a = omega arith
+hand-short s t (Model.ReadEnter g) a = omega arith
+hand-short s t (Model.ReadStand g c) a = omega arith
 hand-short s t (Model.GetShow r) a = omega arith
 
 -- a local pool
@@ -114,7 +128,8 @@ pool-fits s l h t = pool-yes (poolRep l) (s .site .N) h at
     at : (i : ℕ) → i < length l → getD (padded 64 (map (λ ρ. ρ .slot) l)) i 0 < s .site .N
     at i b =
         let e : getD (padded 64 (map (λ (ρ : Range). ρ .slot) l)) i 0 ≡ getD l i z .slot =
-        padded-at 64 (map (λ (ρ : Range). ρ .slot) l) i (omega (arith, length-map l (λ (ρ : Range). ρ .slot))) ∙ getD-map (λ (ρ : Range). ρ .slot) l i z 0 b in
+        padded-at 64 (map (λ (ρ : Range). ρ .slot) l) i (omega (arith, length-map l (λ (ρ : Range). ρ .slot)))
+        ∙ getD-map (λ (ρ : Range). ρ .slot) l i z 0 b in
         omega (arith, e, All-at (λ (ρ : Range). ρ .slot < s .site .N) l i z b (slots-of s l t))
 
 ------------------------------------------------------------------------
@@ -152,7 +167,8 @@ module _ {s : Store} (m : Memory) (S : Sound s) (Z : Sized m) (laid : m ≡ writ
       let h : i < length (reverse (s .free)) = omega (arith, b, length-reverse (s .free)) in
       let e : getD (m .free) i 0 ≡ getD (reverse (s .free)) i 0 =
       ap (λ (l : List ℕ). getD l i 0) (free-is s m laid) ∙ getD-over-in (reverse (s .free)) (m .free) i 0 h in
-      let t : All (λ (f : ℕ). f < s .site .N) (reverse (s .free)) = All-reverse (λ (f : ℕ). f < s .site .N) (s .free) (All-occurrences (s .free) (S .free)) in
+      let t : All (λ (f : ℕ). f < s .site .N) (reverse (s .free)) = All-reverse (λ (f : ℕ). f < s .site .N) (s .free)
+      (All-occurrences (s .free) (S .free)) in
       omega (arith, e, All-at (λ (f : ℕ). f < s .site .N) (reverse (s .free)) i 0 h t)
 
   queue-below : (j : ℕ) → j < length (joinedRanges (s .queue)) → getD (m .queue) (3 * (0 + j)) 0 < s .site .N

@@ -10,7 +10,7 @@ use Rattle.model.specs.Answer as Model·Answer
 use Rattle.model.specs.Steps.{stepAt, flushFree}
 use Rattle.values.specs.declared.Answer.the-variants.{Done, No}
 use Rattle.step.specs.Step.{stepOf}
-use Rattle.simulation.specs.Memory.{Memory, inHandWords, write}
+use Rattle.simulation.specs.Memory.{Memory, handWords, write}
 use Rattle.simulation.specs.Left.{Sized}
 use Rattle.simulation.proofs.Sound.{Sound}
 use Rattle.simulation.proofs.Simulates.{Simulates}
@@ -19,7 +19,7 @@ use Rattle.simulation.proofs.Kept.{kept-sim}
 
 module _ (s : Store) (m : Memory) (w : ℕ) (S : Sound s) (Z : Sized m) (laid : m ≡ write s m) (wb : w < s .site .P) where
   pub idle-sim : workerAt s w .doing ≡ Model.Idle → Simulates s m w Model.Idle
-  unfolding stepOf stepAt inHandWords
+  unfolding stepOf stepAt handWords
   idle-sim e =
       let same : s .workers ≡ set (s .workers) w (withDoing (workerAt s w) Model.Idle) =
       sym (set-getD (s .workers) w startWorker) ∙ ap (λ (d : Model.Doing). set (s .workers) w (withDoing (workerAt s w) d)) e in
@@ -27,6 +27,7 @@ module _ (s : Store) (m : Memory) (w : ℕ) (S : Sound s) (Z : Sized m) (laid : 
       (ap (λ (l : List Model.Worker). record { store = withWorkers s l; answer = Model·Answer.No 11 }) same) refl refl
 
   pub flush-done-sim : workerAt s w .doing ≡ Model.FlushFree [] → Simulates s m w (Model.FlushFree [])
-  unfolding stepOf stepAt flushFree inHandWords
+  unfolding stepOf stepAt flushFree handWords
   flush-done-sim e =
-      kept-sim s m w (Model.FlushFree []) S Z laid wb e Model.Idle (workerAt s w .announced) (s .clock) (s .slots) Done refl (slots-is s m laid) refl refl refl
+      kept-sim s m w (Model.FlushFree []) S Z laid wb e Model.Idle (workerAt s w .announced) (s .clock) (s .slots) Done refl
+      (slots-is s m laid) refl refl refl

@@ -52,13 +52,16 @@ module _ (l : List Model.Slot) (d : List Slot) (n k : ℕ) (inside : n < length 
       l′ : List Model.Slot
       l′ = change l n (λ z. setLow z k)
 
-      when : (v .low ≡ absent) × (eqb (v .low) absent ≡ true) → stampedBy (slotRep v) ≡ rowWith (cond (eqb (v .low) absent) (change l′ (v .older) (λ z. setHigh z k)) l) d
+      when : (v .low ≡ absent) × (eqb (v .low) absent ≡ true)
+          → stampedBy (slotRep v) ≡ rowWith (cond (eqb (v .low) absent) (change l′ (v .older) (λ z. setHigh z k)) l) d
       when (e, t) =
           rw t
-          (ap (λ (r : List Slot). changeIn r (v .older) (λ z. withHigh z k)) (changed-row l d n (λ z. withLow z k) (λ z. setLow z k) (λ z. refl) inside)
+          (ap (λ (r : List Slot). changeIn r (v .older) (λ z. withHigh z k))
+          (changed-row l d n (λ z. withLow z k) (λ z. setLow z k) (λ z. refl) inside)
           ∙ changed-row l′ d (v .older) (λ z. withHigh z k) (λ z. setHigh z k) (λ z. refl) (rw (length-set l n (setLow v k)) (unstamped e)))
 
-      otherwise : (v .low ≢ absent) × (eqb (v .low) absent ≡ false) → stampedBy (slotRep v) ≡ rowWith (cond (eqb (v .low) absent) (change l′ (v .older) (λ z. setHigh z k)) l) d
+      otherwise : (v .low ≢ absent) × (eqb (v .low) absent ≡ false)
+          → stampedBy (slotRep v) ≡ rowWith (cond (eqb (v .low) absent) (change l′ (v .older) (λ z. setHigh z k)) l) d
       otherwise (e, t) = rw t
 
 ------------------------------------------------------------------------
@@ -92,7 +95,8 @@ module _ (l : List Model.Slot) (d : List Slot) (c : ℕ) (inside : c < length l)
   abbrev unlinkedBy : Slot → List Slot
   unlinkedBy a =
       changeIn
-      (changeIn (cond (eqb (a .older) absent) (rowWith l d) (changeIn (rowWith l d) (a .older) (λ z. withNewer z (a .newer)))) (a .newer) (λ z. withOlder z (a .older)))
+      (changeIn (cond (eqb (a .older) absent) (rowWith l d) (changeIn (rowWith l d) (a .older) (λ z. withNewer z (a .newer)))) (a .newer)
+      (λ z. withOlder z (a .older)))
       c aloneSlot
 
   first : cond (eqb o absent) (rowWith l d) (changeIn (rowWith l d) o (λ z. withNewer z n)) ≡ rowWith older d

@@ -76,7 +76,12 @@ unfolding linkedTo
 linked-yes l n zero f = refl
 linked-yes l n (suc k) f =
     let a = f k (omega arith) in
-    rw (linked-yes l n k (λ c h. f c (omega (arith, h))), near-yes n (getD l k vacantSlot .older) (a .0), near-yes n (getD l k vacantSlot .newer) (a .1))
+    rw (
+      linked-yes l n k (λ c h. f c (omega (arith, h))),
+      near-yes n (getD l k vacantSlot .older) (a .0),
+      near-yes n (getD l k vacantSlot .newer)
+          (a .1),
+    )
 
 ------------------------------------------------------------------------
 -- The queued pools

@@ -73,7 +73,8 @@ same-sizes : (z : Sizes) (long : ℕ) → z .clock ≤ lastClock → sizesOk (z 
 unfolding sizesOk inRanges
 same-sizes z long h =
     rw (le-leb (z .clock) lastClock h)
-    (regroup (leb 1 (z .P) && leb (z .P) 16 && (leb 1 (z .V') && leb (z .V') 256)) (leb (z .V') (z .N) && leb (z .N) 2048) (leb 1 (z .clock)) (leb (z .N) long))
+    (regroup (leb 1 (z .P) && leb (z .P) 16 && (leb 1 (z .V') && leb (z .V') 256)) (leb (z .V') (z .N) && leb (z .N) 2048) (leb 1 (z .clock))
+    (leb (z .N) long))
 
 ------------------------------------------------------------------------
 -- A record that was read as r
@@ -97,7 +98,8 @@ module _ (m : Memory) (Z : Sized m) where
       }
 
   set-up : (z : Sizes) → z .clock ≤ lastClock
-      → Follows m (cond (sizesOk (z .P) (z .V') (z .N) (z .clock) (length (m .slots))) (Make (z .P) (z .V') (z .N) (z .clock)) (Refuse 5)) (setUp document01 (blank row) z)
+      → Follows m (cond (sizesOk (z .P) (z .V') (z .N) (z .clock) (length (m .slots))) (Make (z .P) (z .V') (z .N) (z .clock)) (Refuse 5))
+      (setUp document01 (blank row) z)
   unfolding setUp
   set-up z h =
       let long : length (m .slots) ≡ length row = sym (length-map (m .slots) slotOf) in

@@ -13,6 +13,7 @@ use Rattle.model.specs.Batch.{batchOf}
 use Rattle.model.specs.Rules.{document01, Ruled, under}
 use Rattle.model.specs.Apply.{fresh, apply, applyRuled, hubAfter}
 use Rattle.model.specs.Demand.{Call, Plain, occurrences, All}
+use Rattle.model.specs.About.{about}
 use Rattle.model.specs.Reached.{sumBy, inHand, Bounds}
 use Rattle.model.proofs.Basic.{hit-same, hit-eq, occurrences-head, up-inj, All-at}
 use Rattle.model.proofs.Count.{cnt, sumBy-one}
@@ -39,6 +40,12 @@ pub record Apart (s : Store) (c : ℕ) : Type 0 where
   pub c≢newer : slotAt s c .newer ≢ c
   pub older≢newer : slotAt s c .older ≢ slotAt s c .newer
 
+-- the announced time before a step that moves it
+abbrev pub TimeIn : Store → ℕ → Model.TimeStep → Type 0
+TimeIn s t Model.OpenAnnounce = Unit {0}
+TimeIn s t Model.OpenPass = (t ≤ s .clock) × (t < lastClock)
+TimeIn s t Model.CloseWithdraw = Unit {0}
+
 -- the numbers that a worker's place holds
 abbrev pub PlaceIn : Store → ℕ → Model.Doing → Type 0
 PlaceIn s t Model.Idle = Unit {0}
@@ -48,11 +55,9 @@ PlaceIn s t (Model.PutHandIn r c) = (r < s .site .V') × (c < s .site .N) × (sl
 PlaceIn s t Model.FlushTake = Unit {0}
 PlaceIn s t (Model.FlushRead m ts) = (length m ≤ 256) × All (RangeIn s) m × (length ts ≤ s .site .P)
 PlaceIn s t (Model.FlushFree m) = (length m ≤ 256) × All (RangeIn s) m × All (λ ρ. Apart s (ρ .slot)) m
-PlaceIn s t Model.OpenAnnounce = Unit {0}
-PlaceIn s t Model.OpenPass = (t ≤ s .clock) × (t < lastClock)
-PlaceIn s t (Model.ReadEnter r) = r < s .site .V'
-PlaceIn s t (Model.ReadStand r c) = (r < s .site .V') × (c < s .site .N)
-PlaceIn s t Model.CloseWithdraw = Unit {0}
+PlaceIn s t (Model.OnTime y) = TimeIn s t y
+PlaceIn s t (Model.ReadEnter g) = g .register < s .site .V'
+PlaceIn s t (Model.ReadStand g c) = (g .register < s .site .V') × (c < s .site .N)
 PlaceIn s t (Model.GetShow r) = r < s .site .V'
 
 pub record Sound (s : Store) : Type 0 where
@@ -117,7 +122,8 @@ module _ {now : ℕ} {s : Store} {olds : List (List ℕ)} {h : List Call} {o : L
     ranges-in l (λ c z. f c (omega (arith, z))) (t .1),
   )
 
-  queue-in : (q : List (List Range)) → ((c : ℕ) → 0 < sumBy (cnt c) q → 0 < pend c (s .workers) (s .queue)) → All (All (Good (ctx s olds))) q → All (All (RangeIn s)) q
+  queue-in : (q : List (List Range)) → ((c : ℕ) → 0 < sumBy (cnt c) q → 0 < pend c (s .workers) (s .queue)) → All (All (Good (ctx s olds))) q
+      → All (All (RangeIn s)) q
   unfolding sumBy
   queue-in [] f t = tt
   queue-in (l ∷ q) f t = (ranges-in l (λ c z. f c (omega (arith, z))) (t .0), queue-in q (λ c z. f c (omega (arith, z))) (t .1))
@@ -149,7 +155,8 @@ module _ {now : ℕ} {s : Store} {olds : List (List ℕ)} {h : List Call} {o : L
       → (slotAt s (newestOf s r) .older < s .site .N) × (slotAt s (newestOf s r) .older ≢ newestOf s r)
   unfolding occurrences
   unstamped-apart r b e =
-      let n = next-older (s .slots) (s .clock) (p .registers r) (newestOf s r) (old (ctx s olds) r) (I .clockFits) (I .linked r b) (I .stamps r b) e in (
+      let n = next-older (s .slots) (s .clock) (p .registers r) (newestOf s r) (old (ctx s olds) r) (I .clockFits) (I .linked r b)
+      (I .stamps r b) e in (
         in-old r b (slotAt s (newestOf s r) .older) n,
         λ z. omega (arith, chain-once I r b (newestOf s r), hit-same (newestOf s r), subst (λ (i : ℕ). 0 < occurrences i (old (ctx s olds) r)) z n),
       )
@@ -172,7 +179,8 @@ module _ {now : ℕ} {s : Store} {olds : List (List ℕ)} {h : List Call} {o : L
   worker-pends : (w : ℕ) → w < s .site .P → (c : ℕ) → pendW c (workerAt s w) ≤ pend c (s .workers) (s .queue)
   worker-pends w b c = omega (arith, sumBy-one (pendW c) (s .workers) w startWorker (omega (arith, I .workersLength)))
 
-  place-in : (w t : ℕ) (d : Model.Doing) → PlaceHolds (ctx s olds) p w t d → inHand d ≤ 256 → ((c : ℕ) → 0 < inDoing c d → 0 < pend c (s .workers) (s .queue)) → PlaceIn s t d
+  place-in : (w t : ℕ) (d : Model.Doing) → PlaceHolds (ctx s olds) p w t d → inHand (about d .hand) ≤ 256
+      → ((c : ℕ) → 0 < inDoing c d → 0 < pend c (s .workers) (s .queue)) → PlaceIn s t d
   place-in w t Model.Idle a n f = tt
   place-in w t (Model.PutPublish r x) a n f = a .0
   place-in w t (Model.PutStamp r c) a n f = (a .0, in-old r (a .0) c (a .2))
@@ -185,12 +193,13 @@ module _ {now : ℕ} {s : Store} {olds : List (List ℕ)} {h : List Call} {o : L
   place-in w t Model.FlushTake a n f = tt
   place-in w t (Model.FlushRead m ts) a n f = (n, ranges-in m f (a .1), a .2)
   place-in w t (Model.FlushFree m) a n f = (n, ranges-in m f (a .1), apart-all m f)
-  place-in w t Model.OpenAnnounce a n f = tt
-  place-in w t Model.OpenPass a n f = a
-  place-in w t (Model.ReadEnter r) a n f = a .0
-  place-in w t (Model.ReadStand r c) a n f =
+  place-in w t (Model.OnTime Model.OpenAnnounce) a n f = tt
+  place-in w t (Model.OnTime Model.OpenPass) a n f = a
+  place-in w t (Model.OnTime Model.CloseWithdraw) a n f = tt
+  place-in w t (Model.ReadEnter g) a n f = a .0
+  place-in w t (Model.ReadStand g c) a n f =
+      let r = g .register in
       (a .0, in-chain r (a .0) c (stands-in (s .slots) t c (a .2 .0 r) (chain (ctx s olds) r) (a .2 .2)))
-  place-in w t Model.CloseWithdraw a n f = tt
   place-in w t (Model.GetShow r) a n f = a .0
 
 ------------------------------------------------------------------------
@@ -211,7 +220,12 @@ reached-sound s R =
       places =
           λ w b.
           place-in I w (workerAt s w .announced) (workerAt s w .doing) (I .workers w b .doing)
-          (omega (arith, B .batch .1, All-at (λ (x : Model.Worker). inHand (x .doing) ≤ 4 * s .site .B) (s .workers) w startWorker (omega (arith, b, I .workersLength)) (B .merged)))
+          (omega (
+            arith,
+            B .batch .1,
+            All-at (λ (x : Model.Worker). inHand (about (x .doing) .hand) ≤ 4 * s .site .B) (s .workers) w startWorker
+                (omega (arith, b, I .workersLength)) (B .merged),
+          ))
           (λ c z. omega (arith, z, worker-pends I w b c));
       queue = queue-in I (s .queue) (λ c z. omega (arith, z)) (I .queue);
     }

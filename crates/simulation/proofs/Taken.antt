@@ -7,7 +7,6 @@ use lib.ListN.{length}
 use Rattle.lists.specs.Over.{over}
 use Rattle.model.specs.Store as Model
 use Rattle.model.specs.Store.{Store, workerAt, withClock, withSlots, withNewest, withFree, withWorker}
-use Rattle.model.specs.Answer as Model·Answer
 use Rattle.model.specs.Steps.{stepAt}
 use Rattle.values.specs.Meaning.{answerOf}
 use Rattle.values.specs.declared.Answer.{Answer}
@@ -31,7 +30,8 @@ abbrev pub after : Store → ℕ → Model.Worker → ℕ → List Model.Slot �
 after s w x k l newest free = withFree (withNewest (withSlots (withClock (withWorker s w x) k) l) newest) free
 
 -- The step at the place d leaves worker w's record x, the clock k, the slots l, the newest versions and the free slots, and answers y.
-pub record Takes (s : Store) (m : Memory) (w : ℕ) (d : Model.Doing) (x : Model.Worker) (k : ℕ) (l : List Model.Slot) (newest free : List ℕ) (y : Answer) : Type 0 where
+pub record Takes (s : Store) (m : Memory) (w : ℕ) (d : Model.Doing) (x : Model.Worker) (k : ℕ) (l : List Model.Slot) (newest free : List ℕ)
+    (y : Answer) : Type 0 where
   pub code : stepAtIn m (recordAt s w d) (doingRep d)
       ≡ record {
         next = Taken (outcomeOf (doingRep (x .doing)) (announcedRep (x .announced)) k (length free) y);
@@ -44,7 +44,8 @@ pub record Takes (s : Store) (m : Memory) (w : ℕ) (d : Model.Doing) (x : Model
   pub words : inHandWords d ≡ inHandWords (x .doing) ++ []
   pub freeKept : m .free ≡ over (reverse free) (m .free)
 
-module _ (s : Store) (m : Memory) (w : ℕ) (d : Model.Doing) (S : Sound s) (Z : Sized m) (laid : m ≡ write s m) (wb : w < s .site .P) (e : workerAt s w .doing ≡ d) where
+module _ (s : Store) (m : Memory) (w : ℕ) (d : Model.Doing) (S : Sound s) (Z : Sized m) (laid : m ≡ write s m) (wb : w < s .site .P)
+    (e : workerAt s w .doing ≡ d) where
   pub taken-sim : (x : Model.Worker) (k : ℕ) (l : List Model.Slot) (newest free : List ℕ) (y : Answer)
       → Takes s m w d x k l newest free y → Simulates s m w d
   unfolding goIn nextIn takenIn

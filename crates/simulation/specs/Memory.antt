@@ -3,6 +3,7 @@ use mathlib.Core.List.{List, [], _∷_, _++_, map, reverse}
 use Prim.Native.Nat.{ℕ}
 use lib.ListN.{length, take, drop, replicate}
 use Rattle.lists.specs.Over.{over}
+use Rattle.model.specs.About.{Hand, Empty, Covered, Merged, Needless, about}
 use Rattle.model.specs.Store as Model
 use Rattle.model.specs.Store.{Store, startWorker}
 use Rattle.worker.specs.Rep.{workerRep}
@@ -58,20 +59,15 @@ hubRep s =
     }
 
 -- the words of the list that a flush has in hand: a merged list, or the needless ranges with the one that is freed first last
-unfoldable pub inHandWords : Model.Doing → List ℕ
-inHandWords Model.Idle = []
-inHandWords (Model.PutPublish r x) = []
-inHandWords (Model.PutStamp r c) = []
-inHandWords (Model.PutHandIn r c) = []
-inHandWords Model.FlushTake = []
-inHandWords (Model.FlushRead m ts) = flat m
-inHandWords (Model.FlushFree m) = flat (reverse m)
-inHandWords Model.OpenAnnounce = []
-inHandWords Model.OpenPass = []
-inHandWords (Model.ReadEnter r) = []
-inHandWords (Model.ReadStand r c) = []
-inHandWords Model.CloseWithdraw = []
-inHandWords (Model.GetShow r) = []
+unfoldable pub handWords : Hand → List ℕ
+handWords Empty = []
+handWords (Covered c) = []
+handWords (Merged m ts) = flat m
+handWords (Needless m) = flat (reverse m)
+
+-- at a worker's place
+abbrev pub inHandWords : Model.Doing → List ℕ
+inHandWords d = handWords (about d .hand)
 
 -- each worker's list in its part of the memory, 768 words
 unfoldable pub mergedOver : List Model.Worker → List ℕ → List ℕ

@@ -15,7 +15,7 @@ use Rattle.answers.specs.Numbers.{kindOf, numberOf}
 use Rattle.simulation.specs.Memory.{Memory}
 use Rattle.simulation.specs.Left.{Left, Sized, ready}
 use Rattle.simulation.specs.Shell.{doneOf}
-use Rattle.simulation.specs.Demands.{Turn, Bytes, Calls, CodeDemand3}
+use Rattle.simulation.specs.Demands.{EventIn, Bytes, Calls, CodeDemand3}
 use Rattle.simulation.specs.Buffer.{recordAt, after, before}
 
 ------------------------------------------------------------------------
@@ -31,13 +31,13 @@ abbrev pub answerEach : Memory → List ℕ → ℕ → Answer
 answerEach m bytes k = doneOf (each m bytes k) (recordAt bytes k) .answer
 
 -- the call for record k
-abbrev pub turnAt : Memory → List ℕ → ℕ → Turn
-turnAt m bytes k = record { bytes = recordAt bytes k; answer = answerEach m bytes k; after = each m bytes (suc k) }
+abbrev pub eventAt : Memory → List ℕ → ℕ → EventIn
+eventAt m bytes k = record { bytes = recordAt bytes k; answer = answerEach m bytes k; after = each m bytes (suc k) }
 
 -- the calls for n records, from record k on
-unfoldable pub turns : Memory → List ℕ → ℕ → ℕ → List Turn
-turns m bytes k zero = []
-turns m bytes k (suc n) = turnAt m bytes k ∷ turns m bytes (suc k) n
+unfoldable pub eventsFrom : Memory → List ℕ → ℕ → ℕ → List EventIn
+eventsFrom m bytes k zero = []
+eventsFrom m bytes k (suc n) = eventAt m bytes k ∷ eventsFrom m bytes (suc k) n
 
 ------------------------------------------------------------------------
 -- The promise
@@ -62,13 +62,13 @@ pub record OneByOne : Type 0 where
   pub otherNumbers : (m : Memory) (bytes kinds numbers : List ℕ) (n k : ℕ) → n ≤ k
       → getD (after (before m kinds numbers) bytes n .numbers) k 0 ≡ getD numbers k 0
   -- Each record does what the contract of the call for one record says, so the demands of document 01 hold of the records of a buffer.
-  pub calls : (m : Memory) (bytes : List ℕ) (n : ℕ) → Decided m → Sized m → Bytes bytes → Calls m (turns m bytes 0 n)
+  pub calls : (m : Memory) (bytes : List ℕ) (n : ℕ) → Decided m → Sized m → Bytes bytes → Calls m (eventsFrom m bytes 0 n)
   -- A setup is answered `ok` only on memory that does not count as set up, so all of the above holds there.
   pub fromSetup : (m : Memory) (b : List ℕ) → Sized m → Bytes b
       → (z : Sizes) → decode b ≡ Asks (SetUp z) → answerOf (doneOf m b .answer) ≡ Ok → Decided m
   -- Demand 3: the first record is a setup that is answered `ok`, and n records follow it.
   pub demand3 : (m : Memory) (bytes : List ℕ) (n : ℕ) → Sized m → Bytes bytes
       → (z : Sizes) → decode (recordAt bytes 0) ≡ Asks (SetUp z) → answerOf (answerEach m bytes 0) ≡ Ok
-      → CodeDemand3 m (turnAt m bytes 0) (turns m bytes 1 n)
+      → CodeDemand3 m (eventAt m bytes 0) (eventsFrom m bytes 1 n)
 
 -- On memory that counts as set up and that no records left nothing else is promised, as document 01 has it.

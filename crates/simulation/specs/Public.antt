@@ -2,6 +2,7 @@
 use mathlib.Core.Path.{_≡_}
 use mathlib.Core.Bool.{Bool, true, false, cond, not, _&&_}
 use mathlib.Core.List.{List, map}
+use mathlib.Core.Option.{Option, none, some}
 use Prim.Native.Nat.{ℕ, _<_}
 use lib.Dec.{ltb}
 use Rattle.model.specs.Store as Model
@@ -11,13 +12,13 @@ use Rattle.model.specs.Record.{Sizes, SetUp, Begin, Step, Decoded, Asks, Refuse
 use Rattle.model.specs.Demand.{occurrences}
 use Rattle.model.specs.Refusals.{onReading, atStep}
 use Rattle.model.specs.Answer as Model·Answer
+use Rattle.model.specs.Answer.{said}
 use Rattle.model.specs.Apply as Model·Apply
 use Rattle.values.specs.Meaning.{answerOf}
 use Rattle.values.specs.declared.Answer.{Answer}
-use Rattle.values.specs.declared.Answer.the-variants.{Ok, Going, Freed, At, Value, Done, No}
 use Rattle.slots.specs.Slots.{slotOf}
 use Rattle.worker.specs.declared.Doing.the-variants.{Idle}
-use Rattle.gate.specs.Gate.{idleOf}
+use Rattle.worker.specs.About.{aboutOf}
 use Rattle.state.specs.State.{workerIn, withWorkerIn, atPlace}
 use Rattle.simulation.specs.Memory.{Memory, writeHub}
 use Rattle.simulation.specs.Left.{Left, ready}
@@ -39,7 +40,7 @@ idleIn m w =
 unfoldable pub takesStepIn : Memory → Decoded → Bool
 takesStepIn m (Asks (SetUp z)) = false
 takesStepIn m (Asks (Begin w o)) = false
-takesStepIn m (Asks (Step w)) = ready m && (ltb w (m .hub .p) && not (idleOf (workerIn (m .hub) w .doing)))
+takesStepIn m (Asks (Step w)) = ready m && (ltb w (m .hub .p) && not (aboutOf (workerIn (m .hub) w .doing) .idle))
 takesStepIn m (Refuses k) = false
 
 -- the memory with that worker idle of which the record is a step
@@ -56,15 +57,13 @@ pub record Refused (m : Memory) (d : Decoded) (k : ℕ) (m′ : Memory) : Type 0
   -- one that a step meets sets that worker idle, one on reading changes nothing
   pub leaves : m′ ≡ cond (takesStepIn m d) (idledIn m d) m
 
--- Demand 1 of the code, on any memory: the record reads as d, is answered, and leaves the memory m′.
+-- Demand 1 of the code, on any memory: the record reads as d, is answered, with a refusal or without, and leaves the memory m′.
+abbrev pub EndsBy : Memory → Decoded → Option ℕ → Memory → Type 0
+EndsBy m d none m′ = Unit {0}
+EndsBy m d (some k) m′ = Refused m d k m′
+
 abbrev pub EndsWell : Memory → Decoded → Answer → Memory → Type 0
-EndsWell m d Ok m′ = Unit {0}
-EndsWell m d Going m′ = Unit {0}
-EndsWell m d (Freed c) m′ = Unit {0}
-EndsWell m d (At t) m′ = Unit {0}
-EndsWell m d (Value x) m′ = Unit {0}
-EndsWell m d Done m′ = Unit {0}
-EndsWell m d (No k) m′ = Refused m d k m′
+EndsWell m d y m′ = EndsBy m d (said (answerOf y) .refusal) m′
 
 -- A record of the bytes b, any bytes and any number of them, met the memory m, was answered y and left the memory m′.
 pub record Does (m : Memory) (b : List ℕ) (y : Answer) (m′ : Memory) : Type 0 where

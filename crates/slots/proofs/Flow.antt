@@ -11,7 +11,8 @@ use ghost.Atoms.{Atoms}
 use types.Kit.{Given, Item, Post, anyQ, post, runs, Seq, _$_}
 use types.Run.{Opd, first, branches, skips}
 
-module _ {M : Type 1} {𝓤 : URA M} {H : Heap 𝓤} {A : Atoms 𝓤} {K : Type 0} {W : Given 𝓤 H A} {Γ : List (Item 𝓤)} {E : Env 𝓤 H} {C : Calls 𝓤 H} {Λ : Loops 𝓤 H} {q : Post 𝓤 H} where
+module _ {M : Type 1} {𝓤 : URA M} {H : Heap 𝓤} {A : Atoms 𝓤} {K : Type 0} {W : Given 𝓤 H A} {Γ : List
+    (Item 𝓤)} {E : Env 𝓤 H} {C : Calls 𝓤 H} {Λ : Loops 𝓤 H} {q : Post 𝓤 H} where
   pub guards : K → {c : Operand} {a b : Body} {y : Bool} → Opd K W Γ E c (vbool y)
       → (T y → Seq K W Γ (runs C Λ E a (anyQ (afterSeq 𝓤 H (Wp 𝓤 H C Λ E b (post 𝓤 H q)) (post 𝓤 H q))))) → (T (not y) → Seq K W Γ (runs C Λ E b q))
       → Seq K W Γ (runs C Λ E (seq (cond c a skip) b) q)

@@ -25,7 +25,8 @@ pub tells : Tells T.the-row (Is T.the-row) vals
 tells = LL.tells T.the-type T′.the-laws
 
 -- they are of the slot's type,
-pub typed : {M : Type 1} (𝓤 : URA M) (H : Heap 𝓤) (A : Atoms 𝓤) → Given 𝓤 H A → (u : Slot) → Is T.the-row u (vals u) → Holds (hasTy T′.mir (T′.lowered u)) × WT (T′.lowered u)
+pub typed : {M : Type 1} (𝓤 : URA M) (H : Heap 𝓤) (A : Atoms 𝓤) → Given 𝓤 H A → (u : Slot) → Is T.the-row u (vals u)
+    → Holds (hasTy T′.mir (T′.lowered u)) × WT (T′.lowered u)
 typed 𝓤 H A W u g = LL.lawful T.the-type T′.the-laws 𝓤 H A W .typed u (vals u) g .0
 
 -- and a slot owns nothing beyond them

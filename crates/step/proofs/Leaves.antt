@@ -13,6 +13,7 @@ use Rattle.slots.specs.declared.Slot.{Slot}
 use Rattle.arrays.specs.Arrays.{short}
 use Rattle.versions.specs.Versions.{slotAtIn, stampedIn, linkedIn}
 use Rattle.worker.specs.declared.Announced.{Announced}
+use Rattle.worker.specs.declared.Goal.{Goal}
 use Rattle.worker.specs.declared.Doing.the-variants.{Idle, PutStamp, PutHandIn, ReadStand}
 use Rattle.worker.specs.Rep.{timeOf}
 use Rattle.step.specs.declared.Outcome.{Outcome}
@@ -48,21 +49,21 @@ unfolding putStampStep
 put-passed ew ev already eo = rw (eo, ← ew, ← ev, already)
 
 -- read (1)
-pub read-entered : (l : List Slot) {r : ℕ} {t : Announced} {k n i : ℕ} {l₁ : List Slot} {newest : List ℕ} {o : Outcome}
-    → i ≡ newestAt newest r → l₁ ≡ stampedIn l i k → o ≡ outcomeOf (ReadStand r (short i)) t k n Going
-    → leaves o l₁ newest ≡ readEnterStep r t k n l newest
+pub read-entered : (l : List Slot) {g : Goal} {t : Announced} {k n i : ℕ} {l₁ : List Slot} {newest : List ℕ} {o : Outcome}
+    → i ≡ newestAt newest (g .register) → l₁ ≡ stampedIn l i k → o ≡ outcomeOf (ReadStand g (short i)) t k n Going
+    → leaves o l₁ newest ≡ readEnterStep g t k n l newest
 unfolding readEnterStep
 read-entered l ei e₁ eo = rw (eo, e₁, ei)
 
 -- read (2), where the version's low is at most the worker's time and where it is not
-pub read-answered : (r : ℕ) (l : List Slot) {c : ℕ} {t : Announced} {k n w time : ℕ} {v : Slot} {o : Outcome} → w ≡ c → v ≡ slotAtIn l w
-    → time ≡ timeOf t → leb (v .low) time ≡ true → o ≡ outcomeOf Idle t k n (Value (v .value)) → o ≡ readStandStep r c t k n l
+pub read-answered : (g : Goal) (l : List Slot) {c : ℕ} {t : Announced} {k n w time : ℕ} {v : Slot} {o : Outcome} → w ≡ c → v ≡ slotAtIn l w
+    → time ≡ timeOf t → leb (v .low) time ≡ true → o ≡ outcomeOf Idle t k n (Value (v .value)) → o ≡ readStandStep g c t k n l
 unfolding readStandStep
-read-answered r l ew ev et early eo = rw (← ew, ← ev, ← et, early, eo)
+read-answered g l ew ev et early eo = rw (← ew, ← ev, ← et, early, eo)
 
-pub read-moved : (l : List Slot) {r c : ℕ} {t : Announced} {k n w time : ℕ} {v : Slot} {o : Outcome} → w ≡ c → v ≡ slotAtIn l w
-    → time ≡ timeOf t → leb (v .low) time ≡ false → o ≡ outcomeOf (ReadStand r (short (v .older))) t k n Going
-    → o ≡ readStandStep r c t k n l
+pub read-moved : (l : List Slot) {g : Goal} {c : ℕ} {t : Announced} {k n w time : ℕ} {v : Slot} {o : Outcome} → w ≡ c → v ≡ slotAtIn l w
+    → time ≡ timeOf t → leb (v .low) time ≡ false → o ≡ outcomeOf (ReadStand g (short (v .older))) t k n Going
+    → o ≡ readStandStep g c t k n l
 unfolding readStandStep
 read-moved l ew ev et late eo = rw (← ew, ← ev, ← et, late, eo)
 

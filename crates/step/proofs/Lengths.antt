@@ -11,14 +11,15 @@ use Rattle.versions.specs.Versions.{slotAtIn, stampedIn}
 use Rattle.versions.proofs.Lengths.{either, length-stamped, length-linked}
 use Rattle.worker.specs.declared.Announced.{Announced}
 use Rattle.worker.specs.declared.Doing.{Doing}
-use Rattle.worker.specs.declared.Doing.the-variants.{Idle, PutPublish, PutStamp, PutHandIn, FlushTake, FlushRead, FlushFree, OpenAnnounce, OpenPass, ReadEnter, ReadStand, CloseWithdraw, GetShow}
+use Rattle.worker.specs.declared.Doing.the-variants.{Idle, PutPublish, PutStamp, PutHandIn, FlushTake, FlushRead, FlushFree, OnTime, ReadEnter, ReadStand, GetShow}
 use Rattle.step.specs.Step.{Stepped, newestAt, nextFree, putPublishStep, putStampStep, readEnterStep, getShowStep, stepOf}
 
 either-step : (n : ℕ) (t : Bool) (a b : Stepped) → length (a .row) ≡ n → length (b .row) ≡ n → length (cond t a b .row) ≡ n
 either-step n true a b e f = e
 either-step n false a b e f = f
 
-pub length-step : (d : Doing) (t : Announced) (k n p : ℕ) (l : List Slot) (newest free : List ℕ) → length (stepOf d t k n p l newest free .row) ≡ length l
+pub length-step : (d : Doing) (t : Announced) (k n p : ℕ) (l : List Slot) (newest free : List ℕ)
+    → length (stepOf d t k n p l newest free .row) ≡ length l
 unfolding stepOf putPublishStep putStampStep readEnterStep getShowStep
 length-step Idle t k n p l newest free = refl
 length-step (PutPublish r x) t k n p l newest free =
@@ -30,9 +31,7 @@ length-step (PutHandIn r c) t k n p l newest free = refl
 length-step FlushTake t k n p l newest free = refl
 length-step (FlushRead m j) t k n p l newest free = refl
 length-step (FlushFree m) t k n p l newest free = refl
-length-step OpenAnnounce t k n p l newest free = refl
-length-step OpenPass t k n p l newest free = refl
-length-step (ReadEnter r) t k n p l newest free = length-stamped l (newestAt newest r) k
-length-step (ReadStand r c) t k n p l newest free = refl
-length-step CloseWithdraw t k n p l newest free = refl
+length-step (OnTime y) t k n p l newest free = refl
+length-step (ReadEnter g) t k n p l newest free = length-stamped l (newestAt newest (g .register)) k
+length-step (ReadStand g c) t k n p l newest free = refl
 length-step (GetShow r) t k n p l newest free = length-stamped l (newestAt newest r) k

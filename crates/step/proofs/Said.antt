@@ -9,7 +9,7 @@ use borrow.Author.Tests.{ltb-true, eqb-false}
 use Rattle.slots.specs.declared.Slot.{Slot}
 use Rattle.worker.specs.declared.Announced.{Announced}
 use Rattle.worker.specs.declared.Doing.{Doing}
-use Rattle.worker.specs.declared.Doing.the-variants.{Idle, PutPublish, PutStamp, PutHandIn, FlushTake, FlushRead, FlushFree, OpenAnnounce, OpenPass, ReadEnter, ReadStand, CloseWithdraw, GetShow}
+use Rattle.worker.specs.declared.Doing.the-variants.{Idle, PutPublish, PutStamp, PutHandIn, FlushTake, FlushRead, FlushFree, OnTime, ReadEnter, ReadStand, GetShow}
 use Rattle.step.specs.declared.Next.{Next}
 use Rattle.step.specs.declared.Next.the-variants.{Taken, HandIn, Take, Read, Split, Free}
 use Rattle.step.specs.Step.{Stepped, putPublishStep, putStampStep, readEnterStep, getShowStep, freeOrDone, stepOf}
@@ -43,9 +43,7 @@ said (PutHandIn r c) t k n p l newest free = tt
 said FlushTake t k n p l newest free = tt
 said (FlushRead m j) t k n p l newest free = read-said m j p (ltb j p) refl
 said (FlushFree m) t k n p l newest free = free-said m p k n t (eqb m 0) refl
-said OpenAnnounce t k n p l newest free = tt
-said OpenPass t k n p l newest free = tt
-said (ReadEnter r) t k n p l newest free = tt
-said (ReadStand r c) t k n p l newest free = tt
-said CloseWithdraw t k n p l newest free = tt
+said (OnTime y) t k n p l newest free = tt
+said (ReadEnter g) t k n p l newest free = tt
+said (ReadStand g c) t k n p l newest free = tt
 said (GetShow r) t k n p l newest free = tt

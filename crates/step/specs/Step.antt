@@ -16,7 +16,10 @@ use Rattle.versions.specs.Versions.{slotAtIn, stampedIn, linkedIn}
 use Rattle.worker.specs.declared.Announced.{Announced}
 use Rattle.worker.specs.declared.Announced.the-variants.{Nothing, At}
 use Rattle.worker.specs.declared.Doing.{Doing}
-use Rattle.worker.specs.declared.Doing.the-variants.{Idle, PutPublish, PutStamp, PutHandIn, FlushTake, FlushRead, FlushFree, OpenAnnounce, OpenPass, ReadEnter, ReadStand, CloseWithdraw, GetShow}
+use Rattle.worker.specs.declared.Doing.the-variants.{Idle, PutPublish, PutStamp, PutHandIn, FlushTake, FlushRead, FlushFree, OnTime, ReadEnter, ReadStand, GetShow}
+use Rattle.worker.specs.declared.TimeStep.{TimeStep}
+use Rattle.worker.specs.declared.TimeStep.the-variants.{OpenAnnounce, OpenPass, CloseWithdraw}
+use Rattle.worker.specs.declared.Goal.{Goal}
 use Rattle.worker.specs.Rep.{timeOf}
 use Rattle.step.specs.declared.Outcome.{Outcome}
 use Rattle.step.specs.declared.Next.{Next}
@@ -73,7 +76,7 @@ putStampStep r c t k n l newest =
 
 -- (1) "Clock at 4294967295: refusal 15. Else announce the clock."
 unfoldable pub openAnnounceStep : Announced → ℕ → ℕ → Outcome
-openAnnounceStep t k n = cond (eqb k lastClock) (outcomeOf Idle t k n (No 15)) (outcomeOf OpenPass (At k) k n Going)
+openAnnounceStep t k n = cond (eqb k lastClock) (outcomeOf Idle t k n (No 15)) (outcomeOf (OnTime OpenPass) (At k) k n Going)
 
 -- (2) "If the clock still equals the announced time, add one. Answer that time." The last clock value is not passed. A worker at this place
 -- has a time; without one nothing is answered.
@@ -85,19 +88,20 @@ openPassStep (At a) k n = outcomeOf Idle (At a) (cond (eqb k a) (cond (ltb k las
 -- Read, get, close
 
 -- Read (1) "Stamp the register, stand on its newest version."
-unfoldable pub readEnterStep : ℕ → Announced → ℕ → ℕ → List Slot → List ℕ → Stepped
-readEnterStep r t k n l newest =
+unfoldable pub readEnterStep : Goal → Announced → ℕ → ℕ → List Slot → List ℕ → Stepped
+readEnterStep g t k n l newest =
+    let i = newestAt newest (g .register) in
     record {
-      next = Taken (outcomeOf (ReadStand r (short (newestAt newest r))) t k n Going);
-      row = stampedIn l (newestAt newest r) k;
+      next = Taken (outcomeOf (ReadStand g (short i)) t k n Going);
+      row = stampedIn l i k;
       newest = newest;
     }
 
 -- Read (2) "If its low is at most the worker's time, answer its value; else move to the older one."
-unfoldable pub readStandStep : ℕ → ℕ → Announced → ℕ → ℕ → List Slot → Outcome
-readStandStep r c t k n l =
+unfoldable pub readStandStep : Goal → ℕ → Announced → ℕ → ℕ → List Slot → Outcome
+readStandStep g c t k n l =
     let v = slotAtIn l c in
-    cond (leb (v .low) (timeOf t)) (outcomeOf Idle t k n (Value (v .value))) (outcomeOf (ReadStand r (short (v .older))) t k n Going)
+    cond (leb (v .low) (timeOf t)) (outcomeOf Idle t k n (Value (v .value))) (outcomeOf (ReadStand g (short (v .older))) t k n Going)
 
 -- Get: "Stamp, answer the newest value."
 unfoldable pub getShowStep : ℕ → Announced → ℕ → ℕ → List Slot → List ℕ → Stepped
@@ -111,6 +115,12 @@ getShowStep r t k n l newest =
 -- Close: "Withdraw the time."
 unfoldable pub closeWithdrawStep : ℕ → ℕ → Outcome
 closeWithdrawStep k n = outcomeOf Idle Nothing k n Done
+
+-- a step that moves the worker's time
+abbrev pub timeStepOf : TimeStep → Announced → ℕ → ℕ → Outcome
+timeStepOf OpenAnnounce t k n = openAnnounceStep t k n
+timeStepOf OpenPass t k n = openPassStep t k n
+timeStepOf CloseWithdraw t k n = closeWithdrawStep k n
 
 ------------------------------------------------------------------------
 -- One step of a worker at the place given, with the announced time t, of p workers. An idle worker has none: refusal 11.
@@ -131,9 +141,7 @@ stepOf (PutHandIn r c) t k n p l newest free = record { next = HandIn c; row = l
 stepOf FlushTake t k n p l newest free = record { next = Take; row = l; newest = newest }
 stepOf (FlushRead m j) t k n p l newest free = record { next = readOrSplit m j p; row = l; newest = newest }
 stepOf (FlushFree m) t k n p l newest free = record { next = freeOrDone m t k n; row = l; newest = newest }
-stepOf OpenAnnounce t k n p l newest free = stillAt (openAnnounceStep t k n) l newest
-stepOf OpenPass t k n p l newest free = stillAt (openPassStep t k n) l newest
-stepOf (ReadEnter r) t k n p l newest free = readEnterStep r t k n l newest
-stepOf (ReadStand r c) t k n p l newest free = stillAt (readStandStep r c t k n l) l newest
-stepOf CloseWithdraw t k n p l newest free = stillAt (closeWithdrawStep k n) l newest
+stepOf (OnTime y) t k n p l newest free = stillAt (timeStepOf y t k n) l newest
+stepOf (ReadEnter g) t k n p l newest free = readEnterStep g t k n l newest
+stepOf (ReadStand g c) t k n p l newest free = stillAt (readStandStep g c t k n l) l newest
 stepOf (GetShow r) t k n p l newest free = getShowStep r t k n l newest

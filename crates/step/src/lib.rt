@@ -6,11 +6,13 @@ ghost use Prim.Native.Nat.{_+_};
 ghost use lib.Dec.{eqb, ltb};
 ghost use Rattle.model.specs.Store.{lastClock};
 ghost use Rattle.versions.specs.Versions.{rowOf};
-ghost use Rattle.step.specs.Step.{outcomeOf, newestAt, nextFree, putPublishStep, putStampStep, openAnnounceStep, openPassStep, readEnterStep, readStandStep, getShowStep, closeWithdrawStep, readOrSplit, freeOrDone, stepOf};
+ghost use Rattle.step.specs.Step.{outcomeOf, newestAt, nextFree, putPublishStep, putStampStep, openAnnounceStep, openPassStep, readEnterStep, readStandStep, getShowStep, closeWithdrawStep, timeStepOf, readOrSplit, freeOrDone, stepOf};
 use values::Answer;
 use values::Reading;
 use worker::Announced;
 use worker::Doing;
+use worker::Goal;
+use worker::TimeStep;
 
 // What a step leaves: the worker's place and announced time, the clock, how many slots are free; and its answer.
 pub struct Outcome {
@@ -141,7 +143,7 @@ fn open_announce(t: Announced, clock: u32, n: usize) -> Outcome
         return outcome_of(Doing::Idle, t, clock, n, Answer::No(15));
     }
     outcome_of(
-        Doing::OpenPass,
+        Doing::OnTime(TimeStep::OpenPass),
         Announced::At(clock),
         clock,
         n,
@@ -176,33 +178,33 @@ fn open_pass(t: Announced, clock: u32, n: usize) -> Outcome
 fn read_enter(
     row: &mut [[u64; 5]],
     newest: &[u16; 256],
-    register: u16,
+    goal: Goal,
     t: Announced,
     clock: u32,
     n: usize,
 ) -> Next
     ensures { λ r. ⌜
         record { next = r; row = rowOf (now (row .exit)); newest = now (newest .entry) }
-        ≡ readEnterStep register t clock n (rowOf (now (row .entry))) (now (newest .entry))
+        ≡ readEnterStep goal t clock n (rowOf (now (row .entry))) (now (newest .entry))
         ⌝ }
 {
-    let i = newest_of(newest, register);
+    let i = newest_of(newest, goal.register);
     versions::stamp(row, i, clock);
     let slot = (i % 65536) as u16;
-    let place = Doing::ReadStand { register, slot };
+    let place = Doing::ReadStand { goal, slot };
     Next::Taken(outcome_of(place, t, clock, n, Answer::Going))
 }
 
 // Read (2).
 fn read_stand(
     row: &[[u64; 5]],
-    register: u16,
+    goal: Goal,
     slot: u16,
     t: Announced,
     clock: u32,
     n: usize,
 ) -> Outcome
-    ensures { λ r. ⌜ r ≡ readStandStep register slot t clock n (rowOf (now (row .entry))) ⌝ }
+    ensures { λ r. ⌜ r ≡ readStandStep goal slot t clock n (rowOf (now (row .entry))) ⌝ }
 {
     let v = versions::load(row, wide(slot));
     if v.low <= worker::time_of(t) {
@@ -210,10 +212,7 @@ fn read_stand(
         return outcome_of(Doing::Idle, t, clock, n, Answer::Value(x));
     }
     let older = (v.older % 65536) as u16;
-    let place = Doing::ReadStand {
-        register,
-        slot: older,
-    };
+    let place = Doing::ReadStand { goal, slot: older };
     outcome_of(place, t, clock, n, Answer::Going)
 }
 
@@ -243,6 +242,17 @@ fn close_withdraw(clock: u32, n: usize) -> Outcome
     ensures { λ r. ⌜ r ≡ closeWithdrawStep clock n ⌝ }
 {
     outcome_of(Doing::Idle, Announced::Nothing, clock, n, Answer::Done)
+}
+
+// A step that moves the worker's time.
+fn time_step(y: TimeStep, t: Announced, clock: u32, n: usize) -> Outcome
+    ensures { λ r. ⌜ r ≡ timeStepOf y t clock n ⌝ }
+{
+    match y {
+        TimeStep::OpenAnnounce => open_announce(t, clock, n),
+        TimeStep::OpenPass => open_pass(t, clock, n),
+        TimeStep::CloseWithdraw => close_withdraw(clock, n),
+    }
 }
 
 // Flush (2) while times are left to read, then (3).
@@ -296,13 +306,9 @@ pub fn step(
         Doing::FlushTake => Next::Take,
         Doing::FlushRead { merged, read } => read_or_split(merged, read, p),
         Doing::FlushFree { left } => free_or_done(left, t, clock, n),
-        Doing::OpenAnnounce => Next::Taken(open_announce(t, clock, n)),
-        Doing::OpenPass => Next::Taken(open_pass(t, clock, n)),
-        Doing::ReadEnter { register } => read_enter(row, newest, register, t, clock, n),
-        Doing::ReadStand { register, slot } => {
-            Next::Taken(read_stand(row, register, slot, t, clock, n))
-        }
-        Doing::CloseWithdraw => Next::Taken(close_withdraw(clock, n)),
+        Doing::OnTime(y) => Next::Taken(time_step(y, t, clock, n)),
+        Doing::ReadEnter { goal } => read_enter(row, newest, goal, t, clock, n),
+        Doing::ReadStand { goal, slot } => Next::Taken(read_stand(row, goal, slot, t, clock, n)),
         Doing::GetShow { register } => get_show(row, newest, register, t, clock, n),
     }
 }

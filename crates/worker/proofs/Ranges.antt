@@ -32,7 +32,8 @@ ranges-same q p i zero h = refl
 ranges-same q p i (suc n) h = rw (h i (omega arith), ranges-same q p (suc i) n (λ j k. h j (omega arith)))
 
 -- a list that agrees with the pool from the i-th range on
-ranges-are : (q : Pool) (l : List Range) (z : Range) (i : ℕ) → ((j : ℕ) → j < length l → rangeIn q (i + j) ≡ getD l j z) → rangesFrom q i (length l) ≡ l
+ranges-are : (q : Pool) (l : List Range) (z : Range) (i : ℕ) → ((j : ℕ) → j < length l → rangeIn q (i + j) ≡ getD l j z)
+    → rangesFrom q i (length l) ≡ l
 unfolding rangesFrom
 ranges-are q [] z i h = refl
 ranges-are q (ρ ∷ l) z i h =
@@ -57,7 +58,8 @@ grown q ρ =
     }
 
 -- has that range after its own
-pub ranges-grown : (q : Pool) (ρ : Range) → q .len < length (q .slots) → q .len < length (q .lows) → q .len < length (q .highs) → rangesIn (grown q ρ) ≡ rangesIn q ++ (ρ ∷ [])
+pub ranges-grown : (q : Pool) (ρ : Range) → q .len < length (q .slots) → q .len < length (q .lows) → q .len < length (q .highs)
+    → rangesIn (grown q ρ) ≡ rangesIn q ++ (ρ ∷ [])
 ranges-grown q ρ a b c =
     let g = grown q ρ in
     let n = q .len in
@@ -79,7 +81,8 @@ mapped-at f (ρ ∷ l) z zero h = refl
 mapped-at f (ρ ∷ l) z (suc i) h = mapped-at f l z i (le-of-suc-le-suc h)
 
 -- a field of the ranges in an array, with one range more
-column-push : (f : Range → ℕ) (l : List Range) (ρ : Range) → length l < 64 → set (padded 64 (map f l)) (length l) (f ρ) ≡ padded 64 (map f (l ++ (ρ ∷ [])))
+column-push : (f : Range → ℕ) (l : List Range) (ρ : Range) → length l < 64
+    → set (padded 64 (map f l)) (length l) (f ρ) ≡ padded 64 (map f (l ++ (ρ ∷ [])))
 column-push f l ρ h = padded-push 64 (map f l) (length l) (f ρ) (length-map l f) h ∙ ap (padded 64) (sym (map-append f l (ρ ∷ [])))
 
 -- and its entries
@@ -89,7 +92,14 @@ column-at f l z i h = padded-at 64 (map f l) i (rw (length-map l f) h) ∙ mappe
 -- appended by value as on the list
 pub append-rep : (l : List Range) (ρ : Range) → length l < 64 → appended (poolRep l) (ρ .slot) (ρ .low) (ρ .high) ≡ poolRep (l ++ (ρ ∷ []))
 append-rep l ρ h =
-    rw (lt-ltb (length l) 64 h, column-push (λ ρ. ρ .slot) l ρ h, column-push (λ ρ. ρ .low) l ρ h, column-push (λ ρ. ρ .high) l ρ h, length-append l (ρ ∷ []))
+    rw (
+      lt-ltb (length l) 64 h,
+      column-push (λ ρ. ρ .slot) l ρ h,
+      column-push (λ ρ. ρ .low) l ρ h,
+      column-push (λ ρ. ρ .high) l ρ h,
+      length-append l
+          (ρ ∷ []),
+    )
 
 -- the i-th range, and all of them
 pub range-rep : (l : List Range) (z : Range) (i : ℕ) → i < length l → rangeIn (poolRep l) i ≡ getD l i z

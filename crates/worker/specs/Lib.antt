@@ -1,2 +1,3 @@
 pub mod Rep
 pub mod Pool
+pub mod About

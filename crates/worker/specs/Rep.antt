@@ -7,6 +7,7 @@ use lib.ListN.{length, replicate}
 use Rattle.lists.specs.Over.{over}
 use Rattle.model.specs.Store as Model
 use Rattle.model.specs.Store.{Range, absent}
+use Rattle.model.specs.About.{Hand, Empty, Covered, Merged, Needless, about}
 use Rattle.values.specs.declared.Reading.{Reading}
 use Rattle.worker.specs.declared.Pool.{Pool}
 use Rattle.worker.specs.declared.Announced.{Announced}
@@ -20,13 +21,14 @@ use Rattle.worker.specs.declared.Doing.the-variants.{
   FlushTake,
   FlushRead,
   FlushFree,
-  OpenAnnounce,
-  OpenPass,
+  OnTime,
   ReadEnter,
   ReadStand,
-  CloseWithdraw,
   GetShow,
 }
+use Rattle.worker.specs.declared.TimeStep.{TimeStep}
+use Rattle.worker.specs.declared.TimeStep.the-variants.{OpenAnnounce, OpenPass, CloseWithdraw}
+use Rattle.worker.specs.declared.Goal.{Goal}
 use Rattle.worker.specs.declared.Worker.{Worker}
 
 -- a list filled up with zeros to n entries
@@ -55,6 +57,14 @@ timeOf (At a) = a
 abbrev pub readingRep : Model.Reading → Reading
 readingRep x = record { count = x .count }
 
+abbrev pub timeStepRep : Model.TimeStep → TimeStep
+timeStepRep Model.OpenAnnounce = OpenAnnounce
+timeStepRep Model.OpenPass = OpenPass
+timeStepRep Model.CloseWithdraw = CloseWithdraw
+
+abbrev pub goalRep : Model.Goal → Goal
+goalRep g = record { register = g .register }
+
 -- of a merged list and of the needless ranges only how many they are
 abbrev pub doingRep : Model.Doing → Doing
 doingRep Model.Idle = Idle
@@ -64,28 +74,20 @@ doingRep (Model.PutHandIn r c) = PutHandIn r c
 doingRep Model.FlushTake = FlushTake
 doingRep (Model.FlushRead m ts) = FlushRead (length m) (length ts)
 doingRep (Model.FlushFree m) = FlushFree (length m)
-doingRep Model.OpenAnnounce = OpenAnnounce
-doingRep Model.OpenPass = OpenPass
-doingRep (Model.ReadEnter r) = ReadEnter r
-doingRep (Model.ReadStand r c) = ReadStand r c
-doingRep Model.CloseWithdraw = CloseWithdraw
+doingRep (Model.OnTime y) = OnTime (timeStepRep y)
+doingRep (Model.ReadEnter g) = ReadEnter (goalRep g)
+doingRep (Model.ReadStand g c) = ReadStand (goalRep g) c
 doingRep (Model.GetShow r) = GetShow r
 
 -- the times that a flush has read; zeros in any other place
+abbrev pub timesIn : Hand → List ℕ
+timesIn Empty = replicate 16 0
+timesIn (Covered c) = replicate 16 0
+timesIn (Merged m ts) = padded 16 ts
+timesIn (Needless m) = replicate 16 0
+
 abbrev pub timesRep : Model.Doing → List ℕ
-timesRep Model.Idle = replicate 16 0
-timesRep (Model.PutPublish r x) = replicate 16 0
-timesRep (Model.PutStamp r c) = replicate 16 0
-timesRep (Model.PutHandIn r c) = replicate 16 0
-timesRep Model.FlushTake = replicate 16 0
-timesRep (Model.FlushRead m ts) = padded 16 ts
-timesRep (Model.FlushFree m) = replicate 16 0
-timesRep Model.OpenAnnounce = replicate 16 0
-timesRep Model.OpenPass = replicate 16 0
-timesRep (Model.ReadEnter r) = replicate 16 0
-timesRep (Model.ReadStand r c) = replicate 16 0
-timesRep Model.CloseWithdraw = replicate 16 0
-timesRep (Model.GetShow r) = replicate 16 0
+timesRep d = timesIn (about d .hand)
 
 abbrev pub workerRep : Model.Worker → Worker
 workerRep x =

@@ -5,6 +5,7 @@ ghost use Prim.Native.Nat.{_<_};
 ghost use Rattle.model.specs.Store.{startWorker};
 ghost use Rattle.worker.specs.Rep.{timeOf, workerRep};
 ghost use Rattle.worker.specs.Pool.{appended, rangesIn};
+ghost use Rattle.worker.specs.About.{naming, aboutOf};
 use values::Reading;
 
 // "A local pool is a count and at most 64 ranges": the slot, the low and the high of each.
@@ -28,6 +29,18 @@ pub enum Announced {
     At(u32),
 }
 
+// A step that moves the worker's time and no version: open (1) and (2), close.
+pub enum TimeStep {
+    OpenAnnounce,
+    OpenPass,
+    CloseWithdraw,
+}
+
+// What a read is for: the register that it reads.
+pub struct Goal {
+    pub register: u16,
+}
+
 // What a worker is doing and its place in it. A place is named after the step that comes next.
 pub enum Doing {
     Idle,
@@ -39,12 +52,34 @@ pub enum Doing {
     FlushRead { merged: u16, read: u8 },
     // how many needless ranges are left
     FlushFree { left: u16 },
-    OpenAnnounce,
-    OpenPass,
-    ReadEnter { register: u16 },
-    ReadStand { register: u16, slot: u16 },
-    CloseWithdraw,
+    OnTime(TimeStep),
+    ReadEnter { goal: Goal },
+    ReadStand { goal: Goal, slot: u16 },
     GetShow { register: u16 },
+}
+
+// A register, a slot or a count that a place names, or none.
+pub enum Named {
+    Nothing,
+    Is(u16),
+}
+
+// The slot on which a read stands, and what it reads for.
+pub enum Stance {
+    Nowhere,
+    StandsOn { goal: Goal, slot: u16 },
+}
+
+// What is asked of a place besides its step.
+pub struct Facts {
+    pub idle: bool,
+    pub register: Named,
+    pub slot: Named,
+    // how many ranges its list has
+    pub ranges: Named,
+    // how many times were read
+    pub read: u8,
+    pub stance: Stance,
 }
 
 // A worker's record. The times are those that a flush has read.
@@ -66,6 +101,79 @@ impl Worker {
             pool: EMPTY,
             times: [0u64; 16],
         }
+    }
+}
+
+// A place that names this much.
+fn names(idle: bool, register: Named, slot: Named, ranges: Named, read: u8, stance: Stance) -> Facts
+    ensures { λ r. ⌜ r ≡ naming idle register slot ranges read stance ⌝ }
+{
+    Facts {
+        idle,
+        register,
+        slot,
+        ranges,
+        read,
+        stance,
+    }
+}
+
+// What is asked of a place: here it is taken nowhere.
+pub fn about(d: Doing) -> Facts
+    ensures { λ r. ⌜ r ≡ aboutOf d ⌝ }
+{
+    let none = Named::Nothing;
+    let nowhere = Stance::Nowhere;
+    match d {
+        Doing::Idle => names(true, none, none, none, 0, nowhere),
+        Doing::PutPublish {
+            register,
+            reading: _,
+        } => names(false, Named::Is(register), none, none, 0, nowhere),
+        Doing::PutStamp { register, covered } => {
+            names(
+                false,
+                Named::Is(register),
+                Named::Is(covered),
+                none,
+                0,
+                nowhere,
+            )
+        }
+        Doing::PutHandIn { register, covered } => {
+            names(
+                false,
+                Named::Is(register),
+                Named::Is(covered),
+                none,
+                0,
+                nowhere,
+            )
+        }
+        Doing::FlushTake => names(false, none, none, none, 0, nowhere),
+        Doing::FlushRead { merged, read } => names(
+            false,
+            none,
+            none,
+            Named::Is(merged),
+            read,
+            nowhere,
+        ),
+        Doing::FlushFree { left } => names(false, none, none, Named::Is(left), 0, nowhere),
+        Doing::OnTime(_) => names(false, none, none, none, 0, nowhere),
+        Doing::ReadEnter { goal } => names(false, Named::Is(goal.register), none, none, 0, nowhere),
+        Doing::ReadStand { goal, slot } => {
+            let on = Stance::StandsOn { goal, slot };
+            names(
+                false,
+                Named::Is(goal.register),
+                Named::Is(slot),
+                none,
+                0,
+                on,
+            )
+        }
+        Doing::GetShow { register } => names(false, Named::Is(register), none, none, 0, nowhere),
     }
 }
 

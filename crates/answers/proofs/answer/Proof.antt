@@ -33,7 +33,9 @@ returns-6 : tie.Need-returns-6
 returns-6 c = search needs
 
 returns-7 : tie.Need-returns-7
-returns-7 c = let r = c .match .rest in refusal-past _ _ (past-three 3 (past-three 0 zero-le (r .0 .0 .0 .0 .0 .1) (r .0 .0 .0 .0 .1) (r .0 .0 .0 .1)) (r .0 .0 .1) (r .0 .1) (r .1))
+returns-7 c =
+    let r = c .match .rest in refusal-past _ _ (past-three 3 (past-three 0 zero-le (r .0 .0 .0 .0 .0 .1) (r .0 .0 .0 .0 .1) (r .0 .0 .0 .1))
+    (r .0 .0 .1) (r .0 .1) (r .1))
 
 pub answer-spec : {M : Type 1} → statement M
 answer-spec =

@@ -1,21 +1,26 @@
--- `off` meets its contract: at a read's second step the test of the slot decides, and at any other place nothing moves.
-use mathlib.Core.Path.{sym}
+-- `off` meets its contract: where a read stands the test of the slot decides, and elsewhere nothing moves.
+use borrow.Author.Tests.{eq-eqb, ne-eqb}
 use borrow.Author.Needs.{needs}
-use Rattle.freeing.proofs.Standing.{moved, stayed, other-off}
 use Rattle.freeing.proofs.off.Statement.{statement}
 use Rattle.freeing.proofs.off.Tie as tie
 
-enum-known-d : tie.Need-enum-known-d
-enum-known-d c = search needs
+about-requires : tie.Need-about-requires
+about-requires c κs = search needs
+
+enum-told : tie.Need-enum-told
+enum-told c = search needs
+
+enum-known-on : tie.Need-enum-known-on
+enum-known-on c = search needs
 
 returns : tie.Need-returns
-returns c = rw (c .before .before .d .given .1) (moved _ _ _ _ (c .if1 .taken))
+returns c = rw (← c .before .before .before .before .about .ensures, c .before .before .on .given .1, eq-eqb _ _ (c .if1 .taken))
 
 returns-2 : tie.Need-returns-2
-returns-2 c = rw (c .before .before .d .given .1) (stayed _ _ _ _ (c .if1 .left))
+returns-2 c = search needs
 
 returns-3 : tie.Need-returns-3
-returns-3 c = sym (other-off _ _ (c .before .args .d) (c .match .keys2))
+returns-3 c = rw (← c .before .before .before .before .about .ensures, c .before .before .on .given .1, ne-eqb _ _ (c .if1 .left))
 
 pub off-spec : {M : Type 1} → statement M
-off-spec = tie.close (tie.spec enum-known-d returns returns-2 returns-3)
+off-spec = tie.close (tie.spec about-requires enum-told enum-known-on returns returns-2 returns-3)

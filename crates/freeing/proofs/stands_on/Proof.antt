@@ -1,18 +1,22 @@
--- `stands_on` meets its contract: a read's second step is the place that the pattern names, and at any other no read stands.
-use mathlib.Core.Path.{sym}
+-- `stands_on` meets its contract: what the place says of a read decides.
 use borrow.Author.Needs.{needs}
-use Rattle.freeing.proofs.Standing.{other-stands}
 use Rattle.freeing.proofs.stands_on.Statement.{statement}
 use Rattle.freeing.proofs.stands_on.Tie as tie
 
-enum-known-d : tie.Need-enum-known-d
-enum-known-d c = search needs
+about-requires : tie.Need-about-requires
+about-requires c κs = search needs
+
+enum-told : tie.Need-enum-told
+enum-told c = search needs
+
+enum-known-on : tie.Need-enum-known-on
+enum-known-on c = search needs
 
 returns : tie.Need-returns
-returns c = rw (c .before .d .given .1)
+returns c = search needs
 
 returns-2 : tie.Need-returns-2
-returns-2 c = sym (other-stands (c .before .args .d) _ (c .match .keys2))
+returns-2 c = rw (← c .before .before .before .about .ensures, c .before .on .given .1)
 
 pub stands-on-spec : {M : Type 1} → statement M
-stands-on-spec = tie.close (tie.spec enum-known-d returns returns-2)
+stands-on-spec = tie.close (tie.spec about-requires enum-told enum-known-on returns returns-2)

@@ -5,14 +5,17 @@ use borrow.Author.Needs.{needs}
 use Rattle.gate.proofs.begin.Statement.{statement}
 use Rattle.gate.proofs.begin.Tie as tie
 
+terms-of-requires : tie.Need-terms-of-requires
+terms-of-requires c κs = search needs
+
 wide8-requires : tie.Need-wide8-requires
 wide8-requires c κs = search needs
 
 register-ok-requires : tie.Need-register-ok-requires
 register-ok-requires c κs = search needs
 
-is-idle-requires : tie.Need-is-idle-requires
-is-idle-requires c κs = search needs
+about-requires : tie.Need-about-requires
+about-requires c κs = search needs
 
 open-ok-requires : tie.Need-open-ok-requires
 open-ok-requires c κs = search needs
@@ -20,29 +23,25 @@ open-ok-requires c κs = search needs
 time-ok-requires : tie.Need-time-ok-requires
 time-ok-requires c κs = search needs
 
-first-place-requires : tie.Need-first-place-requires
-first-place-requires c κs = search needs
-
 returns : tie.Need-returns
 unfolding beginGate
 returns c =
-    let times = c .before in
-    let opens = times .before .before in
+    let opens = c .before .before in
     let idle = opens .before .before in
     let register = idle .before .before in
     let worker = register .before .before in
     rw (
+      ← worker .before .before .terms-of .ensures,
       ← worker .before .wide8 .ensures .0,
       lt-ltb _ _ (worker .if1 .taken),
       ← register .before .register-ok .ensures,
       register .if2 .taken,
-      ← idle .before .is-idle .ensures,
+      ← idle .before .about .ensures,
       idle .if3 .taken,
       ← opens .before .open-ok .ensures,
       opens .if4 .taken,
-      ← times .before .time-ok .ensures,
-      times .if5 .taken,
-      ← c .first-place .ensures,
+      ← c .before .time-ok .ensures,
+      c .if5 .taken,
     )
 
 returns-2 : tie.Need-returns-2
@@ -53,11 +52,12 @@ returns-2 c =
     let register = idle .before .before in
     let worker = register .before .before in
     rw (
+      ← worker .before .before .terms-of .ensures,
       ← worker .before .wide8 .ensures .0,
       lt-ltb _ _ (worker .if1 .taken),
       ← register .before .register-ok .ensures,
       register .if2 .taken,
-      ← idle .before .is-idle .ensures,
+      ← idle .before .about .ensures,
       idle .if3 .taken,
       ← opens .before .open-ok .ensures,
       opens .if4 .taken,
@@ -72,11 +72,12 @@ returns-3 c =
     let register = idle .before .before in
     let worker = register .before .before in
     rw (
+      ← worker .before .before .terms-of .ensures,
       ← worker .before .wide8 .ensures .0,
       lt-ltb _ _ (worker .if1 .taken),
       ← register .before .register-ok .ensures,
       register .if2 .taken,
-      ← idle .before .is-idle .ensures,
+      ← idle .before .about .ensures,
       idle .if3 .taken,
       ← c .before .open-ok .ensures,
       c .if4 .left,
@@ -88,11 +89,12 @@ returns-4 c =
     let register = c .before .before in
     let worker = register .before .before in
     rw (
+      ← worker .before .before .terms-of .ensures,
       ← worker .before .wide8 .ensures .0,
       lt-ltb _ _ (worker .if1 .taken),
       ← register .before .register-ok .ensures,
       register .if2 .taken,
-      ← c .before .is-idle .ensures,
+      ← c .before .about .ensures,
       c .if3 .left,
     )
 
@@ -101,6 +103,7 @@ unfolding beginGate
 returns-5 c =
     let worker = c .before .before in
     rw (
+      ← worker .before .before .terms-of .ensures,
       ← worker .before .wide8 .ensures .0,
       lt-ltb _ _ (worker .if1 .taken),
       ← c .before .register-ok .ensures,
@@ -109,18 +112,23 @@ returns-5 c =
 
 returns-6 : tie.Need-returns-6
 unfolding beginGate
-returns-6 c = rw (← c .before .wide8 .ensures .0, le-ltb _ _ (c .if1 .left))
+returns-6 c =
+    rw (
+      ← c .before .before .terms-of .ensures,
+      ← c .before .wide8 .ensures .0,
+      le-ltb _ _ (c .if1 .left),
+    )
 
 pub begin-spec : {M : Type 1} → statement M
 begin-spec =
     tie.close
     (tie.spec
+    terms-of-requires
     wide8-requires
     register-ok-requires
-    is-idle-requires
+    about-requires
     open-ok-requires
     time-ok-requires
-    first-place-requires
     returns
     returns-2
     returns-3

@@ -46,7 +46,16 @@ returns c =
     let free = scanned .before .before in
     let newest = free .before .before in
     let sizes = newest .before .before .before in
-    rw (← sizes .before .sizes-fit .ensures, sizes .if1 .taken, newest .all-below .ensures, free .all-below2 .ensures, scanned .slots-below .ensures, c .before .before .before .lens-fit .ensures, c .before .before .lens-sum .ensures, c .workers-fit .ensures)
+    rw (
+      ← sizes .before .sizes-fit .ensures,
+      sizes .if1 .taken,
+      newest .all-below .ensures,
+      free .all-below2 .ensures,
+      scanned .slots-below .ensures,
+      c .before .before .before .lens-fit .ensures,
+      c .before .before .lens-sum .ensures,
+      c .workers-fit .ensures,
+    )
 
 returns-2 : tie.Need-returns-2
 unfolding readyOf

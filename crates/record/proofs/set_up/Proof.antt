@@ -27,7 +27,15 @@ unfolding commandOf unusedZero
 returns c =
     let o = c .before .before .before in
     let t = o .before in
-    rw (← t .before .before .zeros .ensures, ← t .before .zeros2 .ensures, t .if1 .taken, ← o .one .ensures, ← c .before .before .two .ensures, ← c .before .two2 .ensures, ← c .four .ensures)
+    rw (
+      ← t .before .before .zeros .ensures,
+      ← t .before .zeros2 .ensures,
+      t .if1 .taken,
+      ← o .one .ensures,
+      ← c .before .before .two .ensures,
+      ← c .before .two2 .ensures,
+      ← c .four .ensures,
+    )
 
 returns-2 : tie.Need-returns-2
 unfolding commandOf unusedZero

@@ -41,38 +41,26 @@ enum-known-d-5 c = search needs
 free-or-done-requires : tie.Need-free-or-done-requires
 free-or-done-requires c κs = search needs
 
-enum-told-3 : tie.Need-enum-told-3
-enum-told-3 c = search needs
-
-open-announce-requires : tie.Need-open-announce-requires
-open-announce-requires c κs = search needs
-
-enum-told-4 : tie.Need-enum-told-4
-enum-told-4 c = search needs
-
-open-pass-requires : tie.Need-open-pass-requires
-open-pass-requires c κs = search needs
-
 enum-known-d-6 : tie.Need-enum-known-d-6
 enum-known-d-6 c = search needs
 
-read-enter-requires : tie.Need-read-enter-requires
-read-enter-requires c κs = search needs
+time-step-requires : tie.Need-time-step-requires
+time-step-requires c κs = search needs
 
 enum-known-d-7 : tie.Need-enum-known-d-7
 enum-known-d-7 c = search needs
 
-read-stand-requires : tie.Need-read-stand-requires
-read-stand-requires c κs = search needs
-
-enum-told-5 : tie.Need-enum-told-5
-enum-told-5 c = search needs
-
-close-withdraw-requires : tie.Need-close-withdraw-requires
-close-withdraw-requires c κs = search needs
+read-enter-requires : tie.Need-read-enter-requires
+read-enter-requires c κs = search needs
 
 enum-known-d-8 : tie.Need-enum-known-d-8
 enum-known-d-8 c = search needs
+
+read-stand-requires : tie.Need-read-stand-requires
+read-stand-requires c κs = search needs
+
+enum-known-d-9 : tie.Need-enum-known-d-9
+enum-known-d-9 c = search needs
 
 get-show-requires : tie.Need-get-show-requires
 get-show-requires c κs = search needs
@@ -113,36 +101,28 @@ returns-7 c = rw (c .before .before .d5 .given .1, c .free-or-done .ensures)
 
 returns-8 : tie.Need-returns-8
 unfolding stepOf
-returns-8 c = rw (c .before .enum-told3 .given .1, c .open-announce .ensures)
-
-returns-9 : tie.Need-returns-9
-unfolding stepOf
-returns-9 c = rw (c .before .enum-told4 .given .1, c .open-pass .ensures)
+returns-8 c = rw (c .before .before .d6 .given .1, c .time-step .ensures)
 
 same-length-3 : tie.Need-same-length-3
 same-length-3 c = search needs
 
-returns-10 : tie.Need-returns-10
+returns-9 : tie.Need-returns-9
 unfolding stepOf
-returns-10 c = rw (c .before .before .before .before .before .d6 .given .1) (c .before .read-enter .ensures)
+returns-9 c = rw (c .before .before .before .before .before .d7 .given .1) (c .before .read-enter .ensures)
 
 same-length-4 : tie.Need-same-length-4
 same-length-4 c = search needs
 
-returns-11 : tie.Need-returns-11
+returns-10 : tie.Need-returns-10
 unfolding stepOf
-returns-11 c = rw (c .before .before .before .d7 .given .1, c .read-stand .ensures)
-
-returns-12 : tie.Need-returns-12
-unfolding stepOf
-returns-12 c = rw (c .before .enum-told5 .given .1, c .close-withdraw .ensures)
+returns-10 c = rw (c .before .before .before .d8 .given .1, c .read-stand .ensures)
 
 same-length-5 : tie.Need-same-length-5
 same-length-5 c = search needs
 
-returns-13 : tie.Need-returns-13
+returns-11 : tie.Need-returns-11
 unfolding stepOf
-returns-13 c = rw (c .before .before .before .before .before .d8 .given .1) (c .before .get-show .ensures)
+returns-11 c = rw (c .before .before .before .before .before .d9 .given .1) (c .before .get-show .ensures)
 
 pub step-spec : {M : Type 1} → statement M
 step-spec =
@@ -160,17 +140,13 @@ step-spec =
     read-or-split-requires
     enum-known-d-5
     free-or-done-requires
-    enum-told-3
-    open-announce-requires
-    enum-told-4
-    open-pass-requires
     enum-known-d-6
-    read-enter-requires
+    time-step-requires
     enum-known-d-7
-    read-stand-requires
-    enum-told-5
-    close-withdraw-requires
+    read-enter-requires
     enum-known-d-8
+    read-stand-requires
+    enum-known-d-9
     get-show-requires
     returns
     same-length
@@ -182,11 +158,9 @@ step-spec =
     returns-6
     returns-7
     returns-8
-    returns-9
     same-length-3
-    returns-10
+    returns-9
     same-length-4
-    returns-11
-    returns-12
+    returns-10
     same-length-5
-    returns-13)
+    returns-11)

@@ -1,0 +1,54 @@
+-- What is asked of a worker's place besides its step: one definition, a line for each place.
+use mathlib.Core.Bool.{Bool, true, false}
+use mathlib.Core.List.{List}
+use Prim.Native.Nat.{ℕ}
+use Rattle.model.specs.Store.{Range, TimeStep, OpenAnnounce, OpenPass, CloseWithdraw, Goal, Doing, Idle, PutPublish, PutStamp, PutHandIn, FlushTake, FlushRead, FlushFree, OnTime, ReadEnter, ReadStand, GetShow}
+
+-- the versions that a place has in hand: none, the one in the slot that a put covers, a merged list
+-- with the times read so far, or the needless ranges not yet freed
+pub data Hand : Type 0 where
+  Empty : Hand
+  Covered : ℕ → Hand
+  Merged : List Range → List ℕ → Hand
+  Needless : List Range → Hand
+
+-- the slot on which a read stands, and what it reads for
+pub data Stance : Type 0 where
+  Nowhere : Stance
+  StandsOn : Goal → ℕ → Stance
+
+-- An effect in the order of demand 3 that may come with another worker's step: a put's with the stamp over the version in a slot, an open's as the
+-- clock passes its time.
+pub data Effect : Type 0 where
+  NoEffect : Effect
+  ByStamp : ℕ → Effect
+  ByClock : Effect
+
+pub record Facts : Type 0 where
+  -- nothing is being done
+  pub idle : Bool
+  pub hand : Hand
+  pub stance : Stance
+  pub effect : Effect
+
+-- a worker that is doing something, with this in hand, whose operation takes its effect so
+abbrev pub busy : Hand → Effect → Facts
+busy h e = record { idle = false; hand = h; stance = Nowhere; effect = e }
+
+abbrev pub timeEffect : TimeStep → Effect
+timeEffect OpenAnnounce = NoEffect
+timeEffect OpenPass = ByClock
+timeEffect CloseWithdraw = NoEffect
+
+abbrev pub about : Doing → Facts
+about Idle = record { idle = true; hand = Empty; stance = Nowhere; effect = NoEffect }
+about (PutPublish r x) = busy Empty NoEffect
+about (PutStamp r c) = busy (Covered c) (ByStamp c)
+about (PutHandIn r c) = busy (Covered c) NoEffect
+about FlushTake = busy Empty NoEffect
+about (FlushRead m ts) = busy (Merged m ts) NoEffect
+about (FlushFree m) = busy (Needless m) NoEffect
+about (OnTime y) = busy Empty (timeEffect y)
+about (ReadEnter g) = busy Empty NoEffect
+about (ReadStand g c) = record { idle = false; hand = Empty; stance = StandsOn g c; effect = NoEffect }
+about (GetShow r) = busy Empty NoEffect

@@ -1,0 +1,85 @@
+-- What is asked of a place and of an operation is the same of the model and of the code.
+use mathlib.Core.Path.{_≡_, refl}
+use mathlib.Core.Bool.{Bool, true, false, cond}
+use mathlib.Core.Option.{Option, none, some}
+use Prim.Native.Nat.{ℕ}
+use lib.Dec.{ltb}
+use Rattle.model.specs.Store as Model
+use Rattle.model.specs.Store.{absent}
+use Rattle.model.specs.About as Place
+use Rattle.model.specs.About.{about}
+use Rattle.model.specs.Record as Record
+use Rattle.model.specs.Apply as Begin
+use Rattle.model.specs.Apply.{Terms, terms, registerBelow, mayOpen, mayUseTime}
+use Rattle.worker.specs.declared.Announced.the-variants as Announced
+use Rattle.worker.specs.declared.Named.{Named}
+use Rattle.worker.specs.declared.Named.the-variants.{Nothing, Is}
+use Rattle.worker.specs.declared.Stance.{Stance}
+use Rattle.worker.specs.declared.Stance.the-variants.{Nowhere, StandsOn}
+use Rattle.worker.specs.Rep.{announcedRep, goalRep, doingRep}
+use Rattle.worker.specs.About.{aboutOf}
+use Rattle.gate.specs.declared.TimeNeed.{TimeNeed}
+use Rattle.gate.specs.declared.TimeNeed.the-variants.{Any, Absent, Own}
+use Rattle.gate.specs.declared.Terms as Code
+use Rattle.gate.specs.Gate.{operationRep, termsOf, registerOk, hasTime, openOk, timeOk}
+
+abbrev pub stanceRep : Place.Stance → Stance
+stanceRep Place.Nowhere = Nowhere
+stanceRep (Place.StandsOn g c) = StandsOn (goalRep g) c
+
+pub same-facts : (d : Model.Doing) → (aboutOf (doingRep d) .idle ≡ about d .idle) × (aboutOf (doingRep d) .stance ≡ stanceRep (about d .stance))
+same-facts Model.Idle = (refl, refl)
+same-facts (Model.PutPublish r x) = (refl, refl)
+same-facts (Model.PutStamp r c) = (refl, refl)
+same-facts (Model.PutHandIn r c) = (refl, refl)
+same-facts Model.FlushTake = (refl, refl)
+same-facts (Model.FlushRead m ts) = (refl, refl)
+same-facts (Model.FlushFree m) = (refl, refl)
+same-facts (Model.OnTime y) = (refl, refl)
+same-facts (Model.ReadEnter g) = (refl, refl)
+same-facts (Model.ReadStand g c) = (refl, refl)
+same-facts (Model.GetShow r) = (refl, refl)
+
+------------------------------------------------------------------------
+-- The terms of an operation
+
+abbrev pub namedRep : Option ℕ → Named
+namedRep none = Nothing
+namedRep (some r) = Is r
+
+abbrev pub needRep : Begin.TimeNeed → TimeNeed
+needRep Begin.AnyTime = Any
+needRep Begin.NoTime = Absent
+needRep Begin.OwnTime = Own
+
+abbrev pub termsRep : Terms → Code.Terms
+termsRep x = record { register = namedRep (x .register); time = needRep (x .time); first = doingRep (x .first) }
+
+pub same-terms : (o : Record.Operation) → termsOf (operationRep o) ≡ termsRep (terms o)
+same-terms (Record.Put r x) = refl
+same-terms Record.Open = refl
+same-terms (Record.Read r) = refl
+same-terms Record.Close = refl
+same-terms (Record.Get r) = refl
+same-terms Record.Collect = refl
+
+pub same-register : (x : Option ℕ) (v : ℕ) → registerOk (namedRep x) v ≡ registerBelow v x
+same-register none v = refl
+same-register (some r) v = refl
+
+has-time : (t : ℕ) → hasTime (announcedRep t) ≡ ltb t absent
+has-time t = go (ltb t absent)
+  where
+    go : (y : Bool) → hasTime (cond y (Announced.At t) Announced.Nothing) ≡ y
+    go true = refl
+    go false = refl
+
+pub same-open : (x : Begin.TimeNeed) (t : ℕ) → openOk (needRep x) (announcedRep t) ≡ mayOpen x (ltb t absent)
+same-open Begin.AnyTime t = refl
+same-open Begin.NoTime t = rw (has-time t)
+same-open Begin.OwnTime t = refl
+
+pub same-use : (x : Begin.TimeNeed) (t : ℕ) → timeOk (needRep x) (announcedRep t) ≡ mayUseTime x (ltb t absent)
+same-use Begin.AnyTime t = refl
+same-use Begin.NoTime t = refl
+same-use Begin.OwnTime t = has-time t
