@@ -4,7 +4,6 @@ ghost use mathlib.Core.Path.{_≡_};
 ghost use lib.ListN.{set};
 ghost use Rattle.answers.specs.Numbers.{kindOf, numberOf};
 ghost use Rattle.versions.specs.Versions.{rowOf};
-ghost use Rattle.simulation.specs.Memory.{memory};
 ghost use Rattle.simulation.specs.Buffer.{recordAt, Ran};
 use gate::Gate;
 use queue::Counts;
@@ -79,9 +78,25 @@ pub fn run(
 ) -> Ended
     ensures { λ r. ⌜
         Ran
-        (memory start (rowOf (now (row .entry))) (now (newest .entry)) (now (free .entry)) (now (queue .entry)) (now (lens .entry)) (now (merged .entry)))
+        (record {
+          hub = start;
+          slots = rowOf (now (row .entry));
+          newest = now (newest .entry);
+          free = now (free .entry);
+          queue = now (queue .entry);
+          lens = now (lens .entry);
+          merged = now (merged .entry);
+        })
         (now (bytes .entry)) (now (kinds .entry)) (now (numbers .entry)) count
-        (memory (r .hub) (rowOf (now (row .exit))) (now (newest .exit)) (now (free .exit)) (now (queue .exit)) (now (lens .exit)) (now (merged .exit)))
+        (record {
+          hub = r .hub;
+          slots = rowOf (now (row .exit));
+          newest = now (newest .exit);
+          free = now (free .exit);
+          queue = now (queue .exit);
+          lens = now (lens .exit);
+          merged = now (merged .exit);
+        })
         (now (kinds .exit)) (now (numbers .exit)) (r .last)
         ⌝ }
 {

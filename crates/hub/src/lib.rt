@@ -4,7 +4,6 @@ ghost use mathlib.Core.Path.{_≡_};
 ghost use Prim.Native.Nat.{_+_, _/_, _≤_, min};
 ghost use lib.ListN.{length, replicate, take, drop, set};
 ghost use Rattle.versions.specs.Versions.{rowOf};
-ghost use Rattle.simulation.specs.Memory.{memory};
 ghost use Rattle.simulation.specs.Public.{Does};
 ghost use Rattle.simulation.specs.Buffer.{Applies};
 ghost use Rattle.hub.specs.Doors.{wordsOf, loadedTo, storedTo, One};
@@ -98,10 +97,25 @@ fn run_one(
     requires { ⌜ n ≤ length (now row) ⌝ }
     ensures { λ r. ⌜
         One
-        (memory hub (take n (rowOf (now (row .entry)))) (now (newest .entry)) (now (free .entry)) (now (queue .entry)) (now (lens .entry))
-        (now (merged .entry)))
+        (record {
+          hub = hub;
+          slots = take n (rowOf (now (row .entry)));
+          newest = now (newest .entry);
+          free = now (free .entry);
+          queue = now (queue .entry);
+          lens = now (lens .entry);
+          merged = now (merged .entry);
+        })
         (now (rec .entry))
-        (memory (r .hub) (take n (rowOf (now (row .exit)))) (now (newest .exit)) (now (free .exit)) (now (queue .exit)) (now (lens .exit)) (now (merged .exit)))
+        (record {
+          hub = r .hub;
+          slots = take n (rowOf (now (row .exit)));
+          newest = now (newest .exit);
+          free = now (free .exit);
+          queue = now (queue .exit);
+          lens = now (lens .exit);
+          merged = now (merged .exit);
+        })
         (r .answer)
         ⌝ }
 {
@@ -138,9 +152,25 @@ pub fn apply(
 ) -> Applied
     ensures { λ r. ⌜
         Does
-        (memory hub (now (slots .entry)) (now (newest .entry)) (now (free .entry)) (now (queue .entry)) (now (lens .entry)) (now (merged .entry)))
+        (record {
+          hub = hub;
+          slots = now (slots .entry);
+          newest = now (newest .entry);
+          free = now (free .entry);
+          queue = now (queue .entry);
+          lens = now (lens .entry);
+          merged = now (merged .entry);
+        })
         (now (rec .entry)) (r .answer)
-        (memory (r .hub) (now (slots .exit)) (now (newest .exit)) (now (free .exit)) (now (queue .exit)) (now (lens .exit)) (now (merged .exit)))
+        (record {
+          hub = r .hub;
+          slots = now (slots .exit);
+          newest = now (newest .exit);
+          free = now (free .exit);
+          queue = now (queue .exit);
+          lens = now (lens .exit);
+          merged = now (merged .exit);
+        })
         ⌝ }
 {
     let mut row = zeros();
@@ -176,10 +206,25 @@ fn run_all(
     requires { ⌜ n ≤ length (now row) ⌝ }
     ensures { λ r. ⌜
         Applies
-        (memory hub (take n (rowOf (now (row .entry)))) (now (newest .entry)) (now (free .entry)) (now (queue .entry)) (now (lens .entry))
-        (now (merged .entry)))
+        (record {
+          hub = hub;
+          slots = take n (rowOf (now (row .entry)));
+          newest = now (newest .entry);
+          free = now (free .entry);
+          queue = now (queue .entry);
+          lens = now (lens .entry);
+          merged = now (merged .entry);
+        })
         (now (bytes .entry)) (now (kinds .entry)) (now (numbers .entry)) (r .count)
-        (memory (r .hub) (take n (rowOf (now (row .exit)))) (now (newest .exit)) (now (free .exit)) (now (queue .exit)) (now (lens .exit)) (now (merged .exit)))
+        (record {
+          hub = r .hub;
+          slots = take n (rowOf (now (row .exit)));
+          newest = now (newest .exit);
+          free = now (free .exit);
+          queue = now (queue .exit);
+          lens = now (lens .exit);
+          merged = now (merged .exit);
+        })
         (now (kinds .exit)) (now (numbers .exit))
         ⌝ }
 {
@@ -218,9 +263,25 @@ pub fn apply_all(
     ensures { λ r. ⌜
         (drop 2048 (now (slots .exit)) ≡ drop 2048 (now (slots .entry)))
         × Applies
-        (memory hub (take 2048 (now (slots .entry))) (now (newest .entry)) (now (free .entry)) (now (queue .entry)) (now (lens .entry)) (now (merged .entry)))
+        (record {
+          hub = hub;
+          slots = take 2048 (now (slots .entry));
+          newest = now (newest .entry);
+          free = now (free .entry);
+          queue = now (queue .entry);
+          lens = now (lens .entry);
+          merged = now (merged .entry);
+        })
         (now (bytes .entry)) (now (kinds .entry)) (now (numbers .entry)) (r .count)
-        (memory (r .hub) (take 2048 (now (slots .exit))) (now (newest .exit)) (now (free .exit)) (now (queue .exit)) (now (lens .exit)) (now (merged .exit)))
+        (record {
+          hub = r .hub;
+          slots = take 2048 (now (slots .exit));
+          newest = now (newest .exit);
+          free = now (free .exit);
+          queue = now (queue .exit);
+          lens = now (lens .exit);
+          merged = now (merged .exit);
+        })
         (now (kinds .exit)) (now (numbers .exit))
         ⌝ }
 {
@@ -268,9 +329,25 @@ pub fn apply_owned(
 ) -> Owned
     ensures { λ r. ⌜
         Applies
-        (memory hub row (now (newest .entry)) (now (free .entry)) (now (queue .entry)) (now (lens .entry)) (now (merged .entry)))
+        (record {
+          hub = hub;
+          slots = row;
+          newest = now (newest .entry);
+          free = now (free .entry);
+          queue = now (queue .entry);
+          lens = now (lens .entry);
+          merged = now (merged .entry);
+        })
         (now (bytes .entry)) (now (kinds .entry)) (now (numbers .entry)) (r .count)
-        (memory (r .hub) (r .slots) (now (newest .exit)) (now (free .exit)) (now (queue .exit)) (now (lens .exit)) (now (merged .exit)))
+        (record {
+          hub = r .hub;
+          slots = r .slots;
+          newest = now (newest .exit);
+          free = now (free .exit);
+          queue = now (queue .exit);
+          lens = now (lens .exit);
+          merged = now (merged .exit);
+        })
         (now (kinds .exit)) (now (numbers .exit))
         ⌝ }
 {
@@ -317,9 +394,25 @@ pub fn apply_row(
     ensures { λ r. ⌜
         (drop (min long 2048) (r .slots) ≡ drop (min long 2048) row)
         × Does
-        (memory hub (take (min long 2048) row) (now (newest .entry)) (now (free .entry)) (now (queue .entry)) (now (lens .entry)) (now (merged .entry)))
+        (record {
+          hub = hub;
+          slots = take (min long 2048) row;
+          newest = now (newest .entry);
+          free = now (free .entry);
+          queue = now (queue .entry);
+          lens = now (lens .entry);
+          merged = now (merged .entry);
+        })
         (now (rec .entry)) (r .answer)
-        (memory (r .hub) (take (min long 2048) (r .slots)) (now (newest .exit)) (now (free .exit)) (now (queue .exit)) (now (lens .exit)) (now (merged .exit)))
+        (record {
+          hub = r .hub;
+          slots = take (min long 2048) (r .slots);
+          newest = now (newest .exit);
+          free = now (free .exit);
+          queue = now (queue .exit);
+          lens = now (lens .exit);
+          merged = now (merged .exit);
+        })
         ⌝ }
 {
     let mut slots = row;
