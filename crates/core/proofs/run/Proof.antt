@@ -13,7 +13,8 @@ use Rattle.simulation.specs.Buffer.{after}
 use Rattle.lists.proofs.Mapped.{mapped, length-mapped}
 use Rattle.core.proofs.Moving.{move-one, move-none}
 use Rattle.core.proofs.Tested.{ready-few}
-use Rattle.core.proofs.Loop.{stateOf, Running, words-long, deciding, below, workers, told, on-refuse, on-make, on-start, on-taken, on-hand-in, on-take, on-read, on-split, on-free, ready-is, finished}
+use Rattle.core.proofs.Loop.{stateOf, Running, words-long, deciding, below, workers, told, on-refuse}
+use Rattle.core.proofs.Loop.{on-make, on-start, on-taken, on-hand-in, on-take, on-read, on-split, on-free, ready-is, finished}
 use Rattle.core.proofs.run.Statement.{statement}
 use Rattle.core.proofs.run.Tie as tie
 
@@ -26,12 +27,14 @@ abbrev μ-loop2 : tie.MeasureT-loop2
     16 - j
 
 abbrev Inv-loop : tie.InvT-loop
-Inv-loop row₀ bytes count kinds₀ numbers₀ newest₀ free₀ queue₀ lens₀ merged₀ linked up₀ hub₀ last₀ needed₀ local₀ joined₀ k₀ row kinds numbers newest free queue lens merged up hub last needed local joined k =
+Inv-loop row₀ bytes count kinds₀ numbers₀ newest₀ free₀ queue₀ lens₀ merged₀ linked up₀ hub₀ last₀ needed₀ local₀ joined₀ k₀
+    row kinds numbers newest free queue lens merged up hub last needed local joined k =
     Running (stateOf up₀ hub₀ row₀ newest₀ free₀ queue₀ lens₀ merged₀ kinds₀ numbers₀ last₀) bytes count k
     (stateOf up hub row newest free queue lens merged kinds numbers last)
 
 abbrev μ-loop : tie.MeasureT-loop
-μ-loop row₀ bytes count kinds₀ numbers₀ newest₀ free₀ queue₀ lens₀ merged₀ linked up₀ hub₀ last₀ needed₀ local₀ joined₀ k₀ row kinds numbers newest free queue lens merged up hub last needed local joined k =
+μ-loop row₀ bytes count kinds₀ numbers₀ newest₀ free₀ queue₀ lens₀ merged₀ linked up₀ hub₀ last₀ needed₀ local₀ joined₀ k₀
+    row kinds numbers newest free queue lens merged up hub last needed local joined k =
     count - k
 
 -- the length of the array of workers
@@ -98,7 +101,8 @@ loop-again c =
     let P = c .before .before .before .before in
     let K = P .before .before .before .before in
     let G = K .before .before in
-    on-refuse (deciding (G .before .before .before .before .before .before .loop .row) (G .before .before .before .before .before .before .loop .inv) (G .before .before .before .before .before .loop-test .taken)
+    on-refuse (deciding (G .before .before .before .before .before .before .loop .row) (G .before .before .before .before .before .before .loop .inv)
+    (G .before .before .before .before .before .loop-test .taken)
     (G .before .before .before .decode .ensures ∙ ap Model.decode (G .before .before .before .before .record-at .ensures))
     (ap (λ (z : ℕ). z % 16) (G .before .before .who .ensures .0)) (G .gate-for .ensures))
     _ _ _ _ (K .g .given .1) (P .put-answer .ensures)
@@ -146,13 +150,15 @@ put-answer-requires-2 c κs = tt
 
 add-k-2 : tie.Need-add-k-2 Inv-loop2 μ-loop2 Inv-loop μ-loop
 add-k-2 c =
-    let I = c .before .before .before .before .before .before .before .before .before .before .before .before .before .before .before .before .before .before .before .before .before .before .before in
+    let J = c .before .before .before .before .before .before .before .before .before .before .before .before in
+    let I = J .before .before .before .before .before .before .before .before .before .before .before in
     let A = I .before .before .before .before .before .before .before .before .before .before .before .before .before in
     omega (arith, I .loop-test .taken, A .fits)
 
 loop-less-2 : tie.Need-loop-less-2 Inv-loop2 μ-loop2 Inv-loop μ-loop
 loop-less-2 c =
-    let I = c .before .before .before .before .before .before .before .before .before .before .before .before .before .before .before .before .before .before .before .before .before .before .before in
+    let J = c .before .before .before .before .before .before .before .before .before .before .before .before in
+    let I = J .before .before .before .before .before .before .before .before .before .before .before in
     omega (arith, I .loop-test .taken)
 
 loop-again-2 : tie.Need-loop-again-2 Inv-loop2 μ-loop2 Inv-loop μ-loop
@@ -164,7 +170,8 @@ loop-again-2 c =
     let H = N .before .before in
     let K = H .before .before in
     let G = K .before .before in
-    on-make (deciding (G .before .before .before .before .before .before .loop .row) (G .before .before .before .before .before .before .loop .inv) (G .before .before .before .before .before .loop-test .taken)
+    on-make (deciding (G .before .before .before .before .before .before .loop .row) (G .before .before .before .before .before .before .loop .inv)
+    (G .before .before .before .before .before .loop-test .taken)
     (G .before .before .before .decode .ensures ∙ ap Model.decode (G .before .before .before .before .record-at .ensures))
     (ap (λ (z : ℕ). z % 16) (G .before .before .who .ensures .0)) (G .gate-for .ensures))
     _ _ _ _ _ _ _ _ _ _ _ (K .g2 .given .1) (H .fresh .ensures) (W .set-up .ensures) (N .fill-newest .ensures) (F .fill-free .ensures)
@@ -184,13 +191,15 @@ put-answer-requires-3 c κs = tt
 
 add-k-3 : tie.Need-add-k-3 Inv-loop2 μ-loop2 Inv-loop μ-loop
 add-k-3 c =
-    let I = c .before .before .before .before .before .before .before .before .before .before .before .before .before .before .before .before .before in
+    let J = c .before .before .before .before .before .before .before .before .before in
+    let I = J .before .before .before .before .before .before .before .before in
     let A = I .before .before .before .before .before .before .before .before .before .before .before .before .before in
     omega (arith, I .loop-test .taken, A .fits)
 
 loop-less-3 : tie.Need-loop-less-3 Inv-loop2 μ-loop2 Inv-loop μ-loop
 loop-less-3 c =
-    let I = c .before .before .before .before .before .before .before .before .before .before .before .before .before .before .before .before .before in
+    let J = c .before .before .before .before .before .before .before .before .before in
+    let I = J .before .before .before .before .before .before .before .before in
     omega (arith, I .loop-test .taken)
 
 loop-again-3 : tie.Need-loop-again-3 Inv-loop2 μ-loop2 Inv-loop μ-loop
@@ -198,7 +207,8 @@ loop-again-3 c =
     let P = c .before .before .before .before in
     let K = P .before .before .before .before .before .before in
     let G = K .before .before in
-    on-start (deciding (G .before .before .before .before .before .before .loop .row) (G .before .before .before .before .before .before .loop .inv) (G .before .before .before .before .before .loop-test .taken)
+    on-start (deciding (G .before .before .before .before .before .before .loop .row) (G .before .before .before .before .before .before .loop .inv)
+    (G .before .before .before .before .before .loop-test .taken)
     (G .before .before .before .decode .ensures ∙ ap Model.decode (G .before .before .before .before .record-at .ensures))
     (ap (λ (z : ℕ). z % 16) (G .before .before .who .ensures .0)) (G .gate-for .ensures))
     _ _ _ _ _ (K .g3 .given .1) (P .put-answer3 .ensures)
@@ -223,13 +233,15 @@ put-answer-requires-4 c κs = tt
 
 add-k-4 : tie.Need-add-k-4 Inv-loop2 μ-loop2 Inv-loop μ-loop
 add-k-4 c =
-    let I = c .before .before .before .before .before .before .before .before .before .before .before .before .before .before .before .before .before .before .before .before .before .before .before .before in
+    let J = c .before .before .before .before .before .before .before .before .before .before .before .before in
+    let I = J .before .before .before .before .before .before .before .before .before .before .before .before in
     let A = I .before .before .before .before .before .before .before .before .before .before .before .before .before in
     omega (arith, I .loop-test .taken, A .fits)
 
 loop-less-4 : tie.Need-loop-less-4 Inv-loop2 μ-loop2 Inv-loop μ-loop
 loop-less-4 c =
-    let I = c .before .before .before .before .before .before .before .before .before .before .before .before .before .before .before .before .before .before .before .before .before .before .before .before in
+    let J = c .before .before .before .before .before .before .before .before .before .before .before .before in
+    let I = J .before .before .before .before .before .before .before .before .before .before .before .before in
     omega (arith, I .loop-test .taken)
 
 loop-again-4 : tie.Need-loop-again-4 Inv-loop2 μ-loop2 Inv-loop μ-loop
@@ -239,7 +251,8 @@ loop-again-4 c =
     let T = K .before .before .before in
     let E = T .before .before .before .before in
     let G = E .before .before in
-    on-taken (deciding (G .before .before .before .before .before .before .loop .row) (G .before .before .before .before .before .before .loop .inv) (G .before .before .before .before .before .loop-test .taken)
+    on-taken (deciding (G .before .before .before .before .before .before .loop .row) (G .before .before .before .before .before .before .loop .inv)
+    (G .before .before .before .before .before .loop-test .taken)
     (G .before .before .before .decode .ensures ∙ ap Model.decode (G .before .before .before .before .record-at .ensures))
     (ap (λ (z : ℕ). z % 16) (G .before .before .who .ensures .0)) (G .gate-for .ensures))
     _ (E .enum-told .given .1) _ _ _ (T .step .ensures)
@@ -262,13 +275,15 @@ put-answer-requires-5 c κs = tt
 
 add-k-5 : tie.Need-add-k-5 Inv-loop2 μ-loop2 Inv-loop μ-loop
 add-k-5 c =
-    let I = c .before .before .before .before .before .before .before .before .before .before .before .before .before .before .before .before .before .before .before .before .before .before .before .before .before .before .before in
+    let J = c .before .before .before .before .before .before .before .before .before .before .before .before .before .before in
+    let I = J .before .before .before .before .before .before .before .before .before .before .before .before .before in
     let A = I .before .before .before .before .before .before .before .before .before .before .before .before .before in
     omega (arith, I .loop-test .taken, A .fits)
 
 loop-less-5 : tie.Need-loop-less-5 Inv-loop2 μ-loop2 Inv-loop μ-loop
 loop-less-5 c =
-    let I = c .before .before .before .before .before .before .before .before .before .before .before .before .before .before .before .before .before .before .before .before .before .before .before .before .before .before .before in
+    let J = c .before .before .before .before .before .before .before .before .before .before .before .before .before .before in
+    let I = J .before .before .before .before .before .before .before .before .before .before .before .before .before in
     omega (arith, I .loop-test .taken)
 
 loop-again-5 : tie.Need-loop-again-5 Inv-loop2 μ-loop2 Inv-loop μ-loop
@@ -279,7 +294,8 @@ loop-again-5 c =
     let T = K .before .before .before in
     let E = T .before .before .before .before in
     let G = E .before .before in
-    on-hand-in (deciding (G .before .before .before .before .before .before .loop .row) (G .before .before .before .before .before .before .loop .inv) (G .before .before .before .before .before .loop-test .taken)
+    on-hand-in (deciding (G .before .before .before .before .before .before .loop .row) (G .before .before .before .before .before .before .loop .inv)
+    (G .before .before .before .before .before .loop-test .taken)
     (G .before .before .before .decode .ensures ∙ ap Model.decode (G .before .before .before .before .record-at .ensures))
     (ap (λ (z : ℕ). z % 16) (G .before .before .who .ensures .0)) (G .gate-for .ensures))
     _ (E .enum-told .given .1) _ _ _ (T .step .ensures)
@@ -293,7 +309,8 @@ flush-take-requires c κs =
     let T = c .before .before .before .before .before .before in
     let E = T .before .before .before .before in
     let G = E .before .before in
-    below (deciding (G .before .before .before .before .before .before .loop .row) (G .before .before .before .before .before .before .loop .inv) (G .before .before .before .before .before .loop-test .taken)
+    below (deciding (G .before .before .before .before .before .before .loop .row) (G .before .before .before .before .before .before .loop .inv)
+    (G .before .before .before .before .before .loop-test .taken)
     (G .before .before .before .decode .ensures ∙ ap Model.decode (G .before .before .before .before .record-at .ensures))
     (ap (λ (z : ℕ). z % 16) (G .before .before .who .ensures .0)) (G .gate-for .ensures))
     _ (E .enum-told .given .1) _ _ _ (T .step .ensures)
@@ -312,13 +329,15 @@ put-answer-requires-6 c κs = tt
 
 add-k-6 : tie.Need-add-k-6 Inv-loop2 μ-loop2 Inv-loop μ-loop
 add-k-6 c =
-    let I = c .before .before .before .before .before .before .before .before .before .before .before .before .before .before .before .before .before .before .before .before .before .before .before .before .before .before .before .before in
+    let J = c .before .before .before .before .before .before .before .before .before .before .before .before .before .before in
+    let I = J .before .before .before .before .before .before .before .before .before .before .before .before .before .before in
     let A = I .before .before .before .before .before .before .before .before .before .before .before .before .before in
     omega (arith, I .loop-test .taken, A .fits)
 
 loop-less-6 : tie.Need-loop-less-6 Inv-loop2 μ-loop2 Inv-loop μ-loop
 loop-less-6 c =
-    let I = c .before .before .before .before .before .before .before .before .before .before .before .before .before .before .before .before .before .before .before .before .before .before .before .before .before .before .before .before in
+    let J = c .before .before .before .before .before .before .before .before .before .before .before .before .before .before in
+    let I = J .before .before .before .before .before .before .before .before .before .before .before .before .before .before in
     omega (arith, I .loop-test .taken)
 
 loop-again-6 : tie.Need-loop-again-6 Inv-loop2 μ-loop2 Inv-loop μ-loop
@@ -329,7 +348,8 @@ loop-again-6 c =
     let T = K .before .before .before in
     let E = T .before .before .before .before in
     let G = E .before .before in
-    on-take (deciding (G .before .before .before .before .before .before .loop .row) (G .before .before .before .before .before .before .loop .inv) (G .before .before .before .before .before .loop-test .taken)
+    on-take (deciding (G .before .before .before .before .before .before .loop .row) (G .before .before .before .before .before .before .loop .inv)
+    (G .before .before .before .before .before .loop-test .taken)
     (G .before .before .before .decode .ensures ∙ ap Model.decode (G .before .before .before .before .record-at .ensures))
     (ap (λ (z : ℕ). z % 16) (G .before .before .who .ensures .0)) (G .gate-for .ensures))
     _ (E .enum-told .given .1) _ _ _ (T .step .ensures)
@@ -356,7 +376,8 @@ add-t159 c =
     let T = K .before .before .before in
     let E = T .before .before .before .before in
     let G = E .before .before in
-    let D = (deciding (G .before .before .before .before .before .before .loop .row) (G .before .before .before .before .before .before .loop .inv) (G .before .before .before .before .before .loop-test .taken)
+    let D = (deciding (G .before .before .before .before .before .before .loop .row) (G .before .before .before .before .before .before .loop .inv)
+    (G .before .before .before .before .before .loop-test .taken)
     (G .before .before .before .decode .ensures ∙ ap Model.decode (G .before .before .before .before .record-at .ensures))
     (ap (λ (z : ℕ). z % 16) (G .before .before .who .ensures .0)) (G .gate-for .ensures)) in
     let l = told D _ (E .enum-told .given .1) _ _ _ (T .step .ensures) _ (K .s3 .given .1) in
@@ -374,13 +395,15 @@ put-answer-requires-7 c κs = tt
 
 add-k-7 : tie.Need-add-k-7 Inv-loop2 μ-loop2 Inv-loop μ-loop
 add-k-7 c =
-    let I = c .before .before .before .before .before .before .before .before .before .before .before .before .before .before .before .before .before .before .before .before .before .before .before .before .before .before in
+    let J = c .before .before .before .before .before .before .before .before .before .before .before .before .before in
+    let I = J .before .before .before .before .before .before .before .before .before .before .before .before .before in
     let A = I .before .before .before .before .before .before .before .before .before .before .before .before .before in
     omega (arith, I .loop-test .taken, A .fits)
 
 loop-less-7 : tie.Need-loop-less-7 Inv-loop2 μ-loop2 Inv-loop μ-loop
 loop-less-7 c =
-    let I = c .before .before .before .before .before .before .before .before .before .before .before .before .before .before .before .before .before .before .before .before .before .before .before .before .before .before in
+    let J = c .before .before .before .before .before .before .before .before .before .before .before .before .before in
+    let I = J .before .before .before .before .before .before .before .before .before .before .before .before .before in
     omega (arith, I .loop-test .taken)
 
 loop-again-7 : tie.Need-loop-again-7 Inv-loop2 μ-loop2 Inv-loop μ-loop
@@ -391,7 +414,8 @@ loop-again-7 c =
     let T = K .before .before .before in
     let E = T .before .before .before .before in
     let G = E .before .before in
-    on-read (deciding (G .before .before .before .before .before .before .loop .row) (G .before .before .before .before .before .before .loop .inv) (G .before .before .before .before .before .loop-test .taken)
+    on-read (deciding (G .before .before .before .before .before .before .loop .row) (G .before .before .before .before .before .before .loop .inv)
+    (G .before .before .before .before .before .loop-test .taken)
     (G .before .before .before .decode .ensures ∙ ap Model.decode (G .before .before .before .before .record-at .ensures))
     (ap (λ (z : ℕ). z % 16) (G .before .before .who .ensures .0)) (G .gate-for .ensures))
     _ (E .enum-told .given .1) _ _ _ (T .step .ensures)
@@ -414,13 +438,15 @@ put-answer-requires-8 c κs = tt
 
 add-k-8 : tie.Need-add-k-8 Inv-loop2 μ-loop2 Inv-loop μ-loop
 add-k-8 c =
-    let I = c .before .before .before .before .before .before .before .before .before .before .before .before .before .before .before .before .before .before .before .before .before .before .before .before .before .before .before .before .before .before .before .before .before in
+    let J = c .before .before .before .before .before .before .before .before .before .before .before .before .before .before .before .before .before in
+    let I = J .before .before .before .before .before .before .before .before .before .before .before .before .before .before .before .before in
     let A = I .before .before .before .before .before .before .before .before .before .before .before .before .before in
     omega (arith, I .loop-test .taken, A .fits)
 
 loop-less-8 : tie.Need-loop-less-8 Inv-loop2 μ-loop2 Inv-loop μ-loop
 loop-less-8 c =
-    let I = c .before .before .before .before .before .before .before .before .before .before .before .before .before .before .before .before .before .before .before .before .before .before .before .before .before .before .before .before .before .before .before .before .before in
+    let J = c .before .before .before .before .before .before .before .before .before .before .before .before .before .before .before .before .before in
+    let I = J .before .before .before .before .before .before .before .before .before .before .before .before .before .before .before .before in
     omega (arith, I .loop-test .taken)
 
 loop-again-8 : tie.Need-loop-again-8 Inv-loop2 μ-loop2 Inv-loop μ-loop
@@ -431,7 +457,8 @@ loop-again-8 c =
     let T = K .before .before .before in
     let E = T .before .before .before .before in
     let G = E .before .before in
-    on-split (deciding (G .before .before .before .before .before .before .loop .row) (G .before .before .before .before .before .before .loop .inv) (G .before .before .before .before .before .loop-test .taken)
+    on-split (deciding (G .before .before .before .before .before .before .loop .row) (G .before .before .before .before .before .before .loop .inv)
+    (G .before .before .before .before .before .loop-test .taken)
     (G .before .before .before .decode .ensures ∙ ap Model.decode (G .before .before .before .before .record-at .ensures))
     (ap (λ (z : ℕ). z % 16) (G .before .before .who .ensures .0)) (G .gate-for .ensures))
     _ (E .enum-told .given .1) _ _ _ (T .step .ensures)
@@ -447,7 +474,8 @@ flush-free-requires c κs =
     let T = K .before .before .before in
     let E = T .before .before .before .before in
     let G = E .before .before in
-    let D = (deciding (G .before .before .before .before .before .before .loop .row) (G .before .before .before .before .before .before .loop .inv) (G .before .before .before .before .before .loop-test .taken)
+    let D = (deciding (G .before .before .before .before .before .before .loop .row) (G .before .before .before .before .before .before .loop .inv)
+    (G .before .before .before .before .before .loop-test .taken)
     (G .before .before .before .decode .ensures ∙ ap Model.decode (G .before .before .before .before .record-at .ensures))
     (ap (λ (z : ℕ). z % 16) (G .before .before .who .ensures .0)) (G .gate-for .ensures)) in
     (below D _ (E .enum-told .given .1) _ _ _ (T .step .ensures), told D _ (E .enum-told .given .1) _ _ _ (T .step .ensures) _ (K .s5 .given .1))
@@ -458,7 +486,9 @@ sub-t203 c =
     let T = K .before .before .before in
     let E = T .before .before .before .before in
     let G = E .before .before in
-    let l = told (deciding (G .before .before .before .before .before .before .loop .row) (G .before .before .before .before .before .before .loop .inv) (G .before .before .before .before .before .loop-test .taken)
+    let l = told
+    (deciding (G .before .before .before .before .before .before .loop .row) (G .before .before .before .before .before .before .loop .inv)
+    (G .before .before .before .before .before .loop-test .taken)
     (G .before .before .before .decode .ensures ∙ ap Model.decode (G .before .before .before .before .record-at .ensures))
     (ap (λ (z : ℕ). z % 16) (G .before .before .who .ensures .0)) (G .gate-for .ensures))
     _ (E .enum-told .given .1) _ _ _ (T .step .ensures) _ (K .s5 .given .1) in
@@ -472,7 +502,8 @@ element-set-from-hub-7 c = omega arith
 
 loop2-holds : tie.Need-loop2-holds Inv-loop2 μ-loop2 Inv-loop μ-loop
 loop2-holds c =
-    let W = c .before .before .before .before .before .before .before .before .before .before .before .before .before .before .before .before .before .before .before in
+    let J = c .before .before .before .before .before .before .before .before .before .before in
+    let W = J .before .before .before .before .before .before .before .before .before in
     let I = W .before .before .before .before in
     (omega arith, refl, length-set (I .loop .hub .workers) (W .who .result % 16) _ ∙ I .loop .inv .sixteen)
 
@@ -506,8 +537,11 @@ loop2-again : tie.Need-loop2-again Inv-loop2 μ-loop2 Inv-loop μ-loop
 loop2-again c =
     let O = c .before .before in
     let I = O .before .before .before .before in
-    let J = I .before in
-    (omega (arith, I .loop2-test .taken), move-one _ _ _ _ _ (J .loop2 .inv .1) (J .loop2 .inv .2) (I .loop2-test .taken) _ (O .off .ensures), J .loop2 .inv .2)
+    let J = I .before in (
+      omega (arith, I .loop2-test .taken),
+      move-one _ _ _ _ _ (J .loop2 .inv .1) (J .loop2 .inv .2) (I .loop2-test .taken) _ (O .off .ensures),
+      J .loop2 .inv .2,
+    )
 
 add-j-2 : tie.Need-add-j-2 Inv-loop2 μ-loop2 Inv-loop μ-loop
 add-j-2 c = omega arith
@@ -521,21 +555,26 @@ loop2-again-2 : tie.Need-loop2-again-2 Inv-loop2 μ-loop2 Inv-loop μ-loop
 loop2-again-2 c =
     let S = c .before in
     let I = S .before .before in
-    let J = I .before in
-    (omega (arith, I .loop2-test .taken), move-none _ _ _ _ _ (J .loop2 .inv .1) (J .loop2 .inv .2) (I .loop2-test .taken) (sym (S .stands-on .ensures) ∙ c .if1 .left), J .loop2 .inv .2)
+    let J = I .before in (
+      omega (arith, I .loop2-test .taken),
+      move-none _ _ _ _ _ (J .loop2 .inv .1) (J .loop2 .inv .2) (I .loop2-test .taken) (sym (S .stands-on .ensures) ∙ c .if1 .left),
+      J .loop2 .inv .2,
+    )
 
 put-answer-requires-9 : tie.Need-put-answer-requires-9 Inv-loop2 μ-loop2 Inv-loop μ-loop
 put-answer-requires-9 c κs = tt
 
 add-k-9 : tie.Need-add-k-9 Inv-loop2 μ-loop2 Inv-loop μ-loop
 add-k-9 c =
-    let I = c .before .before .before .before .before .before .before .before .before .before .before .before .before .before .before .before .before .before .before .before .before .before .before .before .before .before .before .before .before .before .before in
+    let J = c .before .before .before .before .before .before .before .before .before .before .before .before .before .before .before .before in
+    let I = J .before .before .before .before .before .before .before .before .before .before .before .before .before .before .before in
     let A = I .before .before .before .before .before .before .before .before .before .before .before .before .before in
     omega (arith, I .loop-test .taken, A .fits)
 
 loop-less-9 : tie.Need-loop-less-9 Inv-loop2 μ-loop2 Inv-loop μ-loop
 loop-less-9 c =
-    let I = c .before .before .before .before .before .before .before .before .before .before .before .before .before .before .before .before .before .before .before .before .before .before .before .before .before .before .before .before .before .before .before in
+    let J = c .before .before .before .before .before .before .before .before .before .before .before .before .before .before .before .before in
+    let I = J .before .before .before .before .before .before .before .before .before .before .before .before .before .before .before in
     omega (arith, I .loop-test .taken)
 
 loop-again-9 : tie.Need-loop-again-9 Inv-loop2 μ-loop2 Inv-loop μ-loop
@@ -548,7 +587,8 @@ loop-again-9 c =
     let T = K .before .before .before in
     let E = T .before .before .before .before in
     let G = E .before .before in
-    on-free (deciding (G .before .before .before .before .before .before .loop .row) (G .before .before .before .before .before .before .loop .inv) (G .before .before .before .before .before .loop-test .taken)
+    on-free (deciding (G .before .before .before .before .before .before .loop .row) (G .before .before .before .before .before .before .loop .inv)
+    (G .before .before .before .before .before .loop-test .taken)
     (G .before .before .before .decode .ensures ∙ ap Model.decode (G .before .before .before .before .record-at .ensures))
     (ap (λ (z : ℕ). z % 16) (G .before .before .who .ensures .0)) (G .gate-for .ensures))
     _ (E .enum-told .given .1) _ _ _ (T .step .ensures)
