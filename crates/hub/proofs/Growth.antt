@@ -1,35 +1,28 @@
--- How `loadedTo` and `storedTo` start, what one more slot adds, and that lengths stay.
-use mathlib.Core.Path.{_≡_, refl, _∙_}
+-- How `copiedTo` starts, what one more slot adds, and that lengths stay.
+use mathlib.Core.Path.{_≡_, refl, ap, _∙_}
 use mathlib.Core.List.{List}
-use Prim.Native.Nat.{ℕ, zero, suc}
-use lib.ListN.{length, set, getD, length-set}
+use Prim.Native.Nat.{ℕ, zero, suc, _-_, _≤_}
+use native.Mathlib.Omega.{arith}
+use lib.ListN.{length, set, length-set}
 use Rattle.slots.specs.declared.Slot.{Slot}
-use Rattle.slots.specs.Slots.{vacantSlot}
-use Rattle.versions.specs.Versions.{rowOf, slotAtIn}
-use Rattle.hub.specs.Doors.{wordsOf, loadedTo, storedTo}
+use Rattle.slots.proofs.Growth.{none-done}
+use Rattle.versions.specs.Versions.{slotAtIn}
+use Rattle.hub.specs.Doors.{copiedTo}
 
-pub loadedTo-zero : (ys : List Slot) (ws : List (List ℕ)) → ws ≡ loadedTo ys ws zero
-unfolding loadedTo
-loadedTo-zero ys ws = refl
+-- before the first of n turns nothing is copied,
+pub copied-none : (slots onto : List Slot) (n : ℕ) → onto ≡ copiedTo slots onto (n - n)
+unfolding copiedTo
+copied-none slots onto n = ap (copiedTo slots onto) (none-done n)
 
-pub loadedTo-suc : (ys : List Slot) (ws : List (List ℕ)) (k : ℕ) → set (loadedTo ys ws k) k (wordsOf (getD ys k vacantSlot)) ≡ loadedTo ys ws (suc k)
-unfolding loadedTo
-loadedTo-suc ys ws k = refl
+-- and a turn copies one slot more
+pub copied-more : (slots onto : List Slot) (n t : ℕ) (us vs : List Slot) → suc t ≤ n → us ≡ copiedTo slots onto (n - suc t)
+    → vs ≡ set us (n - suc t) (slotAtIn slots (n - suc t)) → vs ≡ copiedTo slots onto (n - t)
+unfolding copiedTo
+copied-more slots onto n t us vs inside e is =
+    let next : suc (n - suc t) ≡ n - t = omega arith in
+    is ∙ ap (λ (l : List Slot). set l (n - suc t) (slotAtIn slots (n - suc t))) e ∙ ap (copiedTo slots onto) next
 
-pub length-loadedTo : (ys : List Slot) (ws : List (List ℕ)) (k : ℕ) → length (loadedTo ys ws k) ≡ length ws
-unfolding loadedTo
-length-loadedTo ys ws zero = refl
-length-loadedTo ys ws (suc k) = length-set (loadedTo ys ws k) k (wordsOf (getD ys k vacantSlot)) ∙ length-loadedTo ys ws k
-
-pub storedTo-zero : (ys : List Slot) (ws : List (List ℕ)) → ys ≡ storedTo ys ws zero
-unfolding storedTo
-storedTo-zero ys ws = refl
-
-pub storedTo-suc : (ys : List Slot) (ws : List (List ℕ)) (k : ℕ) → set (storedTo ys ws k) k (slotAtIn (rowOf ws) k) ≡ storedTo ys ws (suc k)
-unfolding storedTo
-storedTo-suc ys ws k = refl
-
-pub length-storedTo : (ys : List Slot) (ws : List (List ℕ)) (k : ℕ) → length (storedTo ys ws k) ≡ length ys
-unfolding storedTo
-length-storedTo ys ws zero = refl
-length-storedTo ys ws (suc k) = length-set (storedTo ys ws k) k (slotAtIn (rowOf ws) k) ∙ length-storedTo ys ws k
+pub length-copied : (slots onto : List Slot) (k : ℕ) → length (copiedTo slots onto k) ≡ length onto
+unfolding copiedTo
+length-copied slots onto zero = refl
+length-copied slots onto (suc k) = length-set (copiedTo slots onto k) k (slotAtIn slots k) ∙ length-copied slots onto k

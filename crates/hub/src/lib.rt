@@ -2,43 +2,32 @@
 // into words, the loop runs on the words, and they are written back.
 ghost use mathlib.Core.Path.{_≡_};
 ghost use Prim.Native.Nat.{_+_, _/_, _≤_, min};
-ghost use lib.ListN.{length, replicate, take, drop, set};
+ghost use lib.ListN.{length, replicate, take, drop};
 ghost use Rattle.versions.specs.Versions.{rowOf};
 ghost use Rattle.simulation.specs.Public.{Does};
 ghost use Rattle.simulation.specs.Buffer.{Applies};
-ghost use Rattle.hub.specs.Doors.{wordsOf, loadedTo, storedTo, One};
+ghost use Rattle.hub.specs.Doors.{copiedTo, One};
 use slots::Slot;
 use state::Hub;
 use values::Answer;
 
 // ---- the row of structs as words, and back
 
-// The words of a slot at an index; past the end nothing.
-fn put_words(row: &mut [[u64; 5]], i: usize, s: Slot)
-    ensures { λ _. ⌜ now (row .exit) ≡ set (now (row .entry)) i (wordsOf s) ⌝ }
-{
-    if row.len() <= i {
-        return;
-    }
-    let v = s.value;
-    row[i] = [v.count, s.low, s.high, s.older as u64, s.newer as u64];
-}
-
-// The first n words become the slots.
+// The first n slots, read into the row of words.
 fn load_row(slots: &[Slot], row: &mut [[u64; 5]], n: usize)
-    ensures { λ _. ⌜ now (row .exit) ≡ loadedTo (now (slots .entry)) (now (row .entry)) n ⌝ }
+    ensures { λ _. ⌜ rowOf (now (row .exit)) ≡ copiedTo (now (slots .entry)) (rowOf (now (row .entry))) n ⌝ }
 {
     let mut i = 0;
     while i < n {
         let s = slots::load(slots, i);
-        put_words(row, i, s);
+        versions::store(row, i, s);
         i = i + 1;
     }
 }
 
-// The first n slots become the words.
-fn store_row(slots: &mut [Slot], row: &[[u64; 5]], n: usize)
-    ensures { λ _. ⌜ now (slots .exit) ≡ storedTo (now (slots .entry)) (now (row .entry)) n ⌝ }
+// The first n slots of the words, written back.
+fn store_row(row: &[[u64; 5]], slots: &mut [Slot], n: usize)
+    ensures { λ _. ⌜ now (slots .exit) ≡ copiedTo (rowOf (now (row .entry))) (now (slots .entry)) n ⌝ }
 {
     let mut i = 0;
     while i < n {
@@ -177,7 +166,7 @@ pub fn apply(
     let n = at_most(slots.len(), 2048);
     load_row(slots, &mut row, n);
     let done = run_one(&mut row, n, hub, rec, newest, free, queue, lens, merged);
-    store_row(slots, &row, n);
+    store_row(&row, slots, n);
     done
 }
 
@@ -301,7 +290,7 @@ pub fn apply_all(
         lens,
         merged,
     );
-    store_row(slots, &row, n);
+    store_row(&row, slots, n);
     done
 }
 
