@@ -43,13 +43,6 @@ fn argument(i: usize, other: usize) -> usize {
     number(buf, n)
 }
 
-// Says on standard error what went wrong. Where that cannot be written either, nothing is left to do.
-fn say(text: &[u8]) {
-    if io::write_all(libc::STDERR_FILENO, text) {
-        return;
-    }
-}
-
 // Writes the line of record k with this answer to standard output; answers whether it was written.
 fn write_answer(k: u64, answer: Answer) -> bool {
     let mut kind_space = [0u8; 1];
@@ -114,7 +107,7 @@ fn main() {
         hub = h;
         let answer = done.answer;
         if !write_answer(k, answer) {
-            say(b"eachlog: cannot write standard output\n");
+            input::say(b"eachlog: cannot write standard output\n");
             return;
         }
         if n < 16 {

@@ -38,13 +38,6 @@ fn write_log(text: &mut [u8], first: u64, kinds: &[u8], numbers: &[u64], count: 
     true
 }
 
-// Says on standard error what went wrong. Where that cannot be written either, nothing is left to do.
-fn say(text: &[u8]) {
-    if io::write_all(libc::STDERR_FILENO, text) {
-        return;
-    }
-}
-
 fn main() {
     // A block is 16384 records; the text has room for 4096 lines of 48 bytes, the longest.
     let mut block_space = [0u8; 262144];
@@ -88,11 +81,11 @@ fn main() {
         slots = s;
         hub = h;
         if !write_log(text, first, kinds, numbers, done.count) {
-            say(b"hublog: cannot write standard output\n");
+            input::say(b"hublog: cannot write standard output\n");
             return;
         }
         if got.failed {
-            say(b"hublog: cannot read standard input\n");
+            input::say(b"hublog: cannot read standard input\n");
             return;
         }
         if n < 262144 {

@@ -1,4 +1,4 @@
-// Standard input, in parts that are full but for the last.
+// What the programs that write a log share: standard input, in parts that are full but for the last, and a message on standard error.
 ghost use Prim.Native.Nat.{_≤_};
 ghost use lib.ListN.{length};
 
@@ -27,4 +27,11 @@ pub fn fill(buf: &mut [u8]) -> Input
         n += more;
     }
     Input { n, failed: false }
+}
+
+// Says on standard error what went wrong. Where that cannot be written either, nothing is left to do.
+pub fn say(text: &[u8]) {
+    if io::write_all(libc::STDERR_FILENO, text) {
+        return;
+    }
 }
