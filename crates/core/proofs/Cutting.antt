@@ -11,7 +11,8 @@ pub cut-past : (l : List ℕ) (k : ℕ) → length l / 16 < k → take (length l
 cut-past l k h =
     let all : length l ≤ length l = omega arith in
     let past : length l ≤ 16 * k = omega arith in
-    ap (take (length l - length l)) (drop-of-length-le l all) ∙ take-nil (length l - length l) ∙ sym (ap (take 16) (drop-of-length-le l past) ∙ take-nil 16)
+    ap (take (length l - length l)) (drop-of-length-le l all) ∙ take-nil (length l - length l)
+    ∙ sym (ap (take 16) (drop-of-length-le l past) ∙ take-nil 16)
 
 -- fewer than sixteen are left
 pub cut-rest : (l : List ℕ) (i : ℕ) → length l - i < 16 → take (length l - i) (drop i l) ≡ take 16 (drop i l)

@@ -103,12 +103,13 @@ pub record Decides (S : State) (bytes : List ℕ) (count k : ℕ) (T : State) (r
       (workerIn (T .memory .hub) w .announced)
 
 -- by what the loop's locals and its calls are known to be
-pub deciding : (row : List (List ℕ)) {S : State} {bytes : List ℕ} {count k : ℕ} {up : Bool} {h : Hub} {newest free queue lens merged kinds numbers : List ℕ}
-    {last : Answer} {r : Decoded} {w : ℕ} {g : Gate} → Running S bytes count k (stateOf up h row newest free queue lens merged kinds numbers last) → k < count
+pub deciding : (row : List (List ℕ)) {S : State} {bytes : List ℕ} {count k : ℕ} {up : Bool} {h : Hub}
+    {newest free queue lens merged kinds numbers : List ℕ} {last : Answer} {r : Decoded} {w : ℕ} {g : Gate}
+    → Running S bytes count k (stateOf up h row newest free queue lens merged kinds numbers last) → k < count
     → decodedOf r ≡ Model.decode (recordAt bytes k) → w ≡ whoOf r % 16
     → g ≡ gateOf r up (h .p) (h .v) (length row) (getD (h .workers) w nobody .doing) (getD (h .workers) w nobody .announced)
     → Decides S bytes count k (stateOf up h row newest free queue lens merged kinds numbers last) r w g
-deciding row {S} {bytes} {count} {k} {up} {h} {newest} {free} {queue} {lens} {merged} {kinds} {numbers} {last} {r} {w} {g} R more reads worker decided =
+deciding row {up = up} {h = h} {r = r} {w = w} R more reads worker decided =
     record {
       running = R;
       more = more;
@@ -116,7 +117,8 @@ deciding row {S} {bytes} {count} {k} {up} {h} {newest} {free} {queue} {lens} {me
       worker = worker;
       decided =
           decided
-          ∙ ap (λ (n : ℕ). gateOf r up (h .p) (h .v) n (getD (h .workers) w nobody .doing) (getD (h .workers) w nobody .announced)) (sym (length-map row _));
+          ∙ ap (λ (n : ℕ). gateOf r up (h .p) (h .v) n (getD (h .workers) w nobody .doing) (getD (h .workers) w nobody .announced))
+          (sym (length-map row _));
     }
 
 module _ {S : State} {bytes : List ℕ} {count k : ℕ} {T : State} {r : Decoded} {w : ℕ} {g : Gate} (D : Decides S bytes count k T r w g) where
@@ -144,11 +146,14 @@ module _ {S : State} {bytes : List ℕ} {count k : ℕ} {T : State} {r : Decoded
       sym (D .decided
       ∙ ap (λ (v : ℕ). gateOf r (T .up) (h .p) (h .v) (length (m .slots)) (workerIn h v .doing) (workerIn h v .announced)) (D .worker)
       ∙ gate-at h r (T .up) (length (m .slots)) (R .few)
-      ∙ ap (λ (z : Decoded). gateOf z (T .up) (h .p) (h .v) (length (m .slots)) (workerIn h (whoOf z) .doing) (workerIn h (whoOf z) .announced)) read-as)
+      ∙ ap (λ (z : Decoded). gateOf z (T .up) (h .p) (h .v) (length (m .slots)) (workerIn h (whoOf z) .doing) (workerIn h (whoOf z) .announced))
+      read-as)
 
   -- what it says of the worker
   says : Named (T .up) (whoOf r) (h .p) (length (m .slots)) g
-  says = subst (Named (T .up) (whoOf r) (h .p) (length (m .slots))) (sym (D .decided)) (named r (T .up) (h .p) (h .v) (length (m .slots)) (x .doing) (x .announced))
+  says =
+      subst (Named (T .up) (whoOf r) (h .p) (length (m .slots))) (sym (D .decided))
+      (named r (T .up) (h .p) (h .v) (length (m .slots)) (x .doing) (x .announced))
 
   -- the answer y is written
   abbrev pub Wrote : Answer → List ℕ → List ℕ → Answer → Type 0
@@ -200,7 +205,8 @@ module _ {S : State} {bytes : List ℕ} {count k : ℕ} {T : State} {r : Decoded
       (record { up = true; memory = memory h′ slots newest free (m .queue) (m .lens) (m .merged); kinds = kinds; numbers = numbers; last = last })
   unfolding obeyIn setUpIn
   on-make p v n t h′ slots newest free kinds numbers last e eh es en ef z =
-      let all : free ≡ fillTo (m .free) (λ j. short (n - 1 - j)) (n - v) = ef ∙ ap (λ (y : Hub). fillTo (m .free) (λ j. short (n - 1 - j)) (y .free)) eh in
+      let all : free ≡ fillTo (m .free) (λ j. short (n - 1 - j)) (n - v) = ef
+      ∙ ap (λ (y : Hub). fillTo (m .free) (λ j. short (n - 1 - j)) (y .free)) eh in
       on-gate (Make p v n t) true
       (record { memory = memory h′ slots newest free (m .queue) (m .lens) (m .merged); answer = Ok })
       kinds numbers last e (or-true (T .up))
@@ -321,7 +327,13 @@ module _ {S : State} {bytes : List ℕ} {count k : ℕ} {T : State} {r : Decoded
               memory
               (withCounts
               (withWorkersIn h
-              (set (h .workers) w (record { doing = FlushRead (short (a .count)) 0; announced = x .announced; pool = x .pool; times = replicate 16 0 })))
+              (set (h .workers) w (record {
+                doing = FlushRead
+                    (short (a .count)) 0;
+                announced = x .announced;
+                pool = x .pool;
+                times = replicate 16 0;
+              })))
               (a .counts .pools) (a .counts .queued))
               row newest (m .free) queue lens merged;
           kinds = kinds;
@@ -340,7 +352,8 @@ module _ {S : State} {bytes : List ℕ} {count k : ℕ} {T : State} {r : Decoded
               row newest (m .free) (q .queue) (q .lens) d;
           answer = Going;
         } in
-        on-go Take (left (a .count) (held queue lens (a .counts)) merged) kinds numbers last f (λ i. left (sym ec i) (sym eq i) (sym em i)) refl refl (replaced _) z
+        on-go Take (left (a .count) (held queue lens (a .counts)) merged) kinds numbers last f (λ i. left (sym ec i) (sym eq i) (sym em i)) refl refl
+        (replaced _) z
 
     -- flush (2)
     pub on-read : (n j : ℕ) (times : List ℕ) (kinds numbers : List ℕ) (last : Answer) → s ≡ Read n j
@@ -350,7 +363,13 @@ module _ {S : State} {bytes : List ℕ} {count k : ℕ} {T : State} {r : Decoded
           up = T .up;
           memory =
               withHub m′
-              (withWorkersIn h (set (h .workers) w (record { doing = FlushRead n (j + 1); announced = x .announced; pool = x .pool; times = times })));
+              (withWorkersIn h (set (h .workers) w (record {
+                doing = FlushRead n
+                    (j + 1);
+                announced = x .announced;
+                pool = x .pool;
+                times = times;
+              })));
           kinds = kinds;
           numbers = numbers;
           last = last;
@@ -405,7 +424,8 @@ module _ {S : State} {bytes : List ℕ} {count k : ℕ} {T : State} {r : Decoded
         (λ i. left (empty-is i) (sym el i) (sym eq i) (sym em i)) refl refl (replaced _) z
 
     -- flush (4), once the readers of all workers are moved
-    pub on-free : (n : ℕ) (a : Freeing.Freed) (slots : List Slot) (free : List ℕ) (h′ : Hub) (j : ℕ) (kinds numbers : List ℕ) (last : Answer) → s ≡ Free n
+    pub on-free : (n : ℕ) (a : Freeing.Freed) (slots : List Slot) (free : List ℕ) (h′ : Hub) (j : ℕ) (kinds numbers : List ℕ) (last : Answer)
+        → s ≡ Free n
         → a ≡ freedStep row (m .merged) w n (h .free) → slots ≡ freedRow row (m .merged) w n → free ≡ freedFree (m .free) (m .merged) w n (h .free)
         → j ≤ 16 → 16 ≤ j
         → h′ ≡ withWorkersIn (withFreeIn (withWorkersIn h (set (h .workers) w (atPlace x (FlushFree (n - 1))))) (a .free))
@@ -426,7 +446,8 @@ module _ {S : State} {bytes : List ℕ} {count k : ℕ} {T : State} {r : Decoded
               memory (withFreeIn (withWorkersIn h (map (offWorker (y .slot) (y .older)) ws)) (y .free)) l newest d (m .queue) (m .lens) (m .merged);
           answer = Freed (y .slot);
         } in
-        on-go (Free n) (record { memory = memory h′ slots newest free (m .queue) (m .lens) (m .merged); answer = Freed (a .slot) }) kinds numbers last f
+        on-go (Free n) (record { memory = memory h′ slots newest free (m .queue) (m .lens) (m .merged); answer = Freed (a .slot) }) kinds numbers
+        last f
         ((λ i. left (sym ea i) (sym es i) (sym ef i))
         ∙ (λ i. record { memory = memory (sym hub i) slots newest free (m .queue) (m .lens) (m .merged); answer = Freed (a .slot) }))
         (ap (λ (y : Hub). y .p) hub) (ap length es ∙ length-freed row (m .merged) w n)

@@ -21,7 +21,8 @@ stays : (c o : ℕ) (d : Doing) (y : Stance) → isOn c y ≡ false → offTo c 
 stays c o d Nowhere e = refl
 stays c o d (StandsOn g v) e = rw e
 
-module _ (c o : ℕ) (h₀ h : Hub) (j : ℕ) (e : h ≡ withWorkersIn h₀ (mapped (offWorker c o) j (h₀ .workers))) (sixteen : length (h₀ .workers) ≡ 16) (inside : j < 16) where
+module _ (c o : ℕ) (h₀ h : Hub) (j : ℕ) (e : h ≡ withWorkersIn h₀ (mapped (offWorker c o) j (h₀ .workers))) (sixteen : length (h₀ .workers) ≡ 16)
+    (inside : j < 16) where
   -- worker j's record
   abbrev y : Worker
   y = getD (h .workers) j nobody

@@ -14,7 +14,8 @@ use prog.Wp.{Heap, Env, Calls, Loops}
 use ghost.Atoms.{Atoms, sem}
 use contract.Lifetimes.{Lfts, Shares, toks}
 use contract.Monad.{Fun, fact}
-use types.Kit.{Given, Item, Post, Seq, runs, lands, mean, ‵, raw, _⊛_, given, _$_, _∵_, !, qed, move, drop, use1, learn, join, fsplit, fjoin, frame, show}
+use types.Kit.{Given, Item, Post, Seq, runs, lands, mean, ‵, raw, _⊛_, given, _$_, _∵_, !, qed, move, drop, use1, learn, join, fsplit}
+use types.Kit.{fjoin, frame, show}
 use types.Kit.{done}
 use types.Run.{Opds}
 use sound.WpLaws.{FmC}
@@ -49,7 +50,8 @@ ApplyAll 𝓤 H A mem run = tripleOf 𝓤 H A apply-all.signature (apply-all.spe
 abbrev pub Through : Hub → List Slot → Buffer → Left → List Slot → BufferLeft → Type 0
 Through h ys x r zs z = (rest-of 2048 zs ≡ rest-of 2048 ys) × AllDone h (take 2048 ys) x (r .count) (r .hub) (take 2048 zs) z
 
-module _ {M : Type 1} (𝓤 : URA M) (H : Heap 𝓤) (A : Atoms 𝓤) (W : Given 𝓤 H A) (mem : Memory → SProp 𝓤) (run : Routine → Fun 𝓤) (n b o : ℕ) (ys : List Slot)
+module _ {M : Type 1} (𝓤 : URA M) (H : Heap 𝓤) (A : Atoms 𝓤) (W : Given 𝓤 H A) (mem : Memory → SProp 𝓤) (run : Routine → Fun 𝓤)
+    (n b o : ℕ) (ys : List Slot)
     (h : Hub) (ks : Lfts 8) (qs : Shares 8) (x : Buffer) where
   -- what the callee's contract binds outside, and that the caller has what it asks
   abbrev to-all : Lft → GName → ApplyAll 𝓤 H A mem run .Ghost
@@ -73,7 +75,8 @@ module _ {M : Type 1} (𝓤 : URA M) (H : Heap 𝓤) (A : Atoms 𝓤) (W : Given
   abbrev Said : Lft → GName → Left → SProp 𝓤
   Said ν δ = ensured 𝓤 H A apply-all.ended (apply-all.clauses 𝓤 H A mem run) (ν, ks) (slice b o δ ys, (h, x)) tt
 
-  said : (ν : Lft) (δ : GName) (r : Left) → ent 𝓤 (Said ν δ r) (mean 𝓤 H A (Ends T.the-row ys Last (λ l. l .0) (λ l. ‵ (buffer-end x (l .1 .1))) (Says r) δ))
+  said : (ν : Lft) (δ : GName) (r : Left)
+      → ent 𝓤 (Said ν δ r) (mean 𝓤 H A (Ends T.the-row ys Last (λ l. l .0) (λ l. ‵ (buffer-end x (l .1 .1))) (Says r) δ))
   said ν δ r = exE 𝓤 _ (λ (l : Last). let D : Type 0 = Through h ys x r (l .0) (l .1 .1) in
       qed W (‵ (lasts apply-all.ended (ν, ks) (slice b o δ ys, (h, x)) l) ∷ raw (fact 𝓤 D) ∷ []) ∵
       fsplit ! $ move ! (1 ∷ []) $ fsplit ! $ drop ! $
@@ -83,13 +86,17 @@ module _ {M : Type 1} (𝓤 : URA M) (H : Heap 𝓤) (A : Atoms 𝓤) (W : Given
       (sem 𝓤 H A (buffer-end x (a .1 .1)))) (fact 𝓤 (Says r a))) l $
       says ! (e, long) $ move ! (1 ∷ 0 ∷ []) $ frame ! $ done !)))
 
-module _ {M : Type 1} {𝓤 : URA M} {H : Heap 𝓤} {A : Atoms 𝓤} {K : Type 0} {W : Given 𝓤 H A} {Γ : List (Item 𝓤)} {E : Env 𝓤 H} {C : Calls 𝓤 H} {Λ : Loops 𝓤 H}
+module _ {M : Type 1} {𝓤 : URA M} {H : Heap 𝓤} {A : Atoms 𝓤} {K : Type 0} {W : Given 𝓤 H A} {Γ : List (Item 𝓤)} {E : Env 𝓤 H}
+    {C : Calls 𝓤 H} {Λ : Loops 𝓤 H}
     {q : Post 𝓤 H} {dst : Place} {rest : Body} {xs : List Operand} {κ : Lft} {p : Share} {γ : GName} where
-  pub call-apply-all : (t : K) (mem : Memory → SProp 𝓤) (run : Routine → Fun 𝓤) → FmC 𝓤 H (W .laws) C → Triple 𝓤 (C #hub·apply-all) (ApplyAll 𝓤 H A mem run)
-      → (n b o : ℕ) (ys : List Slot) → length ys ≡ n → Room T.the-row n → (h : Hub) (ks : Lfts 8) (qs : Shares 8) (x : Buffer) → Is B.the-row h (hub-vals h)
+  pub call-apply-all : (t : K) (mem : Memory → SProp 𝓤) (run : Routine → Fun 𝓤) → FmC 𝓤 H (W .laws) C
+      → Triple 𝓤 (C #hub·apply-all) (ApplyAll 𝓤 H A mem run)
+      → (n b o : ℕ) (ys : List Slot) → length ys ≡ n → Room T.the-row n → (h : Hub) (ks : Lfts 8) (qs : Shares 8) (x : Buffer)
+      → Is B.the-row h (hub-vals h)
       → ((i j : Item 𝓤) → Opds K W (i ∷ j ∷ Γ) E xs (sliceVal (b, o) n ∷ only (hub-vals h) ∷ buffer-list x))
       → ((r : Left) (zs : List Slot) (z : BufferLeft) → Through h ys x r zs z × SameLong x z → length zs ≡ n → Is L.the-row r (left-vals r)
-      → Seq K W (‵ (Slots κ n b o γ zs) ∷ ‵ (flft κ p) ∷ raw (toks 𝓤 A 8 ks qs) ∷ ‵ (buffer-end x z) ∷ Γ) (lands C Λ E dst (only (left-vals r)) rest q))
+      → Seq K W (‵ (Slots κ n b o γ zs) ∷ ‵ (flft κ p) ∷ raw (toks 𝓤 A 8 ks qs) ∷ ‵ (buffer-end x z) ∷ Γ)
+      (lands C Λ E dst (only (left-vals r)) rest q))
       → Seq K W (‵ (Slots κ n b o γ ys) ∷ ‵ (flft κ p) ∷ raw (toks 𝓤 A 8 ks qs) ∷ ‵ (buffer-own ks x) ∷ Γ)
       (runs C Λ E (seq (call #hub·apply-all xs dst) rest) q)
   call-apply-all t mem run fm known n b o ys len room h ks qs x gh os next =

@@ -13,7 +13,8 @@ use mir.Val.{Val}
 use base.Fml.{Lft, GName, Share, Fml, flft}
 use prog.Wp.{Heap}
 use ghost.Atoms.{Atoms}
-use types.Kit.{Given, Item, Goal, Soaks, Seq, Step, step, ‵, _⊛_, some, later, given, _$_, move, drop, use1, use2, use3, learn, split, pick, fsplit, fjoin}
+use types.Kit.{Given, Item, Goal, Soaks, Seq, Step, step, ‵, _⊛_, some, later, given, _$_, move, drop, use1, use2, use3, learn, split, pick}
+use types.Kit.{fsplit, fjoin}
 use types.Kit.{feqI, await}
 use types.Tokens.{lft-new, lft-end}
 use denote.RattleType.{RattleType}
@@ -27,7 +28,8 @@ use Rattle.slots.proofs.Calls.{slice, Mut}
 abbrev Own : (R : RattleType) → Lft → (b o : ℕ) → GName → List (R .Denot) → Fml
 Own R κ b o γ ys = MutSlice erased κ R .own (slice b o γ ys)
 
-module _ {M : Type 1} {𝓤 : URA M} {H : Heap 𝓤} {A : Atoms 𝓤} {K : Type 0} {W : Given 𝓤 H A} {Γ : List (Item 𝓤)} {G : Goal 𝓤 H} (t : K) (R : RattleType)
+module _ {M : Type 1} {𝓤 : URA M} {H : Heap 𝓤} {A : Atoms 𝓤} {K : Type 0} {W : Given 𝓤 H A} {Γ : List (Item 𝓤)} {G : Goal 𝓤 H} (t : K)
+    (R : RattleType)
     (κ : Lft) (n b o : ℕ) (γ : GName) (ys : List (R .Denot)) where
   -- a slice without its machine value, and with it again
   bare : Step K W (‵ (Own R κ b o γ ys) ∷ Γ) G (‵ (Mut R κ n b o γ ys) ∷ Γ) G
@@ -51,14 +53,16 @@ module _ {M : Type 1} {𝓤 : URA M} {H : Heap 𝓤} {A : Atoms 𝓤} {K : Type 
       bare t R κ n b o γ ys $ lft-new t z (λ β. move t (1 ∷ 2 ∷ []) $
       use2 W (later (some (λ (δ : GName). ‵ (Own R (β ∷ []) b o δ (take k ys)) ⊛ ‵ (Kept R κ p γ b o ys k β δ))))
       (sl-relendᵖ 𝓤 H A W R κ p (β ∷ []) b o γ ys k) $
-      await t z $ pick t (λ δ. split t $ dressed t R (β ∷ []) k b o δ (take k ys) (length-take-le k ys (omega (arith, long, within))) $ move t (0 ∷ 2 ∷ []) $
+      await t z $ pick t (λ δ. split t $ dressed t R (β ∷ []) k b o δ (take k ys) (length-take-le k ys (omega (arith, long, within))) $
+      move t (0 ∷ 2 ∷ []) $
       next β δ))
 
   -- the three make the slice again, its first k elements as they were left
   pub front-back : (β : ℕ) (δ : GName) (zs : List (R .Denot)) → Step K W (‵ (Mut R κ n b o γ (zs ++ rest-of k ys)) ∷ ‵ (flft κ p) ∷ Γ) G
       (‵ (Mut R (β ∷ []) k b o δ zs) ∷ ‵ (flft (β ∷ []) fullShare) ∷ ‵ (Kept R κ p γ b o ys k β δ) ∷ Γ) G
   front-back β δ zs = step (λ next.
-      bare t R (β ∷ []) k b o δ zs $ use1 W (later (‵ (finally R δ zs))) (mut-slice-lawful 𝓤 H A W erased (β ∷ []) R .drops (slice b o δ zs)) $ await t z $
+      bare t R (β ∷ []) k b o δ zs $ use1 W (later (‵ (finally R δ zs)))
+      (mut-slice-lawful 𝓤 H A W erased (β ∷ []) R .drops (slice b o δ zs)) $ await t z $
       move t (1 ∷ []) $ lft-end t z $ move t (0 ∷ 2 ∷ []) $
       use3 W (later (given (length zs ≡ length (take k ys)) (‵ (Own R κ b o γ (zs ++ rest-of k ys)) ⊛ ‵ (flft κ p))))
       (sl-relent-backᵖˡ 𝓤 H A W R κ p (β ∷ []) b o γ δ ys k zs) $ await t z $ learn t (λ e. split t $

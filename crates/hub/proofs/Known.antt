@@ -12,7 +12,8 @@ use base.Logic.{SProp, ent, sep, emp, guard}
 use base.Fml.{Lft, Share, Fml, ftrue, fsep, flft}
 use prog.Wp.{Heap}
 use ghost.Atoms.{Atoms, sem}
-use types.Kit.{Given, ‵, raw, _⊛_, later, given, _$_, !, qed, move, use1, use2, drop, learn, await, split, join, check, rewrite, fsplit, fsplit3, fjoin}
+use types.Kit.{Given, ‵, raw, _⊛_, later, given, _$_, !, qed, move, use1, use2, drop, learn, await, split, join, check, rewrite, fsplit}
+use types.Kit.{fsplit3, fjoin}
 use types.Kit.{fjoin3, feqL, feqI, updating, now as at-once, done}
 use types.SemTy.{cells}
 use types.Tokens.{shr-bor-dup, shr-bor-open, obor-close}
@@ -45,7 +46,8 @@ module _ {M : Type 1} (𝓤 : URA M) (H : Heap 𝓤) (A : Atoms 𝓤) (W : Given
           qed W (‵ (flft κ q) ∷ ‵ array ∷ []) {P = H .⇛ (guard 𝓤 (length (x .now) ≡ n) (sep 𝓤 (A .lft κ q) (sem 𝓤 H A array)))} (
           updating ! $ move ! (1 ∷ []) $ fsplit3 ! $ feqL ! (λ e. opens ! tt (Array R n) (x .ptr .0) (x .ptr .1) (λ vs.
           move ! (1 ∷ []) $ peeks ! (Array R n) (Is (Array R n)) (shows 𝓤 H A (Array R n)) (x .now) vs (λ g.
-          move ! (1 ∷ 0 ∷ []) $ closes ! tt (Array R n) (x .now) vs (x .ptr .0) (x .ptr .1) $ feqI ! (List Val) (ptr-vals x) (ptr-vals x) refl $ fjoin3 ! $
+          move ! (1 ∷ 0 ∷ []) $ closes ! tt (Array R n) (x .now) vs (x .ptr .0) (x .ptr .1) $
+          feqI ! (List Val) (ptr-vals x) (ptr-vals x) refl $ fjoin3 ! $
           move ! (1 ∷ []) $ at-once ! $ check ! (g .1 .0 .1) $ done !))));
     }
 
@@ -59,7 +61,8 @@ module _ {M : Type 1} (𝓤 : URA M) (H : Heap 𝓤) (A : Atoms 𝓤) (W : Given
       learned =
           qed W (‵ (flft κ q) ∷ ‵ bytes ∷ []) {P = H .⇛ (guard 𝓤 ((i : ℕ) → getD (x .now) i 0 < 256) (sep 𝓤 (A .lft κ q) (sem 𝓤 H A bytes)))} (
           updating ! $ move ! (1 ∷ []) $ fsplit3 ! $ move ! (2 ∷ []) $ shr-bor-dup ! $ move ! (0 ∷ 4 ∷ []) $
-          shr-bor-open ! tt (slice-halves 𝓤 H A W u8 (Is u8) (shows 𝓤 H A u8) (uint-vals w8) (uint-tells w8) (uint-copy 𝓤 H A W w8) (length (x .now)) (x .now)
+          shr-bor-open ! tt (slice-halves 𝓤 H A W u8 (Is u8) (shows 𝓤 H A u8) (uint-vals w8) (uint-tells w8) (uint-copy 𝓤 H A W w8)
+          (length (x .now)) (x .now)
           (x .ptr .0) (x .ptr .1)) (λ s. move ! (1 ∷ []) $
           -- [the share s of the bytes; the open borrow; the fractured borrow; the slice's facts; its name]
           fsplit ! $ drop ! $ rewrite ! 0 (λ (F : Fml). ‵ F) (parts-cells (rtF (fInt w8)) s (x .now) (x .ptr .0) (x .ptr .1)) refl $
@@ -76,7 +79,8 @@ module _ {M : Type 1} (𝓤 : URA M) (H : Heap 𝓤) (A : Atoms 𝓤) (W : Given
   pub no-thing : Learns 𝓤 H A (Unit {0}) (emp 𝓤) ftrue
   no-thing = record {
     learned =
-        qed W (raw (emp 𝓤) ∷ ‵ ftrue ∷ []) {P = H .⇛ (guard 𝓤 (Unit {0}) (sep 𝓤 (emp 𝓤) (sem 𝓤 H A ftrue)))} (updating ! $ at-once ! $ check ! tt $ done !);
+        qed W (raw (emp 𝓤) ∷ ‵ ftrue ∷ []) {P = H .⇛ (guard 𝓤 (Unit {0}) (sep 𝓤 (emp 𝓤) (sem 𝓤 H A ftrue)))} (updating ! $ at-once ! $
+        check ! tt $ done !);
   }
 
   pub and-more : {φ Φ : Type 0} {T U : SProp 𝓤} {o O : Fml} → Learns 𝓤 H A φ T o → Learns 𝓤 H A Φ U O → Learns 𝓤 H A (φ × Φ) (sep 𝓤 T U) (fsep o O)
@@ -84,6 +88,7 @@ module _ {M : Type 1} (𝓤 : URA M) (H : Heap 𝓤) (A : Atoms 𝓤) (W : Given
     learned =
         qed W ((raw T ⊛ raw U) ∷ ‵ (fsep o O) ∷ []) {P = H .⇛ (guard 𝓤 (φ × Φ) (sep 𝓤 (sep 𝓤 T U) (sem 𝓤 H A (fsep o O))))} (
         updating ! $ split ! $ move ! (2 ∷ []) $ fsplit ! $ move ! (2 ∷ 0 ∷ []) $ use2 W (later (given φ (raw T ⊛ ‵ o))) (one .learned) $
-        await ! tt $ learn ! (λ e. split ! $ move ! (3 ∷ 2 ∷ []) $ use2 W (later (given Φ (raw U ⊛ ‵ O))) (rest .learned) $ await ! tt $ learn ! (λ es.
+        await ! tt $ learn ! (λ e. split ! $ move ! (3 ∷ 2 ∷ []) $ use2 W (later (given Φ (raw U ⊛ ‵ O))) (rest .learned) $ await ! tt $
+        learn ! (λ es.
         split ! $ move ! (2 ∷ 0 ∷ []) $ join ! $ move ! (2 ∷ 1 ∷ []) $ fjoin ! $ move ! (1 ∷ []) $ at-once ! $ check ! (e, es) $ done !)));
   }

@@ -39,7 +39,8 @@ abbrev pub Ends : {M : Type 1} {𝓤 : URA M} (R : RattleType) (ys : List (R .De
 Ends {𝓤 = 𝓤} R ys L last F Φ δ =
     some (λ (l : L). (‵ (fsep (finally R δ (last l)) (feq ℕ (length (last l)) (length ys))) ⊛ F l) ⊛ raw (fact 𝓤 (Φ l)))
 
-module _ {M : Type 1} {𝓤 : URA M} {H : Heap 𝓤} {A : Atoms 𝓤} {K : Type 0} {W : Given 𝓤 H A} {Γ : List (Item 𝓤)} {E : Env 𝓤 H} {C : Calls 𝓤 H} {Λ : Loops 𝓤 H}
+module _ {M : Type 1} {𝓤 : URA M} {H : Heap 𝓤} {A : Atoms 𝓤} {K : Type 0} {W : Given 𝓤 H A} {Γ : List (Item 𝓤)} {E : Env 𝓤 H}
+    {C : Calls 𝓤 H} {Λ : Loops 𝓤 H}
     {q : Post 𝓤 H} {dst : Place} {rest : Body} where
   -- a result that is `()`
   answered : (t : K) (r : Unit {0}) (w : Val) → Seq K W Γ (lands C Λ E dst vunit rest q)
@@ -47,7 +48,8 @@ module _ {M : Type 1} {𝓤 : URA M} {H : Heap 𝓤} {A : Atoms 𝓤} {K : Type 
   answered t r w k = facts t Nothing (Is Nothing) (shows 𝓤 H A Nothing) r (w ∷ [])
       (λ is. regoal t (λ (u : Val). lands C Λ E dst u rest q) (ap only (nothing-tells r (w ∷ []) is)) refl $ k)
 
-module _ {M : Type 1} {𝓤 : URA M} {H : Heap 𝓤} {A : Atoms 𝓤} {K : Type 0} {W : Given 𝓤 H A} {Γ : List (Item 𝓤)} {E : Env 𝓤 H} {C : Calls 𝓤 H} {Λ : Loops 𝓤 H}
+module _ {M : Type 1} {𝓤 : URA M} {H : Heap 𝓤} {A : Atoms 𝓤} {K : Type 0} {W : Given 𝓤 H A} {Γ : List (Item 𝓤)} {E : Env 𝓤 H}
+    {C : Calls 𝓤 H} {Λ : Loops 𝓤 H}
     {q : Post 𝓤 H} {dst : Place} {rest : Body} {xs : List Operand} {f : Name}
     (t : K) (fm : FmC 𝓤 H (W .laws) C) (c : Contract 𝓤) (known : Triple 𝓤 (C f) c) where
   -- one slice, lent on as a `&mut [T]` beside j, which is handed over for good: T is the tokens as the callee's contract has them, j′ what comes
@@ -55,7 +57,8 @@ module _ {M : Type 1} {𝓤 : URA M} {H : Heap 𝓤} {A : Atoms 𝓤} {K : Type 
   -- the `ensures` says
   module _ (Q : RattleType) (vals : Q .Denot → List Val) (tells : Tells Q (Is Q) vals) (R : RattleType) {κ : Lft} {p : Share} {γ : GName} (n b o : ℕ)
       (ys : List (R .Denot)) (len : length ys ≡ n) (room : Room R n) (x : Lft → GName → c .Ghost) (T : Lft → Item 𝓤)
-      (S : Lft → GName → Q .Denot → SProp 𝓤) (j j′ : Item 𝓤) (L : Type 0) (last : L → List (R .Denot)) (F : L → Item 𝓤) (Φ : Q .Denot → L → Type 0) where
+      (S : Lft → GName → Q .Denot → SProp 𝓤) (j j′ : Item 𝓤) (L : Type 0) (last : L → List (R .Denot)) (F : L → Item 𝓤)
+      (Φ : Q .Denot → L → Type 0) where
     pub call-on : ((ν : Lft) → ent 𝓤 (mean 𝓤 H A (T ν)) (mean 𝓤 H A (‵ (flft ν fullShare) ⊛ j′)))
         → ((ν : Lft) (δ : GName) → ent 𝓤 (sep 𝓤 (A .lft ν fullShare) (sep 𝓤 (sem 𝓤 H A (Mut R ν n b o δ ys)) (mean 𝓤 H A j))) (c .pre (x ν δ)))
         → ((ν : Lft) (δ : GName) (w : Val) → ent 𝓤 (c .post (x ν δ) w) (mean 𝓤 H A (Answers (T ν) Q (S ν δ) w)))
@@ -93,8 +96,10 @@ module _ {M : Type 1} {𝓤 : URA M} {H : Heap 𝓤} {A : Atoms 𝓤} {K : Type 
         → ((ν μ : Lft) → ent 𝓤 (mean 𝓤 H A (Toks ν μ)) (sep 𝓤 (A .lft ν fullShare) (A .lft μ fullShare)))
         → ((ν : Lft) (δ : GName) (μ : Lft) (ε : GName) → ent 𝓤 (sep 𝓤 (A .lft ν fullShare)
         (sep 𝓤 (sem 𝓤 H A (Shr R₀ ν n₀ b₀ o₀ δ ys)) (sep 𝓤 (A .lft μ fullShare) (sem 𝓤 H A (Mut R₁ μ n₁ b₁ o₁ ε zs))))) (c .pre (x ν δ μ ε)))
-        → ((ν : Lft) (δ : GName) (μ : Lft) (ε : GName) (w : Val) → ent 𝓤 (c .post (x ν δ μ ε) w) (mean 𝓤 H A (Answers (Toks ν μ) Nothing (S ν δ μ ε) w)))
-        → ((ν : Lft) (δ : GName) (μ : Lft) (ε : GName) (r : Unit {0}) → ent 𝓤 (S ν δ μ ε r) (mean 𝓤 H A (some (λ (l : L). ‵ (G ε l) ⊛ raw (fact 𝓤 (Φ l))))))
+        → ((ν : Lft) (δ : GName) (μ : Lft) (ε : GName) (w : Val)
+        → ent 𝓤 (c .post (x ν δ μ ε) w) (mean 𝓤 H A (Answers (Toks ν μ) Nothing (S ν δ μ ε) w)))
+        → ((ν : Lft) (δ : GName) (μ : Lft) (ε : GName) (r : Unit {0})
+        → ent 𝓤 (S ν δ μ ε r) (mean 𝓤 H A (some (λ (l : L). ‵ (G ε l) ⊛ raw (fact 𝓤 (Φ l))))))
         → ((ν : Lft) (δ : GName) (μ : Lft) (ε : GName) (i j k : Item 𝓤) → Opds K W (i ∷ j ∷ k ∷ Γ) E xs (c .args (x ν δ μ ε)))
         → ((l : L) → Φ l → length (last l) ≡ n₁
         → Seq K W (‵ (Mut R₀ κ₀ n₀ b₀ o₀ γ₀ ys) ∷ ‵ (flft κ₀ p₀) ∷ ‵ (Mut R₁ κ₁ n₁ b₁ o₁ γ₁ (last l)) ∷ ‵ (flft κ₁ p₁) ∷ Γ)
@@ -114,18 +119,21 @@ module _ {M : Type 1} {𝓤 : URA M} {H : Heap 𝓤} {A : Atoms 𝓤} {K : Type 
         -- [the `&mut`; what is kept of it; the `&`; what is kept of it; β; α; …]
         move t (4 ∷ 0 ∷ []) $ join t $ move t (4 ∷ 2 ∷ 0 ∷ []) $ use3 W (raw (c .pre (x (α ∷ []) δ (β ∷ []) ε))) (goes (α ∷ []) δ (β ∷ []) ε) $
         calls-at t fm c known (x (α ∷ []) δ (β ∷ []) ε) (os (α ∷ []) δ (β ∷ []) ε _ _ _)
-        (λ w. use1 W (Answers (Toks (α ∷ []) (β ∷ [])) Nothing (S (α ∷ []) δ (β ∷ []) ε) w) (after (α ∷ []) δ (β ∷ []) ε w) $ await t tt $ pick t (λ r.
+        (λ w. use1 W (Answers (Toks (α ∷ []) (β ∷ [])) Nothing (S (α ∷ []) δ (β ∷ []) ε) w) (after (α ∷ []) δ (β ∷ []) ε w) $
+        await t tt $ pick t (λ r.
         split t $ move t (1 ∷ []) $ use1 W (some (λ (l : L). ‵ (G ε l) ⊛ raw (fact 𝓤 (Φ l)))) (says (α ∷ []) δ (β ∷ []) ε r) $ pick t (λ l.
         split t $ move t (1 ∷ []) $ heard t (Φ l) (λ e. use1 W (‵ (fsep (finally R₁ ε (last l)) (feq ℕ (length (last l)) (length zs)))) (outs ε l) $
         fsplit t $ move t (1 ∷ []) $ feqL t (λ long.
         -- [the last list; the tokens and the result; what is kept of the `&mut`; what is kept of the `&`; …]
-        move t (1 ∷ []) $ split t $ use1 W (‵ (flft (α ∷ []) fullShare) ⊛ ‵ (flft (β ∷ []) fullShare)) (tokens (α ∷ []) (β ∷ [])) $ split t $ lft-end t tt $
+        move t (1 ∷ []) $ split t $ use1 W (‵ (flft (α ∷ []) fullShare) ⊛ ‵ (flft (β ∷ []) fullShare)) (tokens (α ∷ []) (β ∷ [])) $
+        split t $ lft-end t tt $
         move t (0 ∷ 5 ∷ []) $
         use2 W (later (‵ (Mut R₀ κ₀ (length ys) b₀ o₀ γ₀ ys) ⊛ ‵ (flft κ₀ p₀))) (unshares R₀ κ₀ (α ∷ []) p₀ γ₀ b₀ o₀ ys 𝓤 H A W (named 0) (named 0)
         (subst (Room R₀) (sym len₀) room₀)) $ await t tt $ split t $
         -- [the first slice; its token; β; the result; the last list; what is kept of the `&mut`; …]
         move t (2 ∷ []) $ lft-end t tt $ move t (0 ∷ 5 ∷ 4 ∷ []) $
         use3 W (later (‵ (Mut R₁ κ₁ (length zs) b₁ o₁ γ₁ (last l)) ⊛ ‵ (flft κ₁ p₁)))
-        (comes-back R₁ κ₁ (β ∷ []) p₁ γ₁ b₁ o₁ 𝓤 H A W (named 0) (named 0) zs ε (last l) (subst (Room R₁) (sym len₁) room₁) long) $ await t tt $ split t $
+        (comes-back R₁ κ₁ (β ∷ []) p₁ γ₁ b₁ o₁ 𝓤 H A W (named 0) (named 0) zs ε (last l) (subst (Room R₁) (sym len₁) room₁) long) $
+        await t tt $ split t $
         rewrite t 0 (λ (m : ℕ). ‵ (Mut R₁ κ₁ m b₁ o₁ γ₁ (last l))) len₁ refl $ rewrite t 2 (λ (m : ℕ). ‵ (Mut R₀ κ₀ m b₀ o₀ γ₀ ys)) len₀ refl $
         move t (4 ∷ 2 ∷ 3 ∷ 0 ∷ 1 ∷ []) $ answered t r w (k l e (subst (λ (m : ℕ). length (last l) ≡ m) len₁ long)))))))))))

@@ -12,7 +12,8 @@ use base.Logic.{ent, sep, ex}
 use base.Fml.{Lft, GName, fsep, flft, fat, fdead, flent, fres}
 use prog.Wp.{Heap}
 use ghost.Atoms.{Atoms, sem}
-use types.Kit.{Given, Item, Goal, Soaks, Seq, ‵, _⊛_, some, later, _$_, _∵_, !, qed, by, move, keep, drop, use1, use2, use3, split, pick, rewrite, fsplit}
+use types.Kit.{Given, Item, Goal, Soaks, Seq, ‵, _⊛_, some, later, _$_, _∵_, !, qed, by, move, keep, drop, use1, use2, use3, split, pick}
+use types.Kit.{rewrite, fsplit}
 use types.Kit.{fjoin, fpick, fpack, await, updating, now as at-once, done}
 use types.Tokens.{lft-new, lft-end}
 use types.SemTy.{cells, Arr}
@@ -61,7 +62,8 @@ module _ {M : Type 1} (𝓤 : URA M) (H : Heap 𝓤) (A : Atoms 𝓤) (W : Given
       use1 W (‵ (fat fullShare τ l 0 (arr zs))) (W .laws .raw-at fullShare τ l 0 (arr zs)) $ at-once ! $ done !))
 
 -- what the holder of a `&mut [T]` says as it is given up
-gives-up : {M : Type 1} (𝓤 : URA M) (H : Heap 𝓤) (A : Atoms 𝓤) (W : Given 𝓤 H A) (R : RattleType) (κ : Lft) (n b o : ℕ) (γ : GName) (zs : List (R .Denot))
+gives-up : {M : Type 1} (𝓤 : URA M) (H : Heap 𝓤) (A : Atoms 𝓤) (W : Given 𝓤 H A) (R : RattleType) (κ : Lft) (n b o : ℕ) (γ : GName)
+    (zs : List (R .Denot))
     → ent 𝓤 (sem 𝓤 H A (Mut R κ n b o γ zs)) (sem 𝓤 H A (finally R γ zs))
 gives-up 𝓤 H A W R κ n b o γ zs =
     qed W (‵ (Mut R κ n b o γ zs) ∷ []) ∵ fsplit ! $ move ! (1 ∷ []) $ fsplit ! $

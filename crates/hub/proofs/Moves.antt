@@ -121,7 +121,8 @@ module _ {M : Type 1} (𝓤 : URA M) (H : Heap 𝓤) (A : Atoms 𝓤) (W : Given
 -- ---- load_row and store_row: a slice as `&[T]`, one as `&mut [T]`, and how many slots are copied
 module _ {M : Type 1} (𝓤 : URA M) (H : Heap 𝓤) (A : Atoms 𝓤) (W : Given 𝓤 H A) (R₀ R₁ : RattleType) where
   -- that the caller has what they ask
-  goes-copy : (n b o : ℕ) (ys : List (R₀ .Denot)) (n₁ b₁ o₁ : ℕ) (ws : List (R₁ .Denot)) (m : ℕ) → m < 2 ^ 64 → (ν : Lft) (δ : GName) (μ : Lft) (ε : GName)
+  goes-copy : (n b o : ℕ) (ys : List (R₀ .Denot)) (n₁ b₁ o₁ : ℕ) (ws : List (R₁ .Denot)) (m : ℕ) → m < 2 ^ 64
+      → (ν : Lft) (δ : GName) (μ : Lft) (ε : GName)
       → ent 𝓤 (sep 𝓤 (A .lft ν fullShare) (sep 𝓤 (sem 𝓤 H A (Shr R₀ ν n b o δ ys)) (sep 𝓤 (A .lft μ fullShare) (sem 𝓤 H A (Mut R₁ μ n₁ b₁ o₁ ε ws)))))
       (sep 𝓤 (mean 𝓤 H A ((‵ (flft ν fullShare) ⊛ (‵ (flft μ fullShare) ⊛ ‵ ftrue))
       ⊛ ‵ (owns (ShrSlice (named 0) ν R₀ ∷ MutSlice (named 1) μ R₁ ∷ usize ∷ []) (slice b o δ ys, (slice b₁ o₁ ε ws, (m, tt)))
@@ -129,7 +130,8 @@ module _ {M : Type 1} (𝓤 : URA M) (H : Heap 𝓤) (A : Atoms 𝓤) (W : Given
   goes-copy n b o ys n₁ b₁ o₁ ws m gm ν δ μ ε =
       qed W (‵ (flft ν fullShare) ∷ ‵ (Shr R₀ ν n b o δ ys) ∷ ‵ (flft μ fullShare) ∷ ‵ (Mut R₁ μ n₁ b₁ o₁ ε ws) ∷ []) ∵ nothing ! $
       owned ! usize (Is usize) (uint-makes 𝓤 H A W w64) m _ (refl, gm) $ fjoin ! $
-      move ! (4 ∷ 0 ∷ []) $ fjoin ! $ move ! (2 ∷ 0 ∷ []) $ fjoin ! $ nothing ! $ move ! (3 ∷ 0 ∷ []) $ join ! $ move ! (2 ∷ 0 ∷ []) $ join ! $ join ! $
+      move ! (4 ∷ 0 ∷ []) $ fjoin ! $ move ! (2 ∷ 0 ∷ []) $ fjoin ! $ nothing ! $ move ! (3 ∷ 0 ∷ []) $ join ! $ move ! (2 ∷ 0 ∷ []) $
+      join ! $ join ! $
       frame ! $ done !
 
   -- the last values of their parameters, of which the second's is some, and what is said of them
@@ -144,10 +146,14 @@ module _ {M : Type 1} (𝓤 : URA M) (H : Heap 𝓤) (A : Atoms 𝓤) (W : Given
   copy-ends ws ε l = qed W (‵ (CopyEnds ws ε l) ∷ []) ∵ fsplit ! $ drop ! $ fsplit ! $ keep ! (0 ∷ []) $ done !
 
   -- the tokens that come back
-  two-tokens : (ν μ : Lft) → ent 𝓤 (mean 𝓤 H A (‵ (flft ν fullShare) ⊛ (‵ (flft μ fullShare) ⊛ ‵ ftrue))) (sep 𝓤 (A .lft ν fullShare) (A .lft μ fullShare))
-  two-tokens ν μ = qed W ((‵ (flft ν fullShare) ⊛ (‵ (flft μ fullShare) ⊛ ‵ ftrue)) ∷ []) ∵ split ! $ move ! (1 ∷ []) $ split ! $ keep ! (2 ∷ 0 ∷ []) $ done !
+  two-tokens : (ν μ : Lft) → ent 𝓤 (mean 𝓤 H A (‵ (flft ν fullShare) ⊛ (‵ (flft μ fullShare) ⊛ ‵ ftrue)))
+      (sep 𝓤 (A .lft ν fullShare) (A .lft μ fullShare))
+  two-tokens ν μ =
+      qed W ((‵ (flft ν fullShare) ⊛ (‵ (flft μ fullShare) ⊛ ‵ ftrue)) ∷ []) ∵ split ! $ move ! (1 ∷ []) $ split ! $
+      keep ! (2 ∷ 0 ∷ []) $ done !
 
-module _ {M : Type 1} {𝓤 : URA M} {H : Heap 𝓤} {A : Atoms 𝓤} {K : Type 0} {W : Given 𝓤 H A} {Γ : List (Item 𝓤)} {E : Env 𝓤 H} {C : Calls 𝓤 H} {Λ : Loops 𝓤 H}
+module _ {M : Type 1} {𝓤 : URA M} {H : Heap 𝓤} {A : Atoms 𝓤} {K : Type 0} {W : Given 𝓤 H A} {Γ : List (Item 𝓤)} {E : Env 𝓤 H}
+    {C : Calls 𝓤 H} {Λ : Loops 𝓤 H}
     {q : Post 𝓤 H} {dst : Place} {rest : Body} {xs : List Operand} where
   pub call-zeros : K → (mem : Memory → SProp 𝓤) (run : Routine → Fun 𝓤) → FmC 𝓤 H (W .laws) C → Triple 𝓤 (C #hub·zeros) (Zeros 𝓤 H A mem run)
       → (ws : List (List ℕ)) → replicate 2048 (replicate 5 0) ≡ ws
@@ -163,11 +169,14 @@ module _ {M : Type 1} {𝓤 : URA M} {H : Heap 𝓤} {A : Atoms 𝓤} {K : Type 
       → Seq K W Γ (runs C Λ E (seq (call #hub·at-most xs dst) rest) q)
   call-at-most t mem run fm known n m k is gn gm os next =
       call-value t fm (AtMost 𝓤 H A mem run) known usize (uint-vals w64) (uint-tells w64) k (to-at-most 𝓤 H A W mem run n m k is)
-      (Lesser 𝓤 H A W mem run n m k is) (goes-at-most 𝓤 H A W mem run n m k is gn gm) (λ w. id⊢ 𝓤 _) (lesser 𝓤 H A W mem run n m k is) os (λ g. next (g .1))
+      (Lesser 𝓤 H A W mem run n m k is) (goes-at-most 𝓤 H A W mem run n m k is gn gm) (λ w. id⊢ 𝓤 _) (lesser 𝓤 H A W mem run n m k is)
+      os (λ g. next (g .1))
 
   module _ {κ κ₁ : Lft} {p p₁ : Share} {γ γ₁ : GName} where
-    pub call-load-row : K → (mem : Memory → SProp 𝓤) (run : Routine → Fun 𝓤) → FmC 𝓤 H (W .laws) C → Triple 𝓤 (C #hub·load-row) (LoadRow 𝓤 H A mem run)
-        → (n b o : ℕ) (ys : List Slot) → length ys ≡ n → Room T.the-row n → (n₁ b₁ o₁ : ℕ) (ws : List (List ℕ)) → length ws ≡ n₁ → Room Words n₁ → (m : ℕ)
+    pub call-load-row : K → (mem : Memory → SProp 𝓤) (run : Routine → Fun 𝓤) → FmC 𝓤 H (W .laws) C
+        → Triple 𝓤 (C #hub·load-row) (LoadRow 𝓤 H A mem run)
+        → (n b o : ℕ) (ys : List Slot) → length ys ≡ n → Room T.the-row n → (n₁ b₁ o₁ : ℕ) (ws : List (List ℕ)) → length ws ≡ n₁
+        → Room Words n₁ → (m : ℕ)
         → m < 2 ^ 64
         → ((i j k : Item 𝓤) → Opds K W (i ∷ j ∷ k ∷ Γ) E xs (sliceVal (b, o) n ∷ sliceVal (b₁, o₁) n₁ ∷ vint w64 m ∷ []))
         → ((zs : List (List ℕ)) → rowOf zs ≡ copiedTo ys (rowOf ws) m → length zs ≡ n₁ → Seq K W
@@ -191,8 +200,10 @@ module _ {M : Type 1} {𝓤 : URA M} {H : Heap 𝓤} {A : Atoms 𝓤} {K : Type 
         (copy-ends 𝓤 H A W T.the-row Words ws) (two-tokens 𝓤 H A W T.the-row Words) (goes-copy 𝓤 H A W T.the-row Words n b o ys n₁ b₁ o₁ ws m gm)
         (λ ν δ μ ε w. id⊢ 𝓤 _) (λ ν δ μ ε r. id⊢ 𝓤 _) (λ ν δ μ ε. os) (λ l. k (l .1 .0))
 
-    pub call-store-row : K → (mem : Memory → SProp 𝓤) (run : Routine → Fun 𝓤) → FmC 𝓤 H (W .laws) C → Triple 𝓤 (C #hub·store-row) (StoreRow 𝓤 H A mem run)
-        → (n b o : ℕ) (ys : List Slot) → length ys ≡ n → Room T.the-row n → (n₁ b₁ o₁ : ℕ) (ws : List (List ℕ)) → length ws ≡ n₁ → Room Words n₁ → (m : ℕ)
+    pub call-store-row : K → (mem : Memory → SProp 𝓤) (run : Routine → Fun 𝓤) → FmC 𝓤 H (W .laws) C
+        → Triple 𝓤 (C #hub·store-row) (StoreRow 𝓤 H A mem run)
+        → (n b o : ℕ) (ys : List Slot) → length ys ≡ n → Room T.the-row n → (n₁ b₁ o₁ : ℕ) (ws : List (List ℕ)) → length ws ≡ n₁
+        → Room Words n₁ → (m : ℕ)
         → m < 2 ^ 64
         → ((i j k : Item 𝓤) → Opds K W (i ∷ j ∷ k ∷ Γ) E xs (sliceVal (b₁, o₁) n₁ ∷ sliceVal (b, o) n ∷ vint w64 m ∷ []))
         → ((zs : List Slot) → zs ≡ copiedTo (rowOf ws) ys m → length zs ≡ n

@@ -149,7 +149,8 @@ single-known 𝓤 H A W ks qs x =
     (no-thing 𝓤 H A W))))))
 
 -- with a hub of sixteen workers, and the rest of the row as it was, what one record did on the first 2048 slots is what the contract says
-pub single-does : (h : Hub) (s : List Slot) (x : Single) (h′ : Hub) (s′ : List Slot) (z : SingleLeft) (y : Answer) → length (h .workers) ≡ 16 → Known x
+pub single-does : (h : Hub) (s : List Slot) (x : Single) (h′ : Hub) (s′ : List Slot) (z : SingleLeft) (y : Answer)
+    → length (h .workers) ≡ 16 → Known x
     → (rest-of 2048 s′ ≡ rest-of 2048 s) × OneDone h (take 2048 s) x h′ (take 2048 s′) z y → SingleDoes h s x h′ s′ z y
 single-does h s x h′ s′ z y w k e =
     let long = k .1 in

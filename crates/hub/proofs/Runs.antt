@@ -15,7 +15,8 @@ use prog.Wp.{Heap, Env, Calls, Loops}
 use ghost.Atoms.{Atoms, sem}
 use contract.Lifetimes.{Lfts, Shares, toks}
 use contract.Monad.{Fun, fact}
-use types.Kit.{Given, Item, Post, Seq, runs, lands, mean, ‵, raw, _⊛_, given, _$_, _∵_, !, qed, move, drop, use1, learn, join, fsplit, fjoin, frame, show}
+use types.Kit.{Given, Item, Post, Seq, runs, lands, mean, ‵, raw, _⊛_, given, _$_, _∵_, !, qed, move, drop, use1, learn, join, fsplit}
+use types.Kit.{fjoin, frame, show}
 use types.Kit.{done}
 use types.Run.{Opds}
 use sound.WpLaws.{FmC}
@@ -71,7 +72,8 @@ module _ {M : Type 1} (𝓤 : URA M) (H : Heap 𝓤) (A : Atoms 𝓤) (W : Given
   goes-one gk gh within ν δ =
       qed W (‵ (flft ν fullShare) ∷ ‵ (Row ν n b o δ ws) ∷ raw (toks 𝓤 A 6 ks qs) ∷ ‵ (single-own ks x) ∷ []) ∵ says ! within $ move ! (3 ∷ []) $
       owned ! B.the-row (Is B.the-row) (LL.makes B.the-type B′.the-plain 𝓤 H A) h (hub-vals h) gh $ fjoin ! $
-      owned ! usize (Is usize) (uint-makes 𝓤 H A W w64) k _ (refl, gk) $ fjoin ! $ move ! (2 ∷ 0 ∷ []) $ fjoin ! $ move ! (1 ∷ 2 ∷ []) $ join ! $ frame ! $
+      owned ! usize (Is usize) (uint-makes 𝓤 H A W w64) k _ (refl, gk) $ fjoin ! $ move ! (2 ∷ 0 ∷ []) $ fjoin ! $ move ! (1 ∷ 2 ∷ []) $
+      join ! $ frame ! $
       done !
 
   -- what it says of its answer and of what it leaves
@@ -107,7 +109,8 @@ module _ {M : Type 1} (𝓤 : URA M) (H : Heap 𝓤) (A : Atoms 𝓤) (W : Given
   goes-all gk gh within ν δ =
       qed W (‵ (flft ν fullShare) ∷ ‵ (Row ν n b o δ ws) ∷ raw (toks 𝓤 A 8 ks qs) ∷ ‵ (buffer-own ks x) ∷ []) ∵ says ! within $ move ! (3 ∷ []) $
       owned ! B.the-row (Is B.the-row) (LL.makes B.the-type B′.the-plain 𝓤 H A) h (hub-vals h) gh $ fjoin ! $
-      owned ! usize (Is usize) (uint-makes 𝓤 H A W w64) k _ (refl, gk) $ fjoin ! $ move ! (2 ∷ 0 ∷ []) $ fjoin ! $ move ! (1 ∷ 2 ∷ []) $ join ! $ frame ! $
+      owned ! usize (Is usize) (uint-makes 𝓤 H A W w64) k _ (refl, gk) $ fjoin ! $ move ! (2 ∷ 0 ∷ []) $ fjoin ! $ move ! (1 ∷ 2 ∷ []) $
+      join ! $ frame ! $
       done !
 
   -- what it says of its answer and of what it leaves
@@ -122,7 +125,9 @@ module _ {M : Type 1} (𝓤 : URA M) (H : Heap 𝓤) (A : Atoms 𝓤) (W : Given
 
   said-all : (ν : Lft) (δ : GName) (r : Left) → ent 𝓤 (Said-all ν δ r) (mean 𝓤 H A
       (Ends Words ws Last-all (λ l. l .0) (λ l. ‵ (buffer-end x (l .1 .1 .1))) (Says-all r) δ))
-  said-all ν δ r = exE 𝓤 _ (λ (l : Last-all). let D : Type 0 = AllDone h (take k (rowOf ws)) x (r .count) (r .hub) (take k (rowOf (l .0))) (l .1 .1 .1) in
+  said-all ν δ r =
+      exE 𝓤 _ (λ (l : Last-all). let D : Type 0 = AllDone h (take k (rowOf ws)) x (r .count) (r .hub) (take k (rowOf (l .0)))
+      (l .1 .1 .1) in
       qed W (‵ (lasts run-all.ended (ν, ks) (slice b o δ ws, (k, (h, x))) l) ∷ raw (fact 𝓤 D) ∷ []) ∵
       fsplit ! $ move ! (1 ∷ []) $ fsplit ! $ drop ! $ fsplit ! $ drop ! $
       use1 W (given (SameLong x (l .1 .1 .1)) (‵ (buffer-end x (l .1 .1 .1)))) (buffer-ends 𝓤 H A W x (l .1 .1 .1)) $
@@ -131,20 +136,25 @@ module _ {M : Type 1} (𝓤 : URA M) (H : Heap 𝓤) (A : Atoms 𝓤) (W : Given
       (sem 𝓤 H A (buffer-end x (a .1 .1 .1)))) (fact 𝓤 (Says-all r a))) l $
       says ! (e, long) $ move ! (1 ∷ 0 ∷ []) $ frame ! $ done !)))
 
-module _ {M : Type 1} {𝓤 : URA M} {H : Heap 𝓤} {A : Atoms 𝓤} {K : Type 0} {W : Given 𝓤 H A} {Γ : List (Item 𝓤)} {E : Env 𝓤 H} {C : Calls 𝓤 H} {Λ : Loops 𝓤 H}
+module _ {M : Type 1} {𝓤 : URA M} {H : Heap 𝓤} {A : Atoms 𝓤} {K : Type 0} {W : Given 𝓤 H A} {Γ : List (Item 𝓤)} {E : Env 𝓤 H}
+    {C : Calls 𝓤 H} {Λ : Loops 𝓤 H}
     {q : Post 𝓤 H} {dst : Place} {rest : Body} {xs : List Operand} {κ : Lft} {p : Share} {γ : GName} where
   pub call-run-one : (t : K) (mem : Memory → SProp 𝓤) (run : Routine → Fun 𝓤) → FmC 𝓤 H (W .laws) C → Triple 𝓤 (C #hub·run-one) (RunOne 𝓤 H A mem run)
       → (n b o : ℕ) (ws : List (List ℕ)) → length ws ≡ n → Room Words n → (k : ℕ) (h : Hub) (ks : Lfts 6) (qs : Shares 6) (x : Single) → k < 2 ^ 64
       → Is B.the-row h (hub-vals h) → k ≤ length ws
       → ((i j : Item 𝓤) → Opds K W (i ∷ j ∷ Γ) E xs (sliceVal (b, o) n ∷ vint w64 k ∷ only (hub-vals h) ∷ single-list x))
-      → ((r : Applied) (zs : List (List ℕ)) (z : SingleLeft) → OneDone h (take k (rowOf ws)) x (r .hub) (take k (rowOf zs)) z (r .answer) → length zs ≡ n
+      → ((r : Applied) (zs : List (List ℕ)) (z : SingleLeft)
+      → OneDone h (take k (rowOf ws)) x (r .hub) (take k (rowOf zs)) z (r .answer) → length zs ≡ n
       → Is P.the-row r (applied-vals r)
-      → Seq K W (‵ (Row κ n b o γ zs) ∷ ‵ (flft κ p) ∷ raw (toks 𝓤 A 6 ks qs) ∷ ‵ (single-end x z) ∷ Γ) (lands C Λ E dst (only (applied-vals r)) rest q))
-      → Seq K W (‵ (Row κ n b o γ ws) ∷ ‵ (flft κ p) ∷ raw (toks 𝓤 A 6 ks qs) ∷ ‵ (single-own ks x) ∷ Γ) (runs C Λ E (seq (call #hub·run-one xs dst) rest) q)
+      → Seq K W (‵ (Row κ n b o γ zs) ∷ ‵ (flft κ p) ∷ raw (toks 𝓤 A 6 ks qs) ∷ ‵ (single-end x z) ∷ Γ)
+      (lands C Λ E dst (only (applied-vals r)) rest q))
+      → Seq K W (‵ (Row κ n b o γ ws) ∷ ‵ (flft κ p) ∷ raw (toks 𝓤 A 6 ks qs) ∷ ‵ (single-own ks x) ∷ Γ)
+      (runs C Λ E (seq (call #hub·run-one xs dst) rest) q)
   call-run-one t mem run fm known n b o ws len room k h ks qs x gk gh within os next =
       move t (2 ∷ 3 ∷ []) $ join t $ move t (1 ∷ 2 ∷ 0 ∷ []) $
       call-on t fm (RunOne 𝓤 H A mem run) known P.the-row applied-vals (LL.tells P.the-type P′.the-laws) Words n b o ws len room
-      (to-one 𝓤 H A W mem run n b o ws k h ks qs x) (λ ν. ‵ (flft ν fullShare) ⊛ raw (toks 𝓤 A 6 ks qs)) (Said-one 𝓤 H A W mem run n b o ws k h ks qs x)
+      (to-one 𝓤 H A W mem run n b o ws k h ks qs x) (λ ν. ‵ (flft ν fullShare) ⊛ raw (toks 𝓤 A 6 ks qs))
+      (Said-one 𝓤 H A W mem run n b o ws k h ks qs x)
       (raw (toks 𝓤 A 6 ks qs) ⊛ ‵ (single-own ks x)) (raw (toks 𝓤 A 6 ks qs)) (Last-one 𝓤 H A W mem run n b o ws k h ks qs x) (λ l. l .0)
       (λ l. ‵ (single-end x (l .1 .1 .1)))
       (Says-one 𝓤 H A W mem run n b o ws k h ks qs x) (λ ν. id⊢ 𝓤 _) (goes-one 𝓤 H A W mem run n b o ws k h ks qs x gk gh within) (λ ν δ w. id⊢ 𝓤 _)
@@ -157,11 +167,13 @@ module _ {M : Type 1} {𝓤 : URA M} {H : Heap 𝓤} {A : Atoms 𝓤} {K : Type 
       → ((r : Left) (zs : List (List ℕ)) (z : BufferLeft) → AllDone h (take k (rowOf ws)) x (r .count) (r .hub) (take k (rowOf zs)) z × SameLong x z
       → length zs ≡ n → Is L.the-row r (left-vals r)
       → Seq K W (‵ (Row κ n b o γ zs) ∷ ‵ (flft κ p) ∷ raw (toks 𝓤 A 8 ks qs) ∷ ‵ (buffer-end x z) ∷ Γ) (lands C Λ E dst (only (left-vals r)) rest q))
-      → Seq K W (‵ (Row κ n b o γ ws) ∷ ‵ (flft κ p) ∷ raw (toks 𝓤 A 8 ks qs) ∷ ‵ (buffer-own ks x) ∷ Γ) (runs C Λ E (seq (call #hub·run-all xs dst) rest) q)
+      → Seq K W (‵ (Row κ n b o γ ws) ∷ ‵ (flft κ p) ∷ raw (toks 𝓤 A 8 ks qs) ∷ ‵ (buffer-own ks x) ∷ Γ)
+      (runs C Λ E (seq (call #hub·run-all xs dst) rest) q)
   call-run-all t mem run fm known n b o ws len room k h ks qs x gk gh within os next =
       move t (2 ∷ 3 ∷ []) $ join t $ move t (1 ∷ 2 ∷ 0 ∷ []) $
       call-on t fm (RunAll 𝓤 H A mem run) known L.the-row left-vals (LL.tells L.the-type L′.the-laws) Words n b o ws len room
-      (to-all 𝓤 H A W mem run n b o ws k h ks qs x) (λ ν. ‵ (flft ν fullShare) ⊛ raw (toks 𝓤 A 8 ks qs)) (Said-all 𝓤 H A W mem run n b o ws k h ks qs x)
+      (to-all 𝓤 H A W mem run n b o ws k h ks qs x) (λ ν. ‵ (flft ν fullShare) ⊛ raw (toks 𝓤 A 8 ks qs))
+      (Said-all 𝓤 H A W mem run n b o ws k h ks qs x)
       (raw (toks 𝓤 A 8 ks qs) ⊛ ‵ (buffer-own ks x)) (raw (toks 𝓤 A 8 ks qs)) (Last-all 𝓤 H A W mem run n b o ws k h ks qs x) (λ l. l .0)
       (λ l. ‵ (buffer-end x (l .1 .1 .1)))
       (Says-all 𝓤 H A W mem run n b o ws k h ks qs x) (λ ν. id⊢ 𝓤 _) (goes-all 𝓤 H A W mem run n b o ws k h ks qs x gk gh within) (λ ν δ w. id⊢ 𝓤 _)

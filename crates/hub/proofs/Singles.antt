@@ -44,7 +44,8 @@ use Rattle.hub.proofs.apply.Symbol.{name as #hub·apply}
 abbrev pub Apply : {M : Type 1} (𝓤 : URA M) (H : Heap 𝓤) (A : Atoms 𝓤) (mem : Memory → SProp 𝓤) (run : Routine → Fun 𝓤) → Contract 𝓤
 Apply 𝓤 H A mem run = tripleOf 𝓤 H A apply.signature (apply.spec 𝓤 H A mem run)
 
-module _ {M : Type 1} (𝓤 : URA M) (H : Heap 𝓤) (A : Atoms 𝓤) (W : Given 𝓤 H A) (mem : Memory → SProp 𝓤) (run : Routine → Fun 𝓤) (n b o : ℕ) (ys : List Slot)
+module _ {M : Type 1} (𝓤 : URA M) (H : Heap 𝓤) (A : Atoms 𝓤) (W : Given 𝓤 H A) (mem : Memory → SProp 𝓤) (run : Routine → Fun 𝓤)
+    (n b o : ℕ) (ys : List Slot)
     (h : Hub) (ks : Lfts 6) (qs : Shares 6) (x : Single) where
   -- what the callee's contract binds outside, and that the caller has what it asks
   abbrev to-apply : Lft → GName → Apply 𝓤 H A mem run .Ghost
@@ -68,7 +69,8 @@ module _ {M : Type 1} (𝓤 : URA M) (H : Heap 𝓤) (A : Atoms 𝓤) (W : Given
   abbrev Said : Lft → GName → Applied → SProp 𝓤
   Said ν δ = ensured 𝓤 H A apply.ended (apply.clauses 𝓤 H A mem run) (ν, ks) (slice b o δ ys, (h, x)) tt
 
-  said : (ν : Lft) (δ : GName) (r : Applied) → ent 𝓤 (Said ν δ r) (mean 𝓤 H A (Ends T.the-row ys Last (λ l. l .0) (λ l. ‵ (single-end x (l .1 .1))) (Says r)
+  said : (ν : Lft) (δ : GName) (r : Applied)
+      → ent 𝓤 (Said ν δ r) (mean 𝓤 H A (Ends T.the-row ys Last (λ l. l .0) (λ l. ‵ (single-end x (l .1 .1))) (Says r)
       δ))
   said ν δ r = exE 𝓤 _ (λ (l : Last).
       qed W (‵ (lasts apply.ended (ν, ks) (slice b o δ ys, (h, x)) l) ∷ raw (fact 𝓤 (Says r l)) ∷ []) ∵
@@ -77,14 +79,19 @@ module _ {M : Type 1} (𝓤 : URA M) (H : Heap 𝓤) (A : Atoms 𝓤) (W : Given
       (sem 𝓤 H A (single-end x (a .1 .1)))) (fact 𝓤 (Says r a))) l $
       says ! e $ move ! (1 ∷ 0 ∷ []) $ frame ! $ done !))
 
-module _ {M : Type 1} {𝓤 : URA M} {H : Heap 𝓤} {A : Atoms 𝓤} {K : Type 0} {W : Given 𝓤 H A} {Γ : List (Item 𝓤)} {E : Env 𝓤 H} {C : Calls 𝓤 H} {Λ : Loops 𝓤 H}
+module _ {M : Type 1} {𝓤 : URA M} {H : Heap 𝓤} {A : Atoms 𝓤} {K : Type 0} {W : Given 𝓤 H A} {Γ : List (Item 𝓤)} {E : Env 𝓤 H}
+    {C : Calls 𝓤 H} {Λ : Loops 𝓤 H}
     {q : Post 𝓤 H} {dst : Place} {rest : Body} {xs : List Operand} {κ : Lft} {p : Share} {γ : GName} where
   pub call-apply : (t : K) (mem : Memory → SProp 𝓤) (run : Routine → Fun 𝓤) → FmC 𝓤 H (W .laws) C → Triple 𝓤 (C #hub·apply) (Apply 𝓤 H A mem run)
-      → (n b o : ℕ) (ys : List Slot) → length ys ≡ n → Room T.the-row n → (h : Hub) (ks : Lfts 6) (qs : Shares 6) (x : Single) → Is B.the-row h (hub-vals h)
+      → (n b o : ℕ) (ys : List Slot) → length ys ≡ n → Room T.the-row n → (h : Hub) (ks : Lfts 6) (qs : Shares 6) (x : Single)
+      → Is B.the-row h (hub-vals h)
       → ((i j : Item 𝓤) → Opds K W (i ∷ j ∷ Γ) E xs (sliceVal (b, o) n ∷ only (hub-vals h) ∷ single-list x))
-      → ((r : Applied) (zs : List Slot) (z : SingleLeft) → SingleDoes h ys x (r .hub) zs z (r .answer) → length zs ≡ n → Is P.the-row r (applied-vals r)
-      → Seq K W (‵ (Slots κ n b o γ zs) ∷ ‵ (flft κ p) ∷ raw (toks 𝓤 A 6 ks qs) ∷ ‵ (single-end x z) ∷ Γ) (lands C Λ E dst (only (applied-vals r)) rest q))
-      → Seq K W (‵ (Slots κ n b o γ ys) ∷ ‵ (flft κ p) ∷ raw (toks 𝓤 A 6 ks qs) ∷ ‵ (single-own ks x) ∷ Γ) (runs C Λ E (seq (call #hub·apply xs dst) rest) q)
+      → ((r : Applied) (zs : List Slot) (z : SingleLeft) → SingleDoes h ys x (r .hub) zs z (r .answer) → length zs ≡ n
+      → Is P.the-row r (applied-vals r)
+      → Seq K W (‵ (Slots κ n b o γ zs) ∷ ‵ (flft κ p) ∷ raw (toks 𝓤 A 6 ks qs) ∷ ‵ (single-end x z) ∷ Γ)
+      (lands C Λ E dst (only (applied-vals r)) rest q))
+      → Seq K W (‵ (Slots κ n b o γ ys) ∷ ‵ (flft κ p) ∷ raw (toks 𝓤 A 6 ks qs) ∷ ‵ (single-own ks x) ∷ Γ)
+      (runs C Λ E (seq (call #hub·apply xs dst) rest) q)
   call-apply t mem run fm known n b o ys len room h ks qs x gh os next =
       move t (2 ∷ 3 ∷ []) $ join t $ move t (1 ∷ 2 ∷ 0 ∷ []) $
       call-on t fm (Apply 𝓤 H A mem run) known P.the-row applied-vals (LL.tells P.the-type P′.the-laws) T.the-row n b o ys len room

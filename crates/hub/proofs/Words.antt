@@ -63,7 +63,8 @@ module _ {M : Type 1} (𝓤 : URA M) (H : Heap 𝓤) (A : Atoms 𝓤) (W : Given
   goes-store : i < 2 ^ 64 → Is T.the-row s (vals s) → ent 𝓤 (sep 𝓤 (A .lft ν fullShare) (sep 𝓤 (sem 𝓤 H A (Row ν n b o δ ws)) (sem 𝓤 H A ftrue)))
       (StoreWords 𝓤 H A mem run .pre to-store)
   goes-store gi gs =
-      qed W (‵ (flft ν fullShare) ∷ ‵ (Row ν n b o δ ws) ∷ ‵ ftrue ∷ []) ∵ nothing ! $ owned ! T.the-row (Is T.the-row) (makes 𝓤 H A) s (vals s) gs $ fjoin ! $
+      qed W (‵ (flft ν fullShare) ∷ ‵ (Row ν n b o δ ws) ∷ ‵ ftrue ∷ []) ∵ nothing ! $
+      owned ! T.the-row (Is T.the-row) (makes 𝓤 H A) s (vals s) gs $ fjoin ! $
       owned ! usize (Is usize) (uint-makes 𝓤 H A W w64) i _ (refl, gi) $ fjoin ! $
       move ! (2 ∷ 0 ∷ []) $ fjoin ! $ nothing ! $ move ! (2 ∷ 0 ∷ []) $ join ! $ join ! $ frame ! $ done !
 
@@ -77,7 +78,8 @@ module _ {M : Type 1} (𝓤 : URA M) (H : Heap 𝓤) (A : Atoms 𝓤) (W : Given
 
   goes-load : i < 2 ^ 64 → ent 𝓤 (sep 𝓤 (A .lft ν p) (sem 𝓤 H A (RowShared ν n b o δ ws))) (LoadWords 𝓤 H A mem run .pre to-load)
   goes-load gi =
-      qed W (‵ (flft ν p) ∷ ‵ (RowShared ν n b o δ ws) ∷ []) ∵ nothing ! $ owned ! usize (Is usize) (uint-makes 𝓤 H A W w64) i _ (refl, gi) $ fjoin ! $
+      qed W (‵ (flft ν p) ∷ ‵ (RowShared ν n b o δ ws) ∷ []) ∵ nothing ! $
+      owned ! usize (Is usize) (uint-makes 𝓤 H A W w64) i _ (refl, gi) $ fjoin ! $
       move ! (2 ∷ 0 ∷ []) $ fjoin ! $ nothing ! $ move ! (2 ∷ 0 ∷ []) $ join ! $ join ! $ frame ! $ done !
 
   abbrev Loaded : Slot → SProp 𝓤
@@ -86,7 +88,8 @@ module _ {M : Type 1} (𝓤 : URA M) (H : Heap 𝓤) (A : Atoms 𝓤) (W : Given
   loaded : (r : Slot) → ent 𝓤 (Loaded r) (fact 𝓤 (r ≡ slotAtIn (rowOf ws) i))
   loaded r = exE 𝓤 _ (λ us. snd∗ 𝓤 (sem 𝓤 H A (lasts load.ended (ν, tt) (slice b o δ ws, (i, tt)) us)) (fact 𝓤 (r ≡ slotAtIn (rowOf ws) i)))
 
-module _ {M : Type 1} {𝓤 : URA M} {H : Heap 𝓤} {A : Atoms 𝓤} {K : Type 0} {W : Given 𝓤 H A} {Γ : List (Item 𝓤)} {E : Env 𝓤 H} {C : Calls 𝓤 H} {Λ : Loops 𝓤 H}
+module _ {M : Type 1} {𝓤 : URA M} {H : Heap 𝓤} {A : Atoms 𝓤} {K : Type 0} {W : Given 𝓤 H A} {Γ : List (Item 𝓤)} {E : Env 𝓤 H}
+    {C : Calls 𝓤 H} {Λ : Loops 𝓤 H}
     {q : Post 𝓤 H} {dst : Place} {rest : Body} {xs : List Operand} {κ : Lft} {p : Share} {γ : GName} where
   pub call-store-words : (t : K) (mem : Memory → SProp 𝓤) (run : Routine → Fun 𝓤) → FmC 𝓤 H (W .laws) C
       → Triple 𝓤 (C #versions·store) (StoreWords 𝓤 H A mem run) → (n b o : ℕ) (ws : List (List ℕ)) (i : ℕ) (s : Slot) → length ws ≡ n → Room Words n
@@ -103,7 +106,8 @@ module _ {M : Type 1} {𝓤 : URA M} {H : Heap 𝓤} {A : Atoms 𝓤} {K : Type 
       (λ r l. rowOf (l .0) ≡ set (rowOf ws) i s) (λ ν. id⊢ 𝓤 _) (λ ν δ. goes-store 𝓤 H A W mem run n b o ws i s ν δ gi gs) (λ ν δ w. id⊢ 𝓤 _)
       (λ ν δ r. id⊢ 𝓤 _) (λ ν δ. os) (λ r l e long is. move t (2 ∷ 3 ∷ []) $ drop t $ drop t $ k (l .0) e long)
 
-  pub call-load-words : K → (mem : Memory → SProp 𝓤) (run : Routine → Fun 𝓤) → FmC 𝓤 H (W .laws) C → Triple 𝓤 (C #versions·load) (LoadWords 𝓤 H A mem run)
+  pub call-load-words : K → (mem : Memory → SProp 𝓤) (run : Routine → Fun 𝓤) → FmC 𝓤 H (W .laws) C
+      → Triple 𝓤 (C #versions·load) (LoadWords 𝓤 H A mem run)
       → (n b o : ℕ) (ws : List (List ℕ)) (i : ℕ) → i < 2 ^ 64
       → ((j k : Item 𝓤) → Opds K W (j ∷ k ∷ Γ) E xs (sliceVal (b, o) n ∷ vint w64 i ∷ []))
       → (Is T.the-row (slotAtIn (rowOf ws) i) (vals (slotAtIn (rowOf ws) i)) → Seq K W (‵ (RowShared κ n b o γ ws) ∷ ‵ (flft κ p) ∷ Γ)
@@ -111,5 +115,6 @@ module _ {M : Type 1} {𝓤 : URA M} {H : Heap 𝓤} {A : Atoms 𝓤} {K : Type 
       → Seq K W (‵ (RowShared κ n b o γ ws) ∷ ‵ (flft κ p) ∷ Γ) (runs C Λ E (seq (call #versions·load xs dst) rest) q)
   call-load-words t mem run fm known n b o ws i gi os k =
       call-copied t fm (LoadWords 𝓤 H A mem run) known T.the-row vals tells (slotAtIn (rowOf ws) i) Words n b o ws
-      (to-load 𝓤 H A W mem run n b o ws i p κ γ) (Loaded 𝓤 H A W mem run n b o ws i p κ γ) (goes-load 𝓤 H A W mem run n b o ws i p κ γ gi) (λ w. id⊢ 𝓤 _)
+      (to-load 𝓤 H A W mem run n b o ws i p κ γ) (Loaded 𝓤 H A W mem run n b o ws i p κ γ)
+      (goes-load 𝓤 H A W mem run n b o ws i p κ γ gi) (λ w. id⊢ 𝓤 _)
       (loaded 𝓤 H A W mem run n b o ws i p κ γ) os k

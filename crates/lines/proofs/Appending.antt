@@ -38,8 +38,10 @@ pub append-words : {a b : Answer} {d e : List ℕ} {i j : ℕ} → a ≡ b → A
 append-words {d = d} {e = e} {i = i} {j = j} h w = subst (λ (x : Answer). Appended (words (answerOf x)) i d e j) (sym h) w
 
 -- the rest of a text, from index k on
-pub append-rest : (l : List ℕ) (k n : ℕ) {d e : List ℕ} {i j : ℕ} → length l ≤ k + n → Appended (take n (drop k l)) i d e j → Appended (drop k l) i d e j
-append-rest l k n {d = d} {e = e} {i = i} {j = j} h w = subst (λ (p : List ℕ). Appended p i d e j) (take-all n (drop k l) (rw (length-drop k l) (omega arith))) w
+pub append-rest : (l : List ℕ) (k n : ℕ) {d e : List ℕ} {i j : ℕ} → length l ≤ k + n → Appended (take n (drop k l)) i d e j
+    → Appended (drop k l) i d e j
+append-rest l k n {d = d} {e = e} {i = i} {j = j} h w =
+    subst (λ (p : List ℕ). Appended p i d e j) (take-all n (drop k l) (rw (length-drop k l) (omega arith))) w
 
 -- the digits of a number
 pub append-spelled : {x k : ℕ} {l d e : List ℕ} {i j : ℕ} → Spelled x l k → Appended (drop k l) i d e j → Appended (decimal x) i d e j

@@ -58,7 +58,8 @@ digits-shown (suc f) x = by (ltb x 10) (digits-shown f (x / 10))
     before : List ℕ
     before = lastDigits (suc f) (x / 10)
 
-    by : (b : Bool) {l : List ℕ} → drop (firstShown (suc f) (x / 10)) before ≡ l → drop (cond b (suc f) (firstShown (suc f) (x / 10))) (before ++ last) ≡ cond b last (l ++ last)
+    by : (b : Bool) {l : List ℕ} → drop (firstShown (suc f) (x / 10)) before ≡ l
+        → drop (cond b (suc f) (firstShown (suc f) (x / 10))) (before ++ last) ≡ cond b last (l ++ last)
     by true e = drop-at before last (suc f) (length-lastDigits (suc f) (x / 10))
     by false e =
         let h : firstShown (suc f) (x / 10) ≤ length before = omega (arith, length-lastDigits (suc f) (x / 10), firstShown-le (suc f) (x / 10)) in

@@ -39,4 +39,5 @@ lines-inside out n kinds numbers zero = record { kept = refl; ends = omega arith
 lines-inside out n kinds numbers (suc k) =
     let w = writtenLines out n kinds numbers k in
     let a = answerOf (answerAt kinds numbers k) in
-    appended-inside out (w .memory) (line (n + k) a) (w .used) (leb (w .used + longest) (length (w .memory))) refl (line-length (n + k) a) (lines-inside out n kinds numbers k)
+    appended-inside out (w .memory) (line (n + k) a) (w .used) (leb (w .used + longest) (length (w .memory))) refl
+    (line-length (n + k) a) (lines-inside out n kinds numbers k)

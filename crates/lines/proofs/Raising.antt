@@ -59,7 +59,8 @@ module _ (p t : List ℕ) (k v : ℕ) (h : length p ≡ k) where
 raised-last : (k x : ℕ) (t : List ℕ) → raised k (lastDigits k x ++ t) ≡ lastDigits k (x + 1) ++ t
 unfolding raised lastDigits
 raised-last zero x t = refl
-raised-last (suc k) x t = raised-at before t k (48 + x % 10) (length-lastDigits k (x / 10)) ∙ by (ltb (48 + x % 10) 57) refl (raised-last k (x / 10) (48 ∷ t))
+raised-last (suc k) x t =
+    raised-at before t k (48 + x % 10) (length-lastDigits k (x / 10)) ∙ by (ltb (48 + x % 10) 57) refl (raised-last k (x / 10) (48 ∷ t))
   where
     before : List ℕ
     before = lastDigits k (x / 10)
@@ -69,7 +70,9 @@ raised-last (suc k) x t = raised-at before t k (48 + x % 10) (length-lastDigits 
         → {l : List ℕ} → l ≡ lastDigits k (x / 10 + 1) ++ 48 ∷ t
         → cond b (before ++ (48 + x % 10 + 1) ∷ t) l ≡ (lastDigits k ((x + 1) / 10) ++ ((48 + (x + 1) % 10) ∷ [])) ++ t
     by true e r = let o = one-more x (omega (arith, ltb-true (48 + x % 10) 57 e)) in rw (o .0, o .1) (sym (append-snoc before (48 + x % 10 + 1) t))
-    by false e r = let o = carried x (omega (arith, ltb-false (48 + x % 10) 57 e)) in rw (o .0, o .1) (r ∙ sym (append-snoc (lastDigits k (x / 10 + 1)) 48 t))
+    by false e r =
+        let o = carried x (omega (arith, ltb-false (48 + x % 10) 57 e)) in
+        rw (o .0, o .1) (r ∙ sym (append-snoc (lastDigits k (x / 10 + 1)) 48 t))
 
 -- the carry stops at a place, if there is one
 reached-le : (k : ℕ) (d : List ℕ) → reached k d ≤ k - 1
@@ -90,7 +93,9 @@ firstShown-zero (suc k) = omega arith
 firstShown-more : (k x : ℕ) (t : List ℕ) → firstShown k (x + 1) ≡ min (firstShown k x) (reached k (lastDigits k x ++ t))
 unfolding firstShown reached lastDigits
 firstShown-more zero x t = refl
-firstShown-more (suc k) x t = rw (reached-at (lastDigits k (x / 10)) t k (48 + x % 10) (length-lastDigits k (x / 10))) (by (ltb (48 + x % 10) 57) refl (ltb x 10) refl (firstShown-more k (x / 10) (48 ∷ t)))
+firstShown-more (suc k) x t =
+    rw (reached-at (lastDigits k (x / 10)) t k (48 + x % 10) (length-lastDigits k (x / 10)))
+    (by (ltb (48 + x % 10) 57) refl (ltb x 10) refl (firstShown-more k (x / 10) (48 ∷ t)))
   where
     rest : ℕ
     rest = reached k (lastDigits k (x / 10) ++ 48 ∷ t)
@@ -131,7 +136,8 @@ raised-spelled {x} {d} {start} s =
 module _ (d₀ d : List ℕ) (start i : ℕ) (r : Raising d₀ d i) where
   -- a digit below 9 goes up by one
   pub raising-last :
-      {q : ℕ} → 0 < i → getD d (i - 1) 0 < 57 → q ≡ min start (i - 1) → (x : ℕ) → Spelled x d₀ start → Spelled (x + 1) (set d (i - 1) (getD d (i - 1) 0 + 1)) q
+      {q : ℕ} → 0 < i → getD d (i - 1) 0 < 57 → q ≡ min start (i - 1) → (x : ℕ) → Spelled x d₀ start
+      → Spelled (x + 1) (set d (i - 1) (getD d (i - 1) 0 + 1)) q
   unfolding raised reached
   raising-last h l e x s =
       let f : i ≡ suc (i - 1) = omega arith in

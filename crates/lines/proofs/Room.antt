@@ -12,6 +12,7 @@ pub no-room : (d : List ℕ) (i n : ℕ) (a : Answer) → length d < i + longest
 unfolding room writtenLine afterLine
 no-room d i n a h = let e = lt-leb (i + longest) (length d) h in record { memory = rw e; next = rw e }
 
-pub line-appended : {d e : List ℕ} {i j n : ℕ} {a : Answer} → i + longest ≤ length d → Appended (line n (answerOf a)) i d e j → LineAppended n a i d e j
+pub line-appended : {d e : List ℕ} {i j n : ℕ} {a : Answer} → i + longest ≤ length d → Appended (line n (answerOf a)) i d e j
+    → LineAppended n a i d e j
 unfolding room writtenLine afterLine
 line-appended {d = d} {i = i} h w = let e = le-leb (i + longest) (length d) h in record { memory = rw e (w .memory); next = rw e (w .next) }

@@ -36,7 +36,8 @@ module _ (d : List ℕ) (x i rest : ℕ) (s : Spelling d x i rest) (h : 0 < i) w
   left-after =
       let e : i ≡ suc (i - 1) = omega arith in
       let b : i - 1 < length d = omega (arith, s .within, s .kept) in
-      let f : drop (i - 1) (set d (i - 1) (48 + rest % 10)) ≡ (48 + rest % 10) ∷ drop (suc (i - 1)) d = rw set-split (drop-at (take (i - 1) d) _ (i - 1) (length-take-le (i - 1) d (omega arith))) in
+      let f : drop (i - 1) (set d (i - 1) (48 + rest % 10)) ≡ (48 + rest % 10) ∷ drop (suc (i - 1)) d =
+      rw set-split (drop-at (take (i - 1) d) _ (i - 1) (length-take-le (i - 1) d (omega arith))) in
       rw f (sym (append-snoc (lastDigits (i - 1) (rest / 10)) (48 + rest % 10) (drop (suc (i - 1)) d)) ∙ rw e at (s .left))
 
   zeros-after : take (i - 1) after ≡ replicate (i - 1) 48
@@ -67,7 +68,8 @@ module _ (d : List ℕ) (x i rest : ℕ) (s : Spelling d x i rest) (h : 0 < i) w
   spelling-last l =
       let e : i ≡ suc (i - 1) = omega arith in
       record {
-        last = sym (take-append-drop (i - 1) after) ∙ ap (λ (p : List ℕ). p ++ drop (i - 1) after) (zeros-after ∙ sym (lastDigits-zero (i - 1)) ∙ ap (lastDigits (i - 1)) (sym (div-eq-of-lt l))) ∙ left-after;
+        last = sym (take-append-drop (i - 1) after) ∙ ap (λ (p : List ℕ). p ++ drop (i - 1) after)
+            (zeros-after ∙ sym (lastDigits-zero (i - 1)) ∙ ap (lastDigits (i - 1)) (sym (div-eq-of-lt l))) ∙ left-after;
         shown = rw (lt-ltb rest 10 l) at (rw e at (s .first));
       }
 

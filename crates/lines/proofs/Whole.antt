@@ -47,7 +47,8 @@ over-start p d = rw (zero-add (length p))
 over-append : (p q d : List ℕ) → overAt (length p) q (over p d) ≡ over (p ++ q) d
 over-append p q d = rw (← over-start p d, ← over-start (p ++ q) d) (rw (zero-add (length p)) at (overAt-append p q d 0 (omega arith)))
 
-next-whole : (t out : List ℕ) (n : ℕ) (a : Answer) → length t + longest ≤ length out → nextLine (atStart t out) n a ≡ atStart (t ++ line n (answerOf a)) out
+next-whole : (t out : List ℕ) (n : ℕ) (a : Answer) → length t + longest ≤ length out
+    → nextLine (atStart t out) n a ≡ atStart (t ++ line n (answerOf a)) out
 unfolding nextLine writtenLine afterLine room
 next-whole t out n a h =
     let e = le-leb (length t + longest) (length (over t out)) (rw (length-over t out (omega arith)) h) in
@@ -61,5 +62,6 @@ whole-text out n kinds numbers (suc k) h =
     let a = answerAt kinds numbers k in
     let m : length (map answerOf l) ≡ k = length-map l answerOf ∙ length-answersIn kinds numbers k in
     let t = lines n (map answerOf l) in
-    let e : lines n (map answerOf (l ++ (a ∷ []))) ≡ t ++ line (n + k) (answerOf a) = rw (map-last l a) (lines-last n (map answerOf l) (answerOf a) ∙ rw m) in
+    let e : lines n (map answerOf (l ++ (a ∷ []))) ≡ t ++ line (n + k) (answerOf a) =
+    rw (map-last l a) (lines-last n (map answerOf l) (answerOf a) ∙ rw m) in
     rw (whole-text out n kinds numbers k (omega arith), e) (next-whole t out (n + k) a (omega (arith, lines-length n (map answerOf l))))

@@ -14,7 +14,8 @@ pub mapped-all : {A : Type 0} (f : A → A) (l : List A) → mapped f (length l)
 mapped-all f [] = refl
 mapped-all f (x ∷ xs) = ap (λ (ys : List _). f x ∷ ys) (mapped-all f xs)
 
-pub mapped-more : {A : Type 0} (f : A → A) (d : A) (l : List A) (i : ℕ) → i < length l → set (mapped f i l) i (f (getD (mapped f i l) i d)) ≡ mapped f (suc i) l
+pub mapped-more : {A : Type 0} (f : A → A) (d : A) (l : List A) (i : ℕ) → i < length l
+    → set (mapped f i l) i (f (getD (mapped f i l) i d)) ≡ mapped f (suc i) l
 mapped-more f d [] i h = absurd (not-suc-le-zero h)
 mapped-more f d (x ∷ xs) zero h = refl
 mapped-more f d (x ∷ xs) (suc i) h = ap (λ (ys : List _). f x ∷ ys) (mapped-more f d xs i (le-of-suc-le-suc h))

@@ -41,12 +41,14 @@ module _ {A : Type 0} where
   take-over p d k e = take-at p (drop (length p) d) k e
 
   -- a turn of a loop that moves entries down by n
-  pub shift-push : (s₀ s : List A) (n i : ℕ) (z : A) → s ≡ over (take i (drop n s₀)) s₀ → i + n < length s₀ → set s i (getD s (i + n) z) ≡ over (take (i + 1) (drop n s₀)) s₀
+  pub shift-push : (s₀ s : List A) (n i : ℕ) (z : A) → s ≡ over (take i (drop n s₀)) s₀ → i + n < length s₀
+      → set s i (getD s (i + n) z) ≡ over (take (i + 1) (drop n s₀)) s₀
   shift-push s₀ s n i z e h =
       let l : length (take i (drop n s₀)) ≡ i = length-take-le i (drop n s₀) (rw (length-drop n s₀) (omega arith)) in
       let b : i < length (drop n s₀) = rw (length-drop n s₀) (omega arith) in
       let c : n + i ≡ i + n = omega arith in
-      let g : getD (over (take i (drop n s₀)) s₀) (i + n) z ≡ getD (drop n s₀) i z = getD-over-past _ s₀ (i + n) z (omega arith) ∙ sym (getD-drop n s₀ i z ∙ rw c) in
+      let g : getD (over (take i (drop n s₀)) s₀) (i + n) z ≡ getD (drop n s₀) i z = getD-over-past _ s₀ (i + n) z (omega arith)
+      ∙ sym (getD-drop n s₀ i z ∙ rw c) in
       rw (e, g, add-one, take-suc (drop n s₀) i z b) (over-push (take i (drop n s₀)) s₀ i (getD (drop n s₀) i z) l (omega arith))
 
   pub getD-shifted : (s : List A) (n k j : ℕ) (z : A) → k ≤ length s → j + n < k → getD (shifted s n k) j z ≡ getD s (n + j) z

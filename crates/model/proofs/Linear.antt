@@ -40,7 +40,8 @@ Ordered-mono h h′ (i ∷ o) b e t = (
     here = omega (arith, hit-same i)
 
     both : (q : List ℕ) → ((j : ℕ) → 0 < occurrences j q → 0 < occurrences j o)
-        → All (λ j. EndsBefore (callAt h i .begun) (callAt h j .ending) → ⊥) q → All (λ j. EndsBefore (callAt h′ i .begun) (callAt h′ j .ending) → ⊥) q
+        → All (λ j. EndsBefore (callAt h i .begun) (callAt h j .ending) → ⊥) q
+        → All (λ j. EndsBefore (callAt h′ i .begun) (callAt h′ j .ending) → ⊥) q
     both [] sub u = tt
     both (j ∷ q) sub u = (
       (λ z. u .0 (e i j here (omega (arith, sub j (omega (arith, hit-same j))))

@@ -168,7 +168,8 @@ Fine-same s s′ t x x′ (c ∷ l) q f a =
     )
   where
     past : (m : List ℕ) → ((d : ℕ) → 0 < occurrences d m
-        → (nth s′ d .low ≡ nth s d .low) × (nth s′ d .high ≡ nth s d .high) × (nth s′ d .value ≡ nth s d .value)) → All (Past s t) m → All (Past s′ t) m
+        → (nth s′ d .low ≡ nth s d .low) × (nth s′ d .high ≡ nth s d .high) × (nth s′ d .value ≡ nth s d .value)) → All (Past s t) m
+        → All (Past s′ t) m
     past [] g z = tt
     past (d ∷ m) g z =
         let e = g d (omega (arith, hit-same d)) in

@@ -18,8 +18,10 @@ module _ {A : Type 0} where
   overAt-none d i s = paste-zero d i s ∙ sym (overAt-paste d i s 0 (omega arith))
 
   -- a turn of a loop that copies
-  pub overAt-push : (d : List A) (i : ℕ) (s : List A) (j : ℕ) (z : A) → i + j < length d → j < length s → set (overAt i (take j s) d) (i + j) (getD s j z) ≡ overAt i (take (j + 1) s) d
-  overAt-push d i s j z hd hs = rw (overAt-paste d i s j (omega arith), add-one j, overAt-paste d i s (suc j) (omega arith)) (paste-suc d i s j z hd hs)
+  pub overAt-push : (d : List A) (i : ℕ) (s : List A) (j : ℕ) (z : A) → i + j < length d → j < length s
+      → set (overAt i (take j s) d) (i + j) (getD s j z) ≡ overAt i (take (j + 1) s) d
+  overAt-push d i s j z hd hs =
+      rw (overAt-paste d i s j (omega arith), add-one j, overAt-paste d i s (suc j) (omega arith)) (paste-suc d i s j z hd hs)
 
   -- entries copied behind those that were replaced
   pub overAt-over : (p w d : List A) (i : ℕ) → length p ≡ i → overAt i w (over p d) ≡ over (p ++ w) d
@@ -40,7 +42,8 @@ module _ {A : Type 0} where
       let x : List A = drop (length p) s in
       let z : k - n ≡ length b = omega arith in
       let s-is : s ≡ a ++ (b ++ x) = e ∙ ap (λ (l : List A). l ++ x) f ∙ append-assoc a b x in
-      let b-is : take (k - n) (drop n s) ≡ b = rw z (ap (λ (l : List A). take (length b) (drop n l)) s-is ∙ rw (drop-at a (b ++ x) n g) (take-append-seam b x)) in
+      let b-is : take (k - n) (drop n s) ≡ b =
+      rw z (ap (λ (l : List A). take (length b) (drop n l)) s-is ∙ rw (drop-at a (b ++ x) n g) (take-append-seam b x)) in
       ap (λ (l : List A). over l s) b-is
 
   -- memory whose front was replaced has those entries there

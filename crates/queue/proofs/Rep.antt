@@ -32,7 +32,9 @@ joined-append (p ∷ ps) qs = rw (joined-append ps qs) (sym (append-assoc p (joi
 
 -- the ranges l that stand behind those of a
 pub rangesAt-behind : (a l : List Range) (d : List ℕ) → rangesAt (flat a ++ (flat l ++ d)) (length a) (length l) ≡ l
-rangesAt-behind a l d = sym (rangesAt-drop (flat a ++ (flat l ++ d)) (length a) (length l)) ∙ rw (drop-at (flat a) (flat l ++ d) (3 * length a) (length-flat a)) (rangesAt-flat l d)
+rangesAt-behind a l d =
+    sym (rangesAt-drop (flat a ++ (flat l ++ d)) (length a) (length l))
+    ∙ rw (drop-at (flat a) (flat l ++ d) (3 * length a) (length-flat a)) (rangesAt-flat l d)
 
 -- the ranges written to memory are read back, and so is a part of them
 pub rangesAt-over : (l : List Range) (d : List ℕ) → rangesAt (over (flat l) d) 0 (length l) ≡ l
@@ -43,7 +45,8 @@ pub rangesAt-over-part : (a l b : List Range) (d : List ℕ) → rangesAt (over 
 unfolding over
 rangesAt-over-part a l b d =
     let x : List ℕ = drop (length (flat (a ++ (l ++ b)))) d in
-    let e : flat (a ++ (l ++ b)) ++ x ≡ flat a ++ (flat l ++ (flat b ++ x)) = rw (flat-append a (l ++ b), flat-append l b, append-assoc, append-assoc) in
+    let e : flat (a ++ (l ++ b)) ++ x ≡ flat a ++ (flat l ++ (flat b ++ x)) =
+    rw (flat-append a (l ++ b), flat-append l b, append-assoc, append-assoc) in
     rw e (rangesAt-behind a l (flat b ++ x))
 
 ------------------------------------------------------------------------
@@ -62,7 +65,9 @@ length-firstTwo (p ∷ []) = simp length-append (omega arith)
 length-firstTwo (p ∷ r ∷ ps) = length-merge p r ∙ simp length-append (omega arith)
 
 -- the pools' words are where their lengths say
-merged-two : (ps : List (List Range)) (d : List ℕ) → merge (rangesAt (over (flat (joinedRanges ps)) d) 0 (getD (map length ps) 0 0)) (rangesAt (over (flat (joinedRanges ps)) d) (getD (map length ps) 0 0) (getD (map length ps) 1 0)) ≡ firstTwo ps
+merged-two : (ps : List (List Range)) (d : List ℕ)
+    → merge (rangesAt (over (flat (joinedRanges ps)) d) 0 (getD (map length ps) 0 0))
+    (rangesAt (over (flat (joinedRanges ps)) d) (getD (map length ps) 0 0) (getD (map length ps) 1 0)) ≡ firstTwo ps
 unfolding firstTwo merge
 merged-two [] d = refl
 merged-two (p ∷ []) d = merge-nil (rangesAt (over (flat (p ++ [])) d) 0 (length p)) ∙ rangesAt-over-part [] p [] d
@@ -85,12 +90,15 @@ lengths-split ps = ap (map length) (sym (take-append-drop 2 ps)) ∙ map-append 
 -- Memory that holds pools
 
 -- two queues are the same where their parts are
-same-queue : (a a′ b b′ : List ℕ) (c c′ d d′ : ℕ) → a ≡ a′ → b ≡ b′ → c ≡ c′ → d ≡ d′ → _≡_ {A = Queue} (record { queue = a; lens = b; pools = c; queued = d }) (record { queue = a′; lens = b′; pools = c′; queued = d′ })
+same-queue : (a a′ b b′ : List ℕ) (c c′ d d′ : ℕ) → a ≡ a′ → b ≡ b′ → c ≡ c′ → d ≡ d′
+    → _≡_ {A = Queue} (record { queue = a; lens = b; pools = c; queued = d }) (record { queue = a′; lens = b′; pools = c′; queued = d′ })
 same-queue a a′ b b′ c c′ d d′ p q r s = cc
 
 -- memory over which pools were written holds them
 pub rep-holds : (ps : List (List Range)) (q₀ q : Queue) → q ≡ queueRep ps q₀ → q ≡ queueRep ps q
-rep-holds ps q₀ q e = e ∙ same-queue _ _ _ _ _ _ _ _ (sym (over-again (flat (joinedRanges ps)) (q₀ .queue))) (sym (over-again (map length ps) (q₀ .lens))) refl refl ∙ ap (queueRep ps) (sym e)
+rep-holds ps q₀ q e =
+    e ∙ same-queue _ _ _ _ _ _ _ _ (sym (over-again (flat (joinedRanges ps)) (q₀ .queue))) (sym (over-again (map length ps) (q₀ .lens)))
+    refl refl ∙ ap (queueRep ps) (sym e)
 
 -- a queue of no pools
 pub rep-none : (q : Queue) → q .pools ≡ 0 → q .queued ≡ 0 → q ≡ queueRep [] q
@@ -105,21 +113,31 @@ unfolding room pushed
 push-none q src = refl
 
 -- a pool pushed is the model's last. The memory q may have come from q₀ by other changes.
-pub push-rep-over : (ps : List (List Range)) (q₀ q : Queue) (src : List ℕ) (n : ℕ) (l : List Range) → length (q₀ .lens) ≡ 2048 → q ≡ queueRep ps q₀ → length l ≡ n → take (3 * n) src ≡ flat l → 0 < n → length ps < 2048 → length (joinedRanges ps) + n ≤ 2048 → pushed q src n ≡ queueRep (ps ++ (l ∷ [])) q₀
+pub push-rep-over : (ps : List (List Range)) (q₀ q : Queue) (src : List ℕ) (n : ℕ) (l : List Range) → length (q₀ .lens) ≡ 2048
+    → q ≡ queueRep ps q₀ → length l ≡ n → take (3 * n) src ≡ flat l → 0 < n → length ps < 2048 → length (joinedRanges ps) + n ≤ 2048
+    → pushed q src n ≡ queueRep (ps ++ (l ∷ [])) q₀
 unfolding pushed
 push-rep-over ps q₀ q src n l k e f g pos hp hr =
     let j : List Range = joinedRanges ps in
     let more : joinedRanges (ps ++ (l ∷ [])) ≡ j ++ l = joined-append ps (l ∷ []) ∙ ap (λ (r : List Range). j ++ r) (append-nil l) in
-    let words : overAt (3 * length j) (take (3 * n) src) (over (flat j) (q₀ .queue)) ≡ over (flat (joinedRanges (ps ++ (l ∷ [])))) (q₀ .queue) = rw (g, more, flat-append j l) (overAt-over (flat j) (flat l) (q₀ .queue) (3 * length j) (length-flat j)) in
-    let lengths : set (over (map length ps) (q₀ .lens)) (length ps) n ≡ over (map length (ps ++ (l ∷ []))) (q₀ .lens) = rw (map-append length ps (l ∷ []), f) (over-push (map length ps) (q₀ .lens) (length ps) n (length-map ps length) (omega arith)) in
+    let words : overAt (3 * length j) (take (3 * n) src) (over (flat j) (q₀ .queue)) ≡ over (flat (joinedRanges (ps ++ (l ∷ []))))
+    (q₀ .queue) =
+    rw (g, more, flat-append j l) (overAt-over (flat j) (flat l) (q₀ .queue) (3 * length j) (length-flat j)) in
+    let lengths : set (over (map length ps) (q₀ .lens)) (length ps) n ≡ over (map length (ps ++ (l ∷ []))) (q₀ .lens) =
+    rw (map-append length ps (l ∷ []), f) (over-push (map length ps) (q₀ .lens) (length ps) n (length-map ps length) (omega arith)) in
     let ranges : length j + n ≡ length (joinedRanges (ps ++ (l ∷ []))) = rw (more, length-append j l, f) in
-    ap (λ (r : Queue). pushed r src n) e ∙ rw (room-yes (queueRep ps q₀) n pos hp hr) (same-queue _ _ _ _ _ _ _ _ words lengths (sym (length-append ps (l ∷ []))) ranges)
+    ap (λ (r : Queue). pushed r src n) e ∙ rw (room-yes (queueRep ps q₀) n pos hp hr)
+    (same-queue _ _ _ _ _ _ _ _ words lengths (sym (length-append ps (l ∷ []))) ranges)
 
-pub push-rep : (ps : List (List Range)) (q : Queue) (src : List ℕ) (n : ℕ) (l : List Range) → length (q .lens) ≡ 2048 → q ≡ queueRep ps q → length l ≡ n → take (3 * n) src ≡ flat l → 0 < n → length ps < 2048 → length (joinedRanges ps) + n ≤ 2048 → pushed q src n ≡ queueRep (ps ++ (l ∷ [])) q
+pub push-rep : (ps : List (List Range)) (q : Queue) (src : List ℕ) (n : ℕ) (l : List Range) → length (q .lens) ≡ 2048
+    → q ≡ queueRep ps q → length l ≡ n → take (3 * n) src ≡ flat l → 0 < n → length ps < 2048 → length (joinedRanges ps) + n ≤ 2048
+    → pushed q src n ≡ queueRep (ps ++ (l ∷ [])) q
 push-rep ps q = push-rep-over ps q q
 
 -- "queue the local pool if not empty"
-pub push-queued : (ps : List (List Range)) (q₀ q : Queue) (src : List ℕ) (l : List Range) → length (q₀ .lens) ≡ 2048 → q ≡ queueRep ps q₀ → take (3 * length l) src ≡ flat l → length ps < 2048 → length (joinedRanges ps) + length l ≤ 2048 → pushed q src (length l) ≡ queueRep (ps ++ queuedPool l) q₀
+pub push-queued : (ps : List (List Range)) (q₀ q : Queue) (src : List ℕ) (l : List Range) → length (q₀ .lens) ≡ 2048
+    → q ≡ queueRep ps q₀ → take (3 * length l) src ≡ flat l → length ps < 2048 → length (joinedRanges ps) + length l ≤ 2048
+    → pushed q src (length l) ≡ queueRep (ps ++ queuedPool l) q₀
 unfolding queuedPool
 push-queued ps q₀ q src [] k e g hp hr = push-none q src ∙ e ∙ ap (λ (r : List (List Range)). queueRep r q₀) (sym (append-nil ps))
 push-queued ps q₀ q src (ρ ∷ l) k e g hp hr = push-rep-over ps q₀ q src (length (ρ ∷ l)) (ρ ∷ l) k e refl g (omega arith) hp hr
@@ -135,7 +153,9 @@ module _ (ps : List (List Range)) (q : Queue) (e : q ≡ queueRep ps q) where
   queued-held = ap (λ (r : Queue). r .queued) e ∙ length-joined ps
 
   lengths-held : take (q .pools) (q .lens) ≡ map length ps
-  lengths-held = rw pools-held (ap (λ (r : Queue). take (length ps) (r .lens)) e ∙ take-over (map length ps) (q .lens) (length ps) (length-map ps length))
+  lengths-held =
+      rw pools-held (ap (λ (r : Queue). take (length ps) (r .lens)) e ∙ take-over (map length ps) (q .lens) (length ps)
+      (length-map ps length))
 
   ranges-held : firstRanges q ≡ length (joinedRanges (take 2 ps))
   ranges-held = rw lengths-held (first-two ps)
@@ -149,7 +169,9 @@ module _ (ps : List (List Range)) (q : Queue) (e : q ≡ queueRep ps q) where
 
   taken-rep : mayTake q ≡ true → taken q ≡ firstTwo ps
   unfolding taken
-  taken-rep may = rw (may, lengths-held) (ap (λ (r : Queue). merge (rangesAt (r .queue) 0 (getD (map length ps) 0 0)) (rangesAt (r .queue) (getD (map length ps) 0 0) (getD (map length ps) 1 0))) e ∙ merged-two ps (q .queue))
+  taken-rep may =
+      rw (may, lengths-held) (ap (λ (r : Queue). merge (rangesAt (r .queue) 0 (getD (map length ps) 0 0))
+      (rangesAt (r .queue) (getD (map length ps) 0 0) (getD (map length ps) 1 0))) e ∙ merged-two ps (q .queue))
 
   rest-rep : mayTake q ≡ true → rest q ≡ queueRep (drop 2 ps) q
   unfolding rest
@@ -159,10 +181,17 @@ module _ (ps : List (List Range)) (q : Queue) (e : q ≡ queueRep ps q) where
       let p = pools-held in
       let t = queued-held in
       let r = ranges-held in
-      let words : shifted (q .queue) (3 * firstRanges q) (3 * q .queued) ≡ over (flat k) (q .queue) = shifted-over (q .queue) (flat (joinedRanges ps)) (flat j) (flat k) (3 * firstRanges q) (3 * q .queued) (ap (λ (r : Queue). r .queue) e) (ap flat (joined-split ps) ∙ flat-append j k) (omega (arith, length-flat j)) (omega (arith, length-flat k)) in
-      let lengths : shifted (q .lens) (min 2 (q .pools)) (q .pools) ≡ over (map length (drop 2 ps)) (q .lens) = shifted-over (q .lens) (map length ps) (map length (take 2 ps)) (map length (drop 2 ps)) (min 2 (q .pools)) (q .pools) (ap (λ (r : Queue). r .lens) e) (lengths-split ps) (omega (arith, length-map (take 2 ps) length, length-take 2 ps)) (omega (arith, length-map (drop 2 ps) length, length-drop 2 ps)) in
+      let words : shifted (q .queue) (3 * firstRanges q) (3 * q .queued) ≡ over (flat k) (q .queue) =
+      shifted-over (q .queue) (flat (joinedRanges ps)) (flat j) (flat k) (3 * firstRanges q) (3 * q .queued)
+      (ap (λ (r : Queue). r .queue) e) (ap flat (joined-split ps) ∙ flat-append j k) (omega (arith, length-flat j))
+      (omega (arith, length-flat k)) in
+      let lengths : shifted (q .lens) (min 2 (q .pools)) (q .pools) ≡ over (map length (drop 2 ps)) (q .lens) =
+      shifted-over (q .lens) (map length ps) (map length (take 2 ps)) (map length (drop 2 ps)) (min 2 (q .pools)) (q .pools)
+      (ap (λ (r : Queue). r .lens) e) (lengths-split ps) (omega (arith, length-map (take 2 ps) length, length-take 2 ps))
+      (omega (arith, length-map (drop 2 ps) length, length-drop 2 ps)) in
       rw may (same-queue _ _ _ _ _ _ _ _ words lengths (omega (arith, length-drop 2 ps)) (omega arith))
 
   -- "Take up to two pools from the queue and merge": what is taken is the model's, and so is what is left
-  pub take-rep : length ps ≤ 2048 → length (joinedRanges ps) ≤ 2048 → length (firstTwo ps) ≤ 256 → (taken q ≡ firstTwo ps) × (rest q ≡ queueRep (drop 2 ps) q)
+  pub take-rep : length ps ≤ 2048 → length (joinedRanges ps) ≤ 2048 → length (firstTwo ps) ≤ 256
+      → (taken q ≡ firstTwo ps) × (rest q ≡ queueRep (drop 2 ps) q)
   take-rep hp hr ht = let may = may-take-rep hp hr ht in (taken-rep may, rest-rep may)

@@ -26,7 +26,9 @@ same false false f g = refl
 
 -- a sum is compared by a difference
 pub leb-minus : (a b k : ℕ) → b ≤ k → leb a (k - b) ≡ leb (a + b) k
-leb-minus a b k h = same (leb a (k - b)) (leb (a + b) k) (λ e. le-leb (a + b) k (omega (arith, leb-true a (k - b) e))) (λ e. le-leb a (k - b) (omega (arith, leb-true (a + b) k e)))
+leb-minus a b k h =
+    same (leb a (k - b)) (leb (a + b) k) (λ e. le-leb (a + b) k (omega (arith, leb-true a (k - b) e)))
+    (λ e. le-leb a (k - b) (omega (arith, leb-true (a + b) k e)))
 
 module _ (q : Queue) where
   pub room-facts : (n : ℕ) → room q n ≡ true → (0 < n) × (q .pools < 2048) × (q .queued + n ≤ 2048)
@@ -45,19 +47,27 @@ module _ (q : Queue) where
   may-facts e =
       let m = both (leb (q .pools) 2048 && leb (q .queued) 2048 && leb (firstRanges q) (q .queued)) (leb (firstRanges q) 256) e in
       let l = both (leb (q .pools) 2048 && leb (q .queued) 2048) (leb (firstRanges q) (q .queued)) (m .0) in
-      let k = both (leb (q .pools) 2048) (leb (q .queued) 2048) (l .0) in
-      (leb-true (q .pools) 2048 (k .0), leb-true (q .queued) 2048 (k .1), leb-true (firstRanges q) (q .queued) (l .1), leb-true (firstRanges q) 256 (m .1))
+      let k = both (leb (q .pools) 2048) (leb (q .queued) 2048) (l .0) in (
+        leb-true (q .pools) 2048 (k .0),
+        leb-true (q .queued) 2048 (k .1),
+        leb-true (firstRanges q) (q .queued) (l .1),
+        leb-true (firstRanges q) 256 (m .1),
+      )
 
   pub may-yes : q .pools ≤ 2048 → q .queued ≤ 2048 → firstRanges q ≤ q .queued → firstRanges q ≤ 256 → mayTake q ≡ true
   unfolding mayTake
   may-yes a b c d = rw (le-leb (q .pools) 2048 a, le-leb (q .queued) 2048 b, le-leb (firstRanges q) (q .queued) c, le-leb (firstRanges q) 256 d)
 
   -- where pools may be taken, the two that were merged with what was moved to the front are what is taken
-  pub took : (queue lens merged₀ merged : List ℕ) (a b p : ℕ) → mayTake q ≡ true → a ≡ firstLength q → b ≡ secondLength q → merged ≡ over (flat (merge (rangesAt (q .queue) 0 a) (rangesAt (q .queue) a b))) merged₀ → queue ≡ shifted (q .queue) (3 * (a + b)) (3 * q .queued) → lens ≡ shifted (q .lens) (min 2 (q .pools)) (q .pools) → p ≡ q .pools - 2 → Took q (record { queue = queue; lens = lens; pools = p; queued = q .queued - (a + b) }) merged₀ merged (a + b)
+  pub took : (queue lens merged₀ merged : List ℕ) (a b p : ℕ) → mayTake q ≡ true → a ≡ firstLength q → b ≡ secondLength q
+      → merged ≡ over (flat (merge (rangesAt (q .queue) 0 a) (rangesAt (q .queue) a b))) merged₀
+      → queue ≡ shifted (q .queue) (3 * (a + b)) (3 * q .queued) → lens ≡ shifted (q .lens) (min 2 (q .pools)) (q .pools)
+      → p ≡ q .pools - 2 → Took q (record { queue = queue; lens = lens; pools = p; queued = q .queued - (a + b) }) merged₀ merged (a + b)
   unfolding taken rest
   took queue lens merged₀ merged a b p may ea eb m eq el ep =
       record {
-        counted = rw (may, ← ea, ← eb) (sym (length-merge (rangesAt (q .queue) 0 a) (rangesAt (q .queue) a b) ∙ rw (length-rangesAt (q .queue) 0 a, length-rangesAt (q .queue) a b)));
+        counted = rw (may, ← ea, ← eb) (sym (length-merge (rangesAt (q .queue) 0 a) (rangesAt (q .queue) a b)
+            ∙ rw (length-rangesAt (q .queue) 0 a, length-rangesAt (q .queue) a b)));
         written = rw (may, ← ea, ← eb) m;
         left = rw (may, ← ea, ← eb, eq, el, ep);
       }

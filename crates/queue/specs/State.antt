@@ -34,8 +34,7 @@ unfoldable pub pushed : Queue → List ℕ → ℕ → Queue
 pushed q src n =
     cond (room q n) (record {
       queue = overAt (3 * q .queued) (take (3 * n) src) (q .queue);
-      lens = set (q .lens)
-          (q .pools) n;
+      lens = set (q .lens) (q .pools) n;
       pools = q .pools + 1;
       queued = q .queued + n;
     }) q
@@ -67,8 +66,7 @@ unfoldable pub rest : Queue → Queue
 rest q =
     cond (mayTake q) (record {
       queue = shifted (q .queue) (3 * firstRanges q) (3 * q .queued);
-      lens = shifted (q .lens) (min 2 (q .pools))
-          (q .pools);
+      lens = shifted (q .lens) (min 2 (q .pools)) (q .pools);
       pools = q .pools - 2;
       queued = q .queued - firstRanges q;
     }) q

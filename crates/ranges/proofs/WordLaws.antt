@@ -34,7 +34,8 @@ pub rangesAt-snoc : (s : List ℕ) (n : ℕ) → rangesAt s 0 (n + 1) ≡ ranges
 rangesAt-snoc s n = let e : 0 + n ≡ n = omega arith in rw add-one (rangesAt-suc s 0 n ∙ rw e)
 
 -- ranges depend on their own words alone
-pub rangesAt-same : (s s′ : List ℕ) (i j n : ℕ) → ((t : ℕ) → t < 3 * n → getD s (3 * i + t) 0 ≡ getD s′ (3 * j + t) 0) → rangesAt s i n ≡ rangesAt s′ j n
+pub rangesAt-same : (s s′ : List ℕ) (i j n : ℕ) → ((t : ℕ) → t < 3 * n → getD s (3 * i + t) 0 ≡ getD s′ (3 * j + t) 0)
+    → rangesAt s i n ≡ rangesAt s′ j n
 rangesAt-same s s′ i j zero h = refl
 rangesAt-same s s′ i j (suc n) h =
     let e : 3 * i + 0 ≡ 3 * i = omega arith in
@@ -90,7 +91,11 @@ over-put l d k ρ e h =
 pub range-past : (l : List Range) (d : List ℕ) (i : ℕ) → length l ≤ i → rangeAt (over (flat l) d) i ≡ rangeAt d i
 range-past l d i h =
     let n : length (flat l) ≤ 3 * i = rw (length-flat l) (omega arith) in
-    rw (getD-over-past (flat l) d (3 * i) 0 n, getD-over-past (flat l) d (3 * i + 1) 0 (omega arith), getD-over-past (flat l) d (3 * i + 2) 0 (omega arith))
+    rw (
+      getD-over-past (flat l) d (3 * i) 0 n,
+      getD-over-past (flat l) d (3 * i + 1) 0 (omega arith),
+      getD-over-past (flat l) d (3 * i + 2) 0 (omega arith),
+    )
 
 -- the range at a place among those written is l's
 pub range-in : (l : List Range) (d : List ℕ) (x : Range) (r : List Range) (k : ℕ) → length l ≡ k → rangeAt (flat (l ++ x ∷ r) ++ d) k ≡ x
@@ -104,7 +109,8 @@ range-in (y ∷ l) d x r (suc k) e =
     rw (b, c, a) (range-in l d x r k (omega arith))
 
 -- and put there, it takes the place of l's
-pub put-in : (l : List Range) (d : List ℕ) (x ρ : Range) (r : List Range) (k : ℕ) → length l ≡ k → putAt (flat (l ++ x ∷ r) ++ d) k ρ ≡ flat (l ++ ρ ∷ r) ++ d
+pub put-in : (l : List Range) (d : List ℕ) (x ρ : Range) (r : List Range) (k : ℕ) → length l ≡ k
+    → putAt (flat (l ++ x ∷ r) ++ d) k ρ ≡ flat (l ++ ρ ∷ r) ++ d
 put-in [] d x ρ r zero e = refl
 put-in [] d x ρ r (suc k) e = absurd (omega arith)
 put-in (y ∷ l) d x ρ r zero e = absurd (omega arith)

@@ -14,7 +14,8 @@ use borrow.Author.Tests.{leb-true, leb-false, lt-ltb}
 use Rattle.model.specs.Store.{absent}
 use Rattle.slots.specs.declared.Slot.{Slot}
 use Rattle.slots.specs.Slots.{vacantSlot, linkedTo, madeSlot, madeTo}
-use Rattle.versions.specs.Versions.{slotIn, rowOf, slotAtIn, changeIn, stampedIn, unlinkedIn, withLow, withHigh, withOlder, withNewer, aloneSlot}
+use Rattle.versions.specs.Versions.{slotIn, rowOf, slotAtIn, changeIn, stampedIn, unlinkedIn, withLow, withHigh, withOlder, withNewer}
+use Rattle.versions.specs.Versions.{aloneSlot}
 
 ------------------------------------------------------------------------
 -- Loads and stores

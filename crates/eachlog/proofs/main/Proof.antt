@@ -5,11 +5,13 @@ use Rattle.eachlog.proofs.main.Statement.{statement}
 use Rattle.eachlog.proofs.main.Tie as tie
 
 abbrev Inv-loop : tie.InvT-loop
-Inv-loop long at later rec₀ newest₀ free₀ queue₀ lens₀ merged₀ slots₀ hub₀ k₀ lent₀ turns₀ t23 rec newest free queue lens merged slots hub k lent turns =
+Inv-loop long at later rec₀ newest₀ free₀ queue₀ lens₀ merged₀ slots₀ hub₀ k₀ lent₀ turns₀ t23 rec newest free queue lens merged slots
+    hub k lent turns =
     Unit {0}
 
 abbrev μ-loop : tie.MeasureT-loop
-μ-loop long at later rec₀ newest₀ free₀ queue₀ lens₀ merged₀ slots₀ hub₀ k₀ lent₀ turns₀ t23 rec newest free queue lens merged slots hub k lent turns =
+μ-loop long at later rec₀ newest₀ free₀ queue₀ lens₀ merged₀ slots₀ hub₀ k₀ lent₀ turns₀ t23 rec newest free queue lens merged slots hub
+    k lent turns =
     turns
 
 argument-requires : tie.Need-argument-requires Inv-loop μ-loop

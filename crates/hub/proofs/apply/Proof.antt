@@ -18,9 +18,11 @@ use ghost.Atoms.{Atoms}
 use contract.Lifetimes.{Lfts, Shares, toks}
 use contract.Monad.{Fun}
 use contract.Running.{givenOf, tables, tablesOf}
-use types.Kit.{Given, ‵, raw, _⊛_, later, given, ⋆, _$_, _∵_, !, qed, by, move, drop, use2, learn, await, split, join, fsplit, fjoin, suffices, frame, done}
+use types.Kit.{Given, ‵, raw, _⊛_, later, given, ⋆, _$_, _∵_, !, qed, by, move, drop, use2, learn, await, split, join, fsplit, fjoin}
+use types.Kit.{suffices, frame, done}
 use types.Part.{agg, whole, sub, look-in}
-use types.Run.{look, init, store, forget, stop, hop, fld, from, load, addr, and-then, no-more, of-opd, assigns, land, returns, enter, alloc1, alloc0, params1}
+use types.Run.{look, init, store, forget, stop, hop, fld, from, load, addr, and-then, no-more, of-opd, assigns, land, returns, enter}
+use types.Run.{alloc1, alloc0, params1}
 use types.Run.{pass1, pass0, free1, free0}
 use sound.WpLaws.{FmC, fmOf, WpFn-mono}
 use denote.RattleType.{owns}
@@ -51,7 +53,8 @@ use Rattle.hub.proofs.Lends.{big-lit}
 use Rattle.hub.proofs.Local.{lends-local, takes-back}
 use Rattle.hub.proofs.Words.{Words}
 use Rattle.hub.proofs.Values.{hub-vals, applied-vals, typed-hub, typed-applied, hub-workers}
-use Rattle.hub.proofs.Passed.{Single, SingleLeft, single-types, single-vals, single-spells, single-tells, single-list, single-own, single-end, OneDone}
+use Rattle.hub.proofs.Passed.{Single, SingleLeft, single-types, single-vals, single-spells, single-tells, single-list, single-own}
+use Rattle.hub.proofs.Passed.{single-end, OneDone}
 use Rattle.hub.proofs.Passed.{SingleDoes, Known, single-known, single-does}
 use Rattle.hub.proofs.Handed.{single-gave, single-go}
 use Rattle.hub.proofs.Moves.{word-vals, word-tells, word-makes, roomy, typed-row, Zeros, AtMost, LoadRow, StoreRow, call-zeros, call-at-most}
@@ -83,7 +86,8 @@ stayed = (
   (stay-dropped (plain (λ _. B.the-row)) yes, single-gave 7 (1, tt) (2, tt) (3, tt) (4, tt) (5, tt) (6, tt)),
 )
 
-module _ {M : Type 1} (𝓤 : URA M) (H : Heap 𝓤) (A : Atoms 𝓤) (W : Given 𝓤 H A) (mem : Memory → SProp 𝓤) (run : Routine → Fun 𝓤) (κ : Lft) (ks : Lfts 6)
+module _ {M : Type 1} (𝓤 : URA M) (H : Heap 𝓤) (A : Atoms 𝓤) (W : Given 𝓤 H A) (mem : Memory → SProp 𝓤) (run : Routine → Fun 𝓤)
+    (κ : Lft) (ks : Lfts 6)
     (q : Share) (qs : Shares 6) (b o : ℕ) (γ : GName) (ys : List Slot) (hub : Hub) (x : Single)
     (room : Room T.the-row (length ys)) (gh : Is B.the-row hub (hub-vals hub)) (room₁ : Room u8 (length (x .0 .now)))
     (ws : List (List ℕ)) (is-zeros : replicate 2048 (replicate 5 0) ≡ ws) (k : ℕ) (is-k : min (length ys) 2048 ≡ k) where
@@ -103,13 +107,15 @@ module _ {M : Type 1} (𝓤 : URA M) (H : Heap 𝓤) (A : Atoms 𝓤) (W : Given
   abbrev Did : Applied → SingleLeft → List Slot → List Slot → Type 0
   Did r z us vs = OneDone hub us x (r .hub) vs z (r .answer)
 
-  exits : (zs : List Slot) (r : Applied) (z : SingleLeft) → SingleDoes hub ys x (r .hub) zs z (r .answer) → length zs ≡ n → Is P.the-row r (applied-vals r)
+  exits : (zs : List Slot) (r : Applied) (z : SingleLeft) → SingleDoes hub ys x (r .hub) zs z (r .answer) → length zs ≡ n
+      → Is P.the-row r (applied-vals r)
       → ent 𝓤 (⋆ 𝓤 H A (‵ (Slots κ n b o γ zs) ∷ ‵ (flft κ q) ∷ raw (toks 𝓤 A 6 ks qs) ∷ ‵ (single-end x z) ∷ [])) (Fin (only (applied-vals r)))
   exits zs r z e l g =
       qed W (‵ (Slots κ n b o γ zs) ∷ ‵ (flft κ q) ∷ raw (toks 𝓤 A 6 ks qs) ∷ ‵ (single-end x z) ∷ []) ∵
       suffices ! _ (ends-at 𝓤 H A f.ended stayed (f.clauses 𝓤 H A mem run) W (((κ, ks), (q, qs), tt, (slice b o γ ys, (hub, x)), at), tt)
       (only (applied-vals r)) r (zs, (tt, z)) (l, (tt, (tt, (tt, (tt, (tt, (tt, (tt, tt))))))))) $
-      says ! e $ move ! (1 ∷ 2 ∷ []) $ join ! $ frame ! $ move ! (1 ∷ []) $ nothing ! $ fjoin ! $ nothing ! $ fjoin ! $ move ! (1 ∷ 0 ∷ []) $ fjoin ! $
+      says ! e $ move ! (1 ∷ 2 ∷ []) $ join ! $ frame ! $ move ! (1 ∷ []) $ nothing ! $ fjoin ! $ nothing ! $ fjoin ! $
+      move ! (1 ∷ 0 ∷ []) $ fjoin ! $
       frame ! $
       owned ! P.the-row (Is P.the-row) (LL.makes P.the-type P′.the-plain 𝓤 H A) r (applied-vals r) g $ done !
 
@@ -130,10 +136,12 @@ module _ {M : Type 1} (𝓤 : URA M) (H : Heap 𝓤) (A : Atoms 𝓤) (W : Given
         alloc1 ! (λ l16. alloc1 ! (λ l17. alloc1 ! (λ l18. alloc1 ! (λ l19. alloc1 ! (λ l20. alloc1 ! (λ l21. alloc1 ! (λ l22. alloc1 ! (λ l23.
         alloc1 ! (λ l24. alloc1 ! (λ l25. alloc1 ! (λ l26. alloc1 ! (λ l27. alloc1 ! (λ l28. alloc1 ! (λ l29. alloc0 ! $ params1 ! $
         pass1 ! (init ! 56 refl (tt, (tt, (record { fits = room .0 }, tt)))) $ pass1 ! (init ! 54 refl (typed-hub 𝓤 H A W hub gh)) $
-        pass1 ! (init ! 52 refl (tt, (tt, (record { fits = room₁ .0 }, tt)))) $ pass1 ! (init ! 50 refl (tt, tt)) $ pass1 ! (init ! 48 refl (tt, tt)) $
+        pass1 ! (init ! 52 refl (tt, (tt, (record { fits = room₁ .0 }, tt)))) $ pass1 ! (init ! 50 refl (tt, tt)) $
+        pass1 ! (init ! 48 refl (tt, tt)) $
         pass1 ! (init ! 46 refl (tt, tt)) $ pass1 ! (init ! 44 refl (tt, tt)) $ pass1 ! (init ! 42 refl (tt, tt)) $ pass0 ! $
         move ! (61 ∷ []) $ fsplit ! $ move ! (1 ∷ []) $ fsplit ! $ drop ! $ move ! (62 ∷ []) $ split ! $ move ! (3 ∷ 0 ∷ 1 ∷ 2 ∷ []) $
-        move ! (2 ∷ 3 ∷ []) $ use2 W (later (given (Known x) (raw (toks 𝓤 A 6 ks qs) ⊛ ‵ (single-own ks x)))) (single-known 𝓤 H A W ks qs x .learned) $
+        move ! (2 ∷ 3 ∷ []) $ use2 W (later (given (Known x) (raw (toks 𝓤 A 6 ks qs) ⊛ ‵ (single-own ks x))))
+        (single-known 𝓤 H A W ks qs x .learned) $
         await ! tt $ learn ! (λ known. split ! $ move ! (2 ∷ 3 ∷ []) $
         -- [the slots; their token; the other tokens; what else is lent; _29; …; _0]: local i stands at 62 - 2 i
         call-zeros ! mem run fm known-zeros ws is-zeros (λ j. no-more !) (λ gw. land ! (from ! (stop !)) (init ! 38 refl (typed-row 𝓤 H A W ws gw)) $
@@ -141,8 +149,10 @@ module _ {M : Type 1} (𝓤 : URA M) (H : Heap 𝓤) (A : Atoms 𝓤) (W : Given
         assigns ! (of-opd ! (load ! (from ! (fld ! refl (stop !))) (look-in ! 60 (sub ! 1 refl (whole !))))) (from ! (stop !))
         (init ! 36 refl (tt, record { fits = room .0 })) $
         call-at-most ! mem run fm known-most n 2048 k is-k (room .0) (lit< tt) (λ j. and-then ! (load ! (from ! (stop !)) (look ! 37 refl))
-        (and-then ! (big-lit ! (record { fits = lit< tt })) (no-more !))) (λ gk. land ! (from ! (stop !)) (init ! 42 refl (tt, record { fits = gk })) $
-        assigns ! (addr ! (from ! (fld ! refl (hop ! (look-in ! 60 (sub ! 0 refl (whole !))) (stop !))))) (from ! (stop !)) (init ! 32 refl (tt, tt)) $
+        (and-then ! (big-lit ! (record { fits = lit< tt })) (no-more !)))
+        (λ gk. land ! (from ! (stop !)) (init ! 42 refl (tt, record { fits = gk })) $
+        assigns ! (addr ! (from ! (fld ! refl (hop ! (look-in ! 60 (sub ! 0 refl (whole !))) (stop !))))) (from ! (stop !))
+        (init ! 32 refl (tt, tt)) $
         assigns ! (agg ! (and-then ! (load ! (from ! (stop !)) (look ! 32 refl))
         (and-then ! (load ! (from ! (fld ! refl (stop !))) (look-in ! 60 (sub ! 1 refl (whole !)))) (no-more !)))) (from ! (stop !))
         (init ! 30 refl (tt, (tt, (record { fits = room .0 }, tt)))) $
@@ -209,7 +219,8 @@ module _ {M : Type 1} (𝓤 : URA M) (H : Heap 𝓤) (A : Atoms 𝓤) (W : Given
     (known-store : Triple 𝓤 (𝓣 .C #hub·store-row) (StoreRow 𝓤 H A mem run)) where
   apply-walks : Walks 𝓤 H A f.ended stayed (WpFn 𝓤 H (𝓣 .C) (𝓣 .Λ) code.function) (f.clauses 𝓤 H A mem run)
   apply-walks =
-      walked 𝓤 H A f.ended stayed (f.clauses 𝓤 H A mem run) (WpFn 𝓤 H (𝓣 .C) (𝓣 .Λ) code.function) (λ κs. (slice-vals, (hub-vals, single-spells (κs .1))))
+      walked 𝓤 H A f.ended stayed (f.clauses 𝓤 H A mem run) (WpFn 𝓤 H (𝓣 .C) (𝓣 .Λ) code.function)
+      (λ κs. (slice-vals, (hub-vals, single-spells (κs .1))))
       (λ κs. (mut-slice-tells (named 0) (κs .0) T.the-row, (LL.tells B.the-type B′.the-laws, single-tells (κs .1))))
       (λ κs qs bounds a g are. via 𝓤 _ (fst∗ 𝓤 _ (emp 𝓤))
       (walk 𝓤 H A W mem run (κs .0) (κs .1) (qs .0) (qs .1) (a .0 .ptr .0) (a .0 .ptr .1) (a .0 .name) (a .0 .now) (a .1 .0) (a .1 .1) (are .0 .0 .1)
@@ -235,4 +246,5 @@ apply-spec 𝓤 H 𝓜 𝓖 𝓡 =
     (cited 𝓤 H (AtMost 𝓤 H (𝓖 .A) (𝓜 .mem) (𝓡 .run)) 𝓜 𝓡 code.env #hub·at-most at-most-def.routine code.calls-hub·at-most (at-most-thm.met 𝓤 H 𝓜 𝓖 𝓡))
     (cited 𝓤 H (LoadRow 𝓤 H (𝓖 .A) (𝓜 .mem) (𝓡 .run)) 𝓜 𝓡 code.env #hub·load-row load-def.routine code.calls-hub·load-row (load-thm.met 𝓤 H 𝓜 𝓖 𝓡))
     (cited 𝓤 H (RunOne 𝓤 H (𝓖 .A) (𝓜 .mem) (𝓡 .run)) 𝓜 𝓡 code.env #hub·run-one run-def.routine code.calls-hub·run-one (run-thm.met 𝓤 H 𝓜 𝓖 𝓡))
-    (cited 𝓤 H (StoreRow 𝓤 H (𝓖 .A) (𝓜 .mem) (𝓡 .run)) 𝓜 𝓡 code.env #hub·store-row store-def.routine code.calls-hub·store-row (store-thm.met 𝓤 H 𝓜 𝓖 𝓡)))
+    (cited 𝓤 H (StoreRow 𝓤 H (𝓖 .A) (𝓜 .mem) (𝓡 .run)) 𝓜 𝓡 code.env #hub·store-row store-def.routine code.calls-hub·store-row
+    (store-thm.met 𝓤 H 𝓜 𝓖 𝓡)))

@@ -21,7 +21,8 @@ use contract.Monad.{Fun}
 use contract.Running.{givenOf, tables, tablesOf}
 use types.Kit.{Given, ‵, raw, ⋆, _$_, _∵_, !, qed, by, move, drop, rewrite, fsplit, fjoin, suffices, frame, done}
 use types.Part.{agg, whole, sub, look-in}
-use types.Run.{look, init, forget, stop, hop, fld, from, load, addr, and-then, no-more, of-opd, assigns, land, returns, enter, alloc1, alloc0, params1, pass1}
+use types.Run.{look, init, forget, stop, hop, fld, from, load, addr, and-then, no-more, of-opd, assigns, land, returns, enter, alloc1}
+use types.Run.{alloc0, params1, pass1}
 use types.Run.{pass0, free1, free0}
 use sound.WpLaws.{fmOf, WpFn-mono}
 use denote.RattleType.{owns}
@@ -55,7 +56,8 @@ use Rattle.hub.proofs.Owned.Laws as O′
 use Rattle.hub.proofs.Lends.{big-lit}
 use Rattle.hub.proofs.Local.{lends-local, takes-back}
 use Rattle.hub.proofs.Values.{hub-vals, left-vals, owned-vals, typed-hub, typed-left, typed-owned}
-use Rattle.hub.proofs.Passed.{Buffer, BufferLeft, buffer-types, buffer-vals, buffer-spells, buffer-tells, buffer-list, buffer-end, AllDone, SameLong}
+use Rattle.hub.proofs.Passed.{Buffer, BufferLeft, buffer-types, buffer-vals, buffer-spells, buffer-tells, buffer-list, buffer-end}
+use Rattle.hub.proofs.Passed.{AllDone, SameLong}
 use Rattle.hub.proofs.SlotArray.{arr, slots-roomy, typed-slots, field-val, field-is}
 use Rattle.hub.proofs.Handed.{buffer-gave, buffer-go}
 use Rattle.hub.proofs.Buffers.{ApplyAll, Through, call-apply-all}
@@ -73,7 +75,8 @@ stayed = (
   (stay-dropped (plain (λ _. B.the-row)) yes, buffer-gave 8 (0, tt) (1, tt) (2, tt) (3, tt) (4, tt) (5, tt) (6, tt) (7, tt)),
 )
 
-module _ {M : Type 1} (𝓤 : URA M) (H : Heap 𝓤) (A : Atoms 𝓤) (W : Given 𝓤 H A) (mem : Memory → SProp 𝓤) (run : Routine → Fun 𝓤) (ks : Lfts 8) (qs : Shares 8)
+module _ {M : Type 1} (𝓤 : URA M) (H : Heap 𝓤) (A : Atoms 𝓤) (W : Given 𝓤 H A) (mem : Memory → SProp 𝓤) (run : Routine → Fun 𝓤)
+    (ks : Lfts 8) (qs : Shares 8)
     (ys : List Slot) (hub : Hub) (x : Buffer)
     (gy : Is (Array T.the-row 2048) ys (array-vals vals ys)) (gh : Is B.the-row hub (hub-vals hub)) (room₁ : Room u8 (length (x .0 .now)))
     (room₂ : Room u8 (length (x .1 .0 .now))) (room₃ : Room u64 (length (x .1 .1 .0 .now))) where
@@ -111,7 +114,8 @@ module _ {M : Type 1} (𝓤 : URA M) (H : Heap 𝓤) (A : Atoms 𝓤) (W : Given
       owned ! O.the-row (Is O.the-row) (LL.makes O.the-type O′.the-plain 𝓤 H A) (back r zs) (owned-vals (back r zs)) g $ done !
 
   module _ (𝓣 : Tables 𝓤 H) (known : Triple 𝓤 (𝓣 .C #hub·apply-all) (ApplyAll 𝓤 H A mem run)) where
-    walk : ent 𝓤 (onEntry 𝓤 H A f.signature ks qs (ys, (hub, x)) at) (WpFn 𝓤 H (𝓣 .C) (𝓣 .Λ) code.function (arr ys ∷ only (hub-vals hub) ∷ buffer-list x) Fin)
+    walk : ent 𝓤 (onEntry 𝓤 H A f.signature ks qs (ys, (hub, x)) at)
+        (WpFn 𝓤 H (𝓣 .C) (𝓣 .Λ) code.function (arr ys ∷ only (hub-vals hub) ∷ buffer-list x) Fin)
     walk =
         qed W (raw (toks 𝓤 A 8 ks qs) ∷ ‵ (owns (Array T.the-row 2048 ∷ B.the-row ∷ buffer-types ks) (ys, (hub, x)) at) ∷ []) ∵
         enter ! (𝓣 .C) (𝓣 .Λ) code.function (arr ys ∷ only (hub-vals hub) ∷ buffer-list x) _ $
@@ -120,8 +124,10 @@ module _ {M : Type 1} (𝓤 : URA M) (H : Heap 𝓤) (A : Atoms 𝓤) (W : Given
         alloc1 ! (λ l16. alloc1 ! (λ l17. alloc1 ! (λ l18. alloc1 ! (λ l19. alloc1 ! (λ l20. alloc1 ! (λ l21. alloc1 ! (λ l22. alloc1 ! (λ l23.
         alloc1 ! (λ l24. alloc1 ! (λ l25. alloc0 ! $ params1 ! $
         pass1 ! (init ! 48 refl (typed-slots 𝓤 H A W ys gy)) $ pass1 ! (init ! 46 refl (typed-hub 𝓤 H A W hub gh)) $
-        pass1 ! (init ! 44 refl (tt, (tt, (record { fits = room₁ .0 }, tt)))) $ pass1 ! (init ! 42 refl (tt, (tt, (record { fits = room₂ .0 }, tt)))) $
-        pass1 ! (init ! 40 refl (tt, (tt, (record { fits = room₃ .0 }, tt)))) $ pass1 ! (init ! 38 refl (tt, tt)) $ pass1 ! (init ! 36 refl (tt, tt)) $
+        pass1 ! (init ! 44 refl (tt, (tt, (record { fits = room₁ .0 }, tt)))) $
+        pass1 ! (init ! 42 refl (tt, (tt, (record { fits = room₂ .0 }, tt)))) $
+        pass1 ! (init ! 40 refl (tt, (tt, (record { fits = room₃ .0 }, tt)))) $ pass1 ! (init ! 38 refl (tt, tt)) $
+        pass1 ! (init ! 36 refl (tt, tt)) $
         pass1 ! (init ! 34 refl (tt, tt)) $ pass1 ! (init ! 32 refl (tt, tt)) $ pass1 ! (init ! 30 refl (tt, tt)) $ pass0 ! $
         move ! (53 ∷ []) $ fsplit ! $ drop ! $ fsplit ! $ drop ! $ move ! (53 ∷ 0 ∷ []) $
         -- [the tokens; what is lent; _25; …; _0]: local i stands at 52 - 2 i
@@ -129,11 +135,13 @@ module _ {M : Type 1} (𝓤 : URA M) (H : Heap 𝓤) (A : Atoms 𝓤) (W : Given
         assigns ! (addr ! (from ! (stop !))) (from ! (stop !)) (init ! 24 refl (tt, tt)) $
         assigns ! (agg ! (and-then ! (load ! (from ! (stop !)) (look ! 24 refl)) (and-then ! (big-lit ! (record { fits = lit< tt })) (no-more !))))
         (from ! (stop !)) (init ! 22 refl (tt, (tt, (record { fits = lit< tt }, tt)))) $
-        assigns ! (addr ! (from ! (fld ! refl (hop ! (look-in ! 44 (sub ! 0 refl (whole !))) (stop !))))) (from ! (stop !)) (init ! 20 refl (tt, tt)) $
+        assigns ! (addr ! (from ! (fld ! refl (hop ! (look-in ! 44 (sub ! 0 refl (whole !))) (stop !))))) (from ! (stop !))
+        (init ! 20 refl (tt, tt)) $
         assigns ! (agg ! (and-then ! (load ! (from ! (stop !)) (look ! 20 refl))
         (and-then ! (load ! (from ! (fld ! refl (stop !))) (look-in ! 44 (sub ! 1 refl (whole !)))) (no-more !)))) (from ! (stop !))
         (init ! 18 refl (tt, (tt, (record { fits = room₂ .0 }, tt)))) $
-        assigns ! (addr ! (from ! (fld ! refl (hop ! (look-in ! 42 (sub ! 0 refl (whole !))) (stop !))))) (from ! (stop !)) (init ! 16 refl (tt, tt)) $
+        assigns ! (addr ! (from ! (fld ! refl (hop ! (look-in ! 42 (sub ! 0 refl (whole !))) (stop !))))) (from ! (stop !))
+        (init ! 16 refl (tt, tt)) $
         assigns ! (agg ! (and-then ! (load ! (from ! (stop !)) (look ! 16 refl))
         (and-then ! (load ! (from ! (fld ! refl (stop !))) (look-in ! 42 (sub ! 1 refl (whole !)))) (no-more !)))) (from ! (stop !))
         (init ! 14 refl (tt, (tt, (record { fits = room₃ .0 }, tt)))) $
@@ -159,7 +167,8 @@ module _ {M : Type 1} (𝓤 : URA M) (H : Heap 𝓤) (A : Atoms 𝓤) (W : Given
         assigns ! (of-opd ! (load ! (from ! (stop !)) (look ! 0 refl))) (from ! (stop !)) (init ! 3 refl (typed-slots 𝓤 H A W zs gz)) $
         rewrite ! 3 (λ (v : Val). ‵ (fat fullShare (tyArray T′.mir 2048) l25 0 v)) (field-val zs) refl $
         assigns ! (agg ! (and-then ! (load ! (from ! (stop !)) (look ! 27 refl))
-        (and-then ! (load ! (from ! (stop !)) (look ! 3 refl)) (and-then ! (load ! (from ! (fld ! refl (stop !))) (look-in ! 29 (sub ! 1 refl (whole !))))
+        (and-then ! (load ! (from ! (stop !)) (look ! 3 refl))
+        (and-then ! (load ! (from ! (fld ! refl (stop !))) (look-in ! 29 (sub ! 1 refl (whole !))))
         (no-more !))))) (from ! (stop !)) (init ! 52 refl (typed-owned 𝓤 H A W (back r zs) (is-back r zs gr gz))) $
         returns ! (look ! 52 refl) $ forget ! 52 refl $ forget ! 50 refl $ forget ! 48 refl $ forget ! 46 refl $ forget ! 44 refl $ forget ! 42 refl $
         forget ! 40 refl $ forget ! 38 refl $ forget ! 36 refl $ forget ! 34 refl $ forget ! 32 refl $ forget ! 0 refl $ forget ! 29 refl $
@@ -178,10 +187,12 @@ module _ {M : Type 1} (𝓤 : URA M) (H : Heap 𝓤) (A : Atoms 𝓤) (W : Given
     (known : Triple 𝓤 (𝓣 .C #hub·apply-all) (ApplyAll 𝓤 H A mem run)) where
   apply-owned-walks : Walks 𝓤 H A f.ended stayed (WpFn 𝓤 H (𝓣 .C) (𝓣 .Λ) code.function) (f.clauses 𝓤 H A mem run)
   apply-owned-walks =
-      walked 𝓤 H A f.ended stayed (f.clauses 𝓤 H A mem run) (WpFn 𝓤 H (𝓣 .C) (𝓣 .Λ) code.function) (λ κs. (array-vals vals, (hub-vals, buffer-spells κs)))
+      walked 𝓤 H A f.ended stayed (f.clauses 𝓤 H A mem run) (WpFn 𝓤 H (𝓣 .C) (𝓣 .Λ) code.function)
+      (λ κs. (array-vals vals, (hub-vals, buffer-spells κs)))
       (λ κs. (array-tells T.the-row vals tells 2048, (LL.tells B.the-type B′.the-laws, buffer-tells κs)))
       (λ κs qs bounds a g are. via 𝓤 _ (fst∗ 𝓤 _ (emp 𝓤))
-      (walk 𝓤 H A W mem run κs qs (a .0) (a .1 .0) (a .1 .1) (are .0) (are .1 .0) (are .1 .1 .0 .0 .1) (are .1 .1 .1 .0 .0 .1) (are .1 .1 .1 .1 .0 .0 .1) 𝓣
+      (walk 𝓤 H A W mem run κs qs (a .0) (a .1 .0) (a .1 .1) (are .0) (are .1 .0) (are .1 .1 .0 .0 .1) (are .1 .1 .1 .0 .0 .1)
+      (are .1 .1 .1 .1 .0 .0 .1) 𝓣
       known))
 
   apply-owned-meets : Meets 𝓤 H A f.signature (WpFn 𝓤 H (𝓣 .C) (𝓣 .Λ) code.function) (f.spec 𝓤 H A mem run)

@@ -23,7 +23,8 @@ use contract.Monad.{Fun}
 use contract.Running.{givenOf, tables, tablesOf}
 use types.Kit.{Given, ‵, raw, ⋆, _$_, _∵_, !, qed, by, move, drop, rewrite, fsplit, fjoin, suffices, frame, done}
 use types.Part.{agg, whole, sub, look-in}
-use types.Run.{look, init, forget, stop, hop, fld, from, load, lit, addr, and-then, no-more, of-opd, bin, assigns, land, returns, enter, alloc1, alloc0}
+use types.Run.{look, init, forget, stop, hop, fld, from, load, lit, addr, and-then, no-more, of-opd, bin, assigns, land, returns, enter}
+use types.Run.{alloc1, alloc0}
 use types.Run.{params1, pass1, pass0, free1, free0}
 use sound.WpLaws.{FmC, fmOf, WpFn-mono}
 use denote.RattleType.{owns}
@@ -81,9 +82,11 @@ stayed = (
   (stay-dropped (plain (λ _. usize)) yes, (stay-dropped (plain (λ _. B.the-row)) yes, single-gave 6 (0, tt) (1, tt) (2, tt) (3, tt) (4, tt) (5, tt))),
 )
 
-module _ {M : Type 1} (𝓤 : URA M) (H : Heap 𝓤) (A : Atoms 𝓤) (W : Given 𝓤 H A) (mem : Memory → SProp 𝓤) (run : Routine → Fun 𝓤) (ks : Lfts 6) (qs : Shares 6)
+module _ {M : Type 1} (𝓤 : URA M) (H : Heap 𝓤) (A : Atoms 𝓤) (W : Given 𝓤 H A) (mem : Memory → SProp 𝓤) (run : Routine → Fun 𝓤)
+    (ks : Lfts 6) (qs : Shares 6)
     (ys : List Slot) (m : ℕ) (hub : Hub) (x : Single)
-    (gy : Is (Array T.the-row 2048) ys (array-vals vals ys)) (gm : m < 2 ^ 64) (gh : Is B.the-row hub (hub-vals hub)) (room₁ : Room u8 (length (x .0 .now)))
+    (gy : Is (Array T.the-row 2048) ys (array-vals vals ys)) (gm : m < 2 ^ 64) (gh : Is B.the-row hub (hub-vals hub))
+    (room₁ : Room u8 (length (x .0 .now)))
     (k : ℕ) (is-k : min m 2048 ≡ k) where
   abbrev at : Vals f.signature ks
   at = (array-vals vals ys, (vint w64 m ∷ [], (hub-vals hub, single-vals x)))
@@ -130,7 +133,8 @@ module _ {M : Type 1} (𝓤 : URA M) (H : Heap 𝓤) (A : Atoms 𝓤) (W : Given
       → ent 𝓤 (⋆ 𝓤 H A (raw (toks 𝓤 A 6 ks qs) ∷ ‵ (single-end x z) ∷ [])) (Fin (only (answered-vals (back r us))))
   exits r us z e g =
       qed W (raw (toks 𝓤 A 6 ks qs) ∷ ‵ (single-end x z) ∷ []) ∵
-      suffices ! _ (ends-at 𝓤 H A f.ended stayed (f.clauses 𝓤 H A mem run) W ((ks, qs, tt, (ys, (m, (hub, x))), at), tt) (only (answered-vals (back r us)))
+      suffices ! _ (ends-at 𝓤 H A f.ended stayed (f.clauses 𝓤 H A mem run) W ((ks, qs, tt, (ys, (m, (hub, x))), at), tt)
+      (only (answered-vals (back r us)))
       (back r us) (tt, (tt, (tt, z))) (tt, (tt, (tt, (tt, (tt, (tt, (tt, (tt, (tt, tt)))))))))) $
       says ! e $ frame ! $ nothing ! $ fjoin ! $ nothing ! $ fjoin ! $ nothing ! $ fjoin ! $ nothing ! $ fjoin ! $ frame ! $
       owned ! N.the-row (Is N.the-row) (LL.makes N.the-type N′.the-plain 𝓤 H A) (back r us) (answered-vals (back r us)) g $ done !
@@ -151,20 +155,23 @@ module _ {M : Type 1} (𝓤 : URA M) (H : Heap 𝓤) (A : Atoms 𝓤) (W : Given
         alloc1 ! (λ l24. alloc0 ! $ params1 ! $
         pass1 ! (init ! 46 refl (typed-slots 𝓤 H A W ys gy)) $ pass1 ! (init ! 44 refl (tt, record { fits = gm })) $
         pass1 ! (init ! 42 refl (typed-hub 𝓤 H A W hub gh)) $ pass1 ! (init ! 40 refl (tt, (tt, (record { fits = room₁ .0 }, tt)))) $
-        pass1 ! (init ! 38 refl (tt, tt)) $ pass1 ! (init ! 36 refl (tt, tt)) $ pass1 ! (init ! 34 refl (tt, tt)) $ pass1 ! (init ! 32 refl (tt, tt)) $
+        pass1 ! (init ! 38 refl (tt, tt)) $ pass1 ! (init ! 36 refl (tt, tt)) $ pass1 ! (init ! 34 refl (tt, tt)) $
+        pass1 ! (init ! 32 refl (tt, tt)) $
         pass1 ! (init ! 30 refl (tt, tt)) $ pass0 ! $
         move ! (51 ∷ []) $ fsplit ! $ drop ! $ fsplit ! $ drop ! $ fsplit ! $ drop ! $ move ! (51 ∷ 0 ∷ []) $
         -- [the tokens; what is lent; _24; …; _0]: local i stands at 50 - 2 i
         assigns ! (of-opd ! (load ! (from ! (stop !)) (look ! 48 refl))) (from ! (stop !)) (init ! 30 refl (typed-slots 𝓤 H A W ys gy)) $
         call-at-most ! mem run fm known-most m 2048 k is-k gm (lit< tt) (λ j. and-then ! (load ! (from ! (stop !)) (look ! 47 refl))
-        (and-then ! (big-lit ! (record { fits = lit< tt })) (no-more !))) (λ gk. land ! (from ! (stop !)) (init ! 28 refl (tt, record { fits = gk })) $
+        (and-then ! (big-lit ! (record { fits = lit< tt })) (no-more !)))
+        (λ gk. land ! (from ! (stop !)) (init ! 28 refl (tt, record { fits = gk })) $
         assigns ! (addr ! (from ! (stop !))) (from ! (stop !)) (init ! 22 refl (tt, tt)) $
         assigns ! (bin ! (load ! (from ! (stop !)) (look ! 22 refl)) (lit ! tt) tt) (from ! (stop !)) (init ! 20 refl (tt, tt)) $
         assigns ! (bin ! (load ! (from ! (stop !)) (look ! 28 refl)) (lit ! tt) zero-le) (from ! (stop !))
         (init ! 18 refl (tt, record { fits = subst (λ (j : ℕ). j < 2 ^ 64) (sym (sub-zero k)) gk })) $
         rewrite ! 18 (λ (j : ℕ). ‵ (fat fullShare (tyInt w64) l16 0 (vint w64 j))) (sub-zero k) refl $
         assigns ! (addr ! (from ! (hop ! (look ! 20 refl) (stop !)))) (from ! (stop !)) (init ! 16 refl (tt, tt)) $
-        assigns ! (agg ! (and-then ! (load ! (from ! (stop !)) (look ! 16 refl)) (and-then ! (load ! (from ! (stop !)) (look ! 18 refl)) (no-more !))))
+        assigns ! (agg ! (and-then ! (load ! (from ! (stop !)) (look ! 16 refl))
+        (and-then ! (load ! (from ! (stop !)) (look ! 18 refl)) (no-more !))))
         (from ! (stop !)) (init ! 14 refl (tt, (tt, (record { fits = gk }, tt)))) $
         assigns ! (addr ! (from ! (hop ! (look ! 40 refl) (stop !)))) (from ! (stop !)) (init ! 12 refl (tt, tt)) $
         assigns ! (addr ! (from ! (hop ! (look ! 38 refl) (stop !)))) (from ! (stop !)) (init ! 10 refl (tt, tt)) $
@@ -189,7 +196,8 @@ module _ {M : Type 1} (𝓤 : URA M) (H : Heap 𝓤) (A : Atoms 𝓤) (W : Given
         assigns ! (of-opd ! (load ! (from ! (stop !)) (look ! 0 refl))) (from ! (stop !)) (init ! 3 refl (typed-slots 𝓤 H A W (joined zs) gz)) $
         rewrite ! 3 (λ (v : Val). ‵ (fat fullShare (tyArray T′.mir 2048) l24 0 v)) (field-val (joined zs)) refl $
         assigns ! (agg ! (and-then ! (load ! (from ! (stop !)) (look ! 25 refl))
-        (and-then ! (load ! (from ! (stop !)) (look ! 3 refl)) (and-then ! (load ! (from ! (fld ! refl (stop !))) (look-in ! 27 (sub ! 1 refl (whole !))))
+        (and-then ! (load ! (from ! (stop !)) (look ! 3 refl))
+        (and-then ! (load ! (from ! (fld ! refl (stop !))) (look-in ! 27 (sub ! 1 refl (whole !))))
         (no-more !))))) (from ! (stop !)) (init ! 50 refl (typed-answered 𝓤 H A W (back r (joined zs)) (is-back r (joined zs) gr gz))) $
         returns ! (look ! 50 refl) $ forget ! 50 refl $ forget ! 48 refl $ forget ! 46 refl $ forget ! 44 refl $ forget ! 42 refl $ forget ! 40 refl $
         forget ! 38 refl $ forget ! 36 refl $ forget ! 34 refl $ forget ! 32 refl $ forget ! 0 refl $ forget ! 29 refl $ forget ! 27 refl $

@@ -55,7 +55,8 @@ stayed = (
   (stay-slice (1 ∷ []) tt (plain (λ _. T.the-row)), (stay-dropped (plain (λ _. usize)) yes, tt)),
 )
 
-module _ {M : Type 1} (𝓤 : URA M) (H : Heap 𝓤) (A : Atoms 𝓤) (W : Given 𝓤 H A) (mem : Memory → SProp 𝓤) (run : Routine → Fun 𝓤) (κ κ₁ : Lft) (q q₁ : Share)
+module _ {M : Type 1} (𝓤 : URA M) (H : Heap 𝓤) (A : Atoms 𝓤) (W : Given 𝓤 H A) (mem : Memory → SProp 𝓤) (run : Routine → Fun 𝓤)
+    (κ κ₁ : Lft) (q q₁ : Share)
     (b o : ℕ) (γ : GName) (ys : List (List ℕ)) (b₁ o₁ : ℕ) (γ₁ : GName) (ws : List Slot) (n : ℕ)
     (room : Room Words (length ys)) (room₁ : Room T.the-row (length ws)) (gn : n < 2 ^ 64) where
   abbrev at : Vals f.signature (κ, (κ₁, tt))
@@ -68,11 +69,13 @@ module _ {M : Type 1} (𝓤 : URA M) (H : Heap 𝓤) (A : Atoms 𝓤) (W : Given
   )
 
   exits : (us : List Slot) → us ≡ copiedTo (rowOf ys) ws n → length us ≡ length ws
-      → ent 𝓤 (⋆ 𝓤 H A (‵ (RowShared κ (length ys) b o γ ys) ∷ ‵ (flft κ q) ∷ ‵ (Slots κ₁ (length ws) b₁ o₁ γ₁ us) ∷ ‵ (flft κ₁ q₁) ∷ [])) (Post vunit)
+      → ent 𝓤 (⋆ 𝓤 H A (‵ (RowShared κ (length ys) b o γ ys) ∷ ‵ (flft κ q) ∷ ‵ (Slots κ₁ (length ws) b₁ o₁ γ₁ us) ∷ ‵ (flft κ₁
+      q₁) ∷ [])) (Post vunit)
   exits us e l =
       qed W (‵ (RowShared κ (length ys) b o γ ys) ∷ ‵ (flft κ q) ∷ ‵ (Slots κ₁ (length ws) b₁ o₁ γ₁ us) ∷ ‵ (flft κ₁ q₁) ∷ []) ∵
       suffices ! _ (ends-at 𝓤 H A f.ended stayed (f.clauses 𝓤 H A mem run) W
-      (((κ, (κ₁, tt)), (q, (q₁, tt)), tt, (slice b o γ ys, (slice b₁ o₁ γ₁ ws, (n, tt))), at), tt) vunit tt (tt, (us, (tt, tt))) (tt, (l, (tt, tt)))) $
+      (((κ, (κ₁, tt)), (q, (q₁, tt)), tt, (slice b o γ ys, (slice b₁ o₁ γ₁ ws, (n, tt))), at), tt) vunit tt (tt, (us, (tt, tt)))
+      (tt, (l, (tt, tt)))) $
       says ! e $
       drop ! $ nothing ! $ move ! (3 ∷ 0 ∷ []) $ join ! $ move ! (1 ∷ 0 ∷ []) $ join ! $ frame ! $ nothing ! $ nothing ! $ fjoin ! $
       move ! (1 ∷ 0 ∷ []) $ fjoin ! $ nothing ! $ fjoin ! $ frame ! $
@@ -118,5 +121,6 @@ store-row-spec 𝓤 H 𝓜 𝓖 𝓡 =
     entered 𝓤 H (tripleOf 𝓤 H (𝓖 .A) f.signature (f.spec 𝓤 H (𝓖 .A) (𝓜 .mem) (𝓡 .run)))
     (tables 𝓤 H 𝓜 𝓡 code.env .C) (tables 𝓤 H 𝓜 𝓡 code.env .Λ) #hub·store-row code.function (code.unfolded 𝓤 H 𝓜 𝓡)
     (store-row-meets 𝓤 H (𝓖 .A) (givenOf 𝓤 H 𝓜 𝓖) (𝓜 .mem) (𝓡 .run) (tablesOf 𝓤 H 𝓜 (tables 𝓤 H 𝓜 𝓡 code.env))
-    (cited 𝓤 H (LoadWords 𝓤 H (𝓖 .A) (𝓜 .mem) (𝓡 .run)) 𝓜 𝓡 code.env #versions·load load-def.routine code.calls-versions·load (load-thm.met 𝓤 H 𝓜 𝓖 𝓡))
+    (cited 𝓤 H (LoadWords 𝓤 H (𝓖 .A) (𝓜 .mem) (𝓡 .run)) 𝓜 𝓡 code.env #versions·load load-def.routine code.calls-versions·load
+    (load-thm.met 𝓤 H 𝓜 𝓖 𝓡))
     (cited 𝓤 H (Store 𝓤 H (𝓖 .A) (𝓜 .mem) (𝓡 .run)) 𝓜 𝓡 code.env #slots·store store-def.routine code.calls-slots·store (store-thm.met 𝓤 H 𝓜 𝓖 𝓡)))

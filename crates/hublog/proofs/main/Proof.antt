@@ -5,11 +5,13 @@ use Rattle.hublog.proofs.main.Statement.{statement}
 use Rattle.hublog.proofs.main.Tie as tie
 
 abbrev Inv-loop : tie.InvT-loop
-Inv-loop block₀ text₀ kinds₀ numbers₀ newest₀ free₀ queue₀ lens₀ merged₀ slots₀ hub₀ first₀ turns₀ t24 t25 block text kinds numbers newest free queue lens merged slots hub first turns =
+Inv-loop block₀ text₀ kinds₀ numbers₀ newest₀ free₀ queue₀ lens₀ merged₀ slots₀ hub₀ first₀ turns₀ t24 t25 block text kinds numbers
+    newest free queue lens merged slots hub first turns =
     Unit {0}
 
 abbrev μ-loop : tie.MeasureT-loop
-μ-loop block₀ text₀ kinds₀ numbers₀ newest₀ free₀ queue₀ lens₀ merged₀ slots₀ hub₀ first₀ turns₀ t24 t25 block text kinds numbers newest free queue lens merged slots hub first turns =
+μ-loop block₀ text₀ kinds₀ numbers₀ newest₀ free₀ queue₀ lens₀ merged₀ slots₀ hub₀ first₀ turns₀ t24 t25 block text kinds numbers newest
+    free queue lens merged slots hub first turns =
     turns
 
 slice-aggregate-block : tie.Need-slice-aggregate-block Inv-loop μ-loop

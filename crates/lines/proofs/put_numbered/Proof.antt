@@ -15,7 +15,9 @@ same-length : tie.Need-same-length
 same-length c = search needs
 
 returns : tie.Need-returns
-returns c = append-then (omega (arith, c .before .before .before .before .before .before .before .before .before .before .pre)) (c .before .before .before .before .before .before .put-text .ensures) (c .before .before .put-decimal .ensures)
+returns c =
+    append-then (omega (arith, c .before .before .before .before .before .before .before .before .before .before .pre))
+    (c .before .before .before .before .before .before .put-text .ensures) (c .before .before .put-decimal .ensures)
 
 pub put-numbered-spec : {M : Type 1} → statement M
 put-numbered-spec = tie.close (tie.spec put-text-requires put-decimal-requires same-length returns)

@@ -43,12 +43,16 @@ same-length c = search needs
 returns-3 : tie.Need-returns-3
 unfolding text line
 returns-3 c n s =
-    let e = c .before .before .before .before .before .before .before .before .before .before .before .before .before .before .before .before .before .before in
+    let e = c .before .before .before .before .before .before .before .before .before .before .before .before .before .before .before
+    .before .before .before in
     let h : e .before .before .before .args .at ≤ length (e .before .before .before .args .out .now) = omega arith in
     line-appended (omega (arith, e))
     (append-then h
     (append-then h
-    (append-then h (append-spelled s (c .before .before .before .before .before .before .before .before .before .before .before .before .before .before .before .before .put-digits .ensures .0)) (c .before .before .before .before .before .before .before .before .before .before .before .put-text .ensures))
+    (append-then h (append-spelled s
+    (c .before .before .before .before .before .before .before .before .before .before .before .before .before .before .before .before
+    .put-digits .ensures .0)) (c .before .before .before .before .before .before .before .before .before .before .before .put-text
+    .ensures))
     (c .before .before .before .before .before .before .before .put-words .ensures))
     (c .before .before .put-text2 .ensures))
 

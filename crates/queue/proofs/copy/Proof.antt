@@ -41,8 +41,12 @@ loop-less c = omega arith
 loop-again : tie.Need-loop-again Inv-loop μ-loop
 loop-again c =
     let l = c .before .before in
-    let a = l .before .args in
-    (omega arith, simp length-set (l .loop .inv .1), rw (l .loop .inv .2) (overAt-push (a .dst .now) (a .to) (a .src .now) (l .loop .i) 0 (omega arith) (omega arith)))
+    let a = l .before .args in (
+      omega arith,
+      simp length-set (l .loop .inv .1),
+      rw (l .loop .inv .2)
+          (overAt-push (a .dst .now) (a .to) (a .src .now) (l .loop .i) 0 (omega arith) (omega arith)),
+    )
 
 same-length : tie.Need-same-length Inv-loop μ-loop
 same-length c = c .before .loop .inv .1

@@ -17,10 +17,17 @@ cast-result : tie.Need-cast-result
 cast-result c = omega (arith, c .shared-slice-known .given (c .before .before .args .i))
 
 returns : tie.Need-returns
-returns c = let a = c .before .before .args in (sym (getD-take (a .pools) (a .lens .now) (a .i) 0 (omega arith)), omega (arith, c .shared-slice-known .given (a .i)))
+returns c =
+    let a = c .before .before .args in
+    (sym (getD-take (a .pools) (a .lens .now) (a .i) 0 (omega arith)), omega (arith, c .shared-slice-known .given (a .i)))
 
 returns-2 : tie.Need-returns-2
-returns-2 c = let a = c .before .args in (sym (List·getD-eq-default (take (a .pools) (a .lens .now)) 0 {n = a .i} (omega (arith, length-take-le (a .pools) (a .lens .now) (omega arith)))), omega arith)
+returns-2 c =
+    let a = c .before .args in (
+      sym (List·getD-eq-default (take (a .pools) (a .lens .now)) 0 {n = a .i}
+          (omega (arith, length-take-le (a .pools) (a .lens .now) (omega arith)))),
+      omega arith,
+    )
 
 pub length-at-spec : {M : Type 1} → statement M
 length-at-spec =

@@ -10,7 +10,8 @@ use Rattle.queue.proofs.push.Statement.{statement}
 use Rattle.queue.proofs.push.Tie as tie
 
 -- the pool has room
-fits : (c : tie.Then1) → (0 < c .before .before .before .args .n) × (c .before .before .before .args .counts .pools < 2048) × (c .before .before .before .args .counts .queued + c .before .before .before .args .n ≤ 2048)
+fits : (c : tie.Then1) → (0 < c .before .before .before .args .n) × (c .before .before .before .args .counts .pools < 2048)
+    × (c .before .before .before .args .counts .queued + c .before .before .before .args .n ≤ 2048)
 fits c = let a = c .before .before .before .args in room-facts (held [] [] (a .counts)) (a .n) (sym (c .before .has-room .ensures) ∙ c .if1 .taken)
 
 has-room-requires : tie.Need-has-room-requires

@@ -43,8 +43,11 @@ loop-less c = omega arith
 
 loop-again : tie.Need-loop-again Inv-loop μ-loop
 loop-again c =
-    let l = c .before .before in
-    (omega arith, simp length-set (l .loop .inv .1), shift-push (l .before .args .s .now) (l .loop .s) (l .before .args .n) (l .loop .i) 0 (l .loop .inv .2) (omega arith))
+    let l = c .before .before in (
+      omega arith,
+      simp length-set (l .loop .inv .1),
+      shift-push (l .before .args .s .now) (l .loop .s) (l .before .args .n) (l .loop .i) 0 (l .loop .inv .2) (omega arith),
+    )
 
 same-length : tie.Need-same-length Inv-loop μ-loop
 same-length c = c .before .loop .inv .1

@@ -15,7 +15,10 @@ listed : (s : tie.Start) → s .args .counts .pools ≤ 2048
 listed s = may-facts (held (s .args .queue .now) (s .args .lens .now) (s .args .counts)) (s .pre .0) .0
 
 -- the queue's ranges are in its memory, and the first two pools' are among them and have room
-few : (c : tie.After-length-at2) → (c .before .before .before .before .before .before .before .args .counts .queued ≤ 2048) × (c .before .before .before .length-at .result + c .length-at2 .result ≤ c .before .before .before .before .before .before .before .args .counts .queued) × (c .before .before .before .length-at .result + c .length-at2 .result ≤ 256)
+few : (c : tie.After-length-at2) → (c .before .before .before .before .before .before .before .args .counts .queued ≤ 2048)
+    × (c .before .before .before .length-at .result + c .length-at2 .result ≤
+    c .before .before .before .before .before .before .before .args .counts .queued)
+    × (c .before .before .before .length-at .result + c .length-at2 .result ≤ 256)
 few c =
     let s = c .before .before .before .before .before .before .before in
     let h = may-facts (held (s .args .queue .now) (s .args .lens .now) (s .args .counts)) (s .pre .0) in
@@ -46,7 +49,9 @@ at-most-two-requires : tie.Need-at-most-two-requires
 at-most-two-requires c κs = search needs
 
 shift-requires-2 : tie.Need-shift-requires-2
-shift-requires-2 c κs = let h = listed (c .before .before .before .before .before .before .before .before .before .before .before .before .before .before .before .before .before) in omega arith
+shift-requires-2 c κs =
+    let h = listed (c .before .before .before .before .before .before .before .before .before .before .before .before .before .before
+    .before .before .before) in omega arith
 
 less-two-requires : tie.Need-less-two-requires
 less-two-requires c κs = search needs
@@ -62,8 +67,13 @@ returns c =
     let t = c .before .before .before .before .before .before .before .before .before .before .before .before in
     let s = t .before .before .before .before .before .before .before in
     let a = s .args in
-    let left = c .before .shift2 .ensures ∙ ap (λ (n : ℕ). shifted (a .lens .now) n (a .counts .pools)) (c .before .before .before .at-most-two .ensures) in
-    took (held (a .queue .now) (a .lens .now) (a .counts)) _ _ (a .merged .now) _ (t .before .before .before .length-at .result) (t .length-at2 .result) (c .less-two .result) (s .pre .0) (t .before .before .before .length-at .ensures .0) (t .length-at2 .ensures .0) (c .before .before .before .before .before .before .before .before .merge-two .ensures) (c .before .before .before .before .shift .ensures) left (c .less-two .ensures)
+    let left =
+    c .before .shift2 .ensures ∙ ap (λ (n : ℕ). shifted (a .lens .now) n (a .counts .pools))
+    (c .before .before .before .at-most-two .ensures) in
+    took (held (a .queue .now) (a .lens .now) (a .counts)) _ _ (a .merged .now) _ (t .before .before .before .length-at .result)
+    (t .length-at2 .result) (c .less-two .result) (s .pre .0) (t .before .before .before .length-at .ensures .0)
+    (t .length-at2 .ensures .0) (c .before .before .before .before .before .before .before .before .merge-two .ensures)
+    (c .before .before .before .before .shift .ensures) left (c .less-two .ensures)
 
 pub take-pools-spec : {M : Type 1} → statement M
 take-pools-spec =

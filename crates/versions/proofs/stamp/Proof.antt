@@ -25,7 +25,8 @@ returns c =
     let T = L .before .before in
     let A = T .before .before in
     let a = A .before .before .args in
-    stamped-both (rowOf (a .row .now)) (a .i) (a .clock) _ (A .load .ensures) _ _ (eq-eqb _ _ (T .if1 .taken)) (L .set-low .ensures) (H .set-high .ensures)
+    stamped-both (rowOf (a .row .now)) (a .i) (a .clock) _ (A .load .ensures) _ _ (eq-eqb _ _ (T .if1 .taken)) (L .set-low .ensures)
+    (H .set-high .ensures)
 
 same-length-2 : tie.Need-same-length-2
 same-length-2 c = search needs

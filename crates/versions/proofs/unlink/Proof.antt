@@ -33,7 +33,8 @@ returns c =
     let T = O .before .before in
     let A = T .before in
     let a = A .before .before .args in
-    unlinked-oldest (rowOf (a .row .now)) (a .i) _ (A .load .ensures) _ _ (eq-eqb _ _ (T .if1 .taken)) (O .set-older .ensures) (c .before .set-alone .ensures)
+    unlinked-oldest (rowOf (a .row .now)) (a .i) _ (A .load .ensures) _ _ (eq-eqb _ _ (T .if1 .taken)) (O .set-older .ensures)
+    (c .before .set-alone .ensures)
 
 same-length-2 : tie.Need-same-length-2
 same-length-2 c = search needs
@@ -45,7 +46,8 @@ returns-2 c =
     let T = N .before .before in
     let A = T .before in
     let a = A .before .before .args in
-    unlinked-between (rowOf (a .row .now)) (a .i) _ (A .load .ensures) _ _ _ (ne-eqb _ _ (T .if1 .left)) (N .set-newer .ensures) (O .set-older2 .ensures)
+    unlinked-between (rowOf (a .row .now)) (a .i) _ (A .load .ensures) _ _ _ (ne-eqb _ _ (T .if1 .left)) (N .set-newer .ensures)
+    (O .set-older2 .ensures)
     (c .before .set-alone2 .ensures)
 
 pub unlink-spec : {M : Type 1} → statement M
