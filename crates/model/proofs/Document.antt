@@ -7,7 +7,7 @@ use native.Mathlib.Omega.{arith}
 use lib.Dec.{leb}
 use borrow.Author.Tests as Tests
 use Rattle.model.specs.Batch.{leastFrom, logUp, batchOf}
-use Rattle.model.specs.Rules.{document01, Allowed, under, allUnder}
+use Rattle.model.specs.Rules.{Rules, document01, Allowed, under, allUnder}
 use Rattle.model.specs.Document.{Document}
 use Rattle.model.proofs.Basic.{eq-cases, and-both}
 use Rattle.model.proofs.Main.{demand}
@@ -35,8 +35,12 @@ each (suc n) p t a b =
     (λ e. each n p (q .0) a (omega (arith, e .0)))
     (eq-cases p (suc n))
 
-pub document01-allowed : Allowed document01
-document01-allowed p a b = each 16 p tested a b
+-- rules with document 01's batch size
+pub allowed : (rules : Rules) → rules .batch ≡ batchOf → Allowed rules
+allowed rules e p a b = subst (λ (f : ℕ → ℕ). (1 ≤ f p) × (f p ≤ 64)) (sym e) (each 16 p tested a b)
+
+document01-allowed : Allowed document01
+document01-allowed = allowed document01 refl
 
 pub document : Document
 document =

@@ -1,6 +1,7 @@
 pub mod Cases
 pub mod Basic
 pub mod View
+pub mod Begin
 pub mod Linear
 pub mod Slots
 pub mod Chain

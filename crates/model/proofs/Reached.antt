@@ -14,11 +14,12 @@ use Rattle.model.specs.Answer.{Ok, Stepped, Applied}
 use Rattle.model.specs.Versions.{stamp}
 use Rattle.model.specs.Steps.{putPublish, putStamp, putHandIn, flushTake, flushSplit, flushRead, flushFree, openAnnounce, openPass, readEnter, readStand, getShow, closeWithdraw, timeStep, stepAt}
 use Rattle.model.specs.Record.{SetUp, Begin, Step, Decoded, Asks, Refuses, decode}
-use Rattle.model.specs.Apply.{refuse, fresh, setUp, registerBelow, isIdle, mayOpen, mayUseTime, terms, begin, step, obey, applyDecoded, apply, applyRuled}
+use Rattle.model.specs.Apply.{refuse, fresh, setUp, terms, step, obey, applyDecoded, apply, applyRuled}
 use Rattle.model.specs.Demand.{Call, Plain, plain₀, events, observe, effects, All}
 use Rattle.model.specs.Reached.{sumBy, inHand, Bounds, SoundHub, Throughout, Sound}
 use Rattle.model.specs.Figure.{HandByHigh, WorkerByHigh, StoreByHigh, FigureHub, AsPublished}
 use Rattle.model.proofs.Basic.{cond-both, All-map, All-nth, up-inj}
+use Rattle.model.proofs.Begin.{begin-by}
 use Rattle.model.proofs.Invariant.{Inv}
 use Rattle.model.proofs.View.{idle-is}
 use Rattle.model.proofs.Record.{Holds, apply-holds}
@@ -74,26 +75,17 @@ module _ (now : ℕ) (s : Store) (olds : List (List ℕ)) (h : List Call) (o : L
   unchanged k = (s, refl, refl, W, S)
 
   decoded-bounded : (rules : Rules) (d : Decoded) → Bounded (applyDecoded rules (up s) d)
-  unfolding applyDecoded obey setUp begin step
+  unfolding applyDecoded obey setUp step
   decoded-bounded rules (Asks (SetUp z)) = unchanged 9
   decoded-bounded rules (Asks (Begin w c)) =
-      cond-both Bounded (ltb w (s .site .P)) _ _
-      (λ e₁. cond-both Bounded (registerBelow (s .site .V') (terms c .register)) _ _
-      (λ e₂. cond-both Bounded (isIdle (workerAt s w .doing)) _ _
-      (λ e₃. cond-both Bounded (mayOpen (terms c .time) (ltb (workerAt s w .announced) absent)) _ _
-      (λ e₄. cond-both Bounded (mayUseTime (terms c .time) (ltb (workerAt s w .announced) absent)) _ _
-      (λ e₅. (
+      begin-by Bounded s w c (λ k n. unchanged k)
+      (λ t. (
         place s w (terms c .first),
         refl,
         refl,
-        begin-within s pos W w c (idle-is (workerAt s w .doing) e₃),
-        begin-byHigh now s olds h o p I S w (Tests.ltb-true w (s .site .P) e₁) c,
+        begin-within s pos W w c (idle-is (workerAt s w .doing) (t .idle)),
+        begin-byHigh now s olds h o p I S w (Tests.ltb-true w (s .site .P) (t .worker)) c,
       ))
-      (λ e₅. unchanged 13))
-      (λ e₄. unchanged 12))
-      (λ e₃. unchanged 10))
-      (λ e₂. unchanged 4))
-      (λ e₁. unchanged 3)
   decoded-bounded rules (Asks (Step w)) =
       cond-both Bounded (ltb w (s .site .P)) _ _
       (λ e. (

@@ -6,14 +6,15 @@ use mathlib.Core.List.{List, [], _++_}
 use Prim.Native.Nat.{ℕ, _<_}
 use lib.Dec.{ltb}
 use borrow.Author.Tests as Tests
-use Rattle.model.specs.Store.{absent, Idle, Store, up, workerAt, place}
+use Rattle.model.specs.Store.{Idle, Store, up, workerAt, place}
 use Rattle.model.specs.Rules.{Rules}
 use Rattle.model.specs.Answer.{Freed, No, Applied}
 use Rattle.model.specs.Steps.{stepAt}
 use Rattle.model.specs.Record.{Operation, SetUp, Begin, Step, Decoded, Asks, Refuses, decode}
-use Rattle.model.specs.Apply.{refuse, setUp, registerBelow, isIdle, mayOpen, mayUseTime, terms, begin, step, takesStep, obey, applyDecoded, apply}
+use Rattle.model.specs.Apply.{refuse, setUp, isIdle, terms, begin, step, takesStep, obey, applyDecoded, apply}
 use Rattle.model.specs.Demand.{Call, observe, Performs, StepTaken, Plain, endEffects, stepEffects, effects, occurrences, FreesNothingNeeded, TookBy}
 use Rattle.model.proofs.Basic.{cond-both}
+use Rattle.model.proofs.Begin.{begin-by}
 use Rattle.model.proofs.Invariant.{NoneRunning, Inv}
 use Rattle.model.proofs.View.{idle-is}
 use Rattle.model.proofs.Places.{Kept, none-more, cur-is, begin-kept}
@@ -47,35 +48,21 @@ module _ (now : ℕ) (s : Store) (olds : List (List ℕ)) (h : List Call) (o : L
   not-begun w c k = refused-holds (Asks (Begin w c)) k refl refl
 
   begin-holds : (w : ℕ) (c : Operation) → Holds now s (Asks (Begin w c)) h o (begin s w c)
-  unfolding begin observe effects
+  unfolding observe effects
   begin-holds w c =
-      cond-both H (ltb w (s .site .P)) _ _
-      (λ e₁. cond-both H (registerBelow (s .site .V') (terms c .register)) _ _
-      (λ e₂. cond-both H (isIdle (workerAt s w .doing)) _ _
-      (λ e₃. cond-both H (mayOpen (terms c .time) has) _ _
-      (λ e₄. cond-both H (mayUseTime (terms c .time) has) _ _
-      (λ e₅.
+      begin-by (Holds now s (Asks (Begin w c)) h o) s w c (λ k n. not-begun w c k)
+      (λ t.
       record {
         store = place s w (terms c .first);
         is = refl;
         kept =
             none-more o [] refl
-            (begin-kept now s olds h o p I w (Tests.ltb-true w (s .site .P) e₁) c (idle-is (workerAt s w .doing) e₃) e₂ e₄ e₅);
+            (begin-kept now s olds h o p I w (Tests.ltb-true w (s .site .P) (t .worker)) c (idle-is (workerAt s w .doing) (t .idle))
+            (t .register) (t .opens) (t .time));
         safe = λ i z. absurd (subst NotFreed z tt);
         frees = λ i z. absurd (subst NotFreed z tt);
         stays = λ i z. inl z;
       })
-      (λ e₅. not-begun w c 13))
-      (λ e₄. not-begun w c 12))
-      (λ e₃. not-begun w c 10))
-      (λ e₂. not-begun w c 4))
-      (λ e₁. not-begun w c 3)
-    where
-      H : Applied → Type 0
-      H = Holds now s (Asks (Begin w c)) h o
-
-      has : Bool
-      has = ltb (workerAt s w .announced) absent
 
   step-holds : (w : ℕ) → Holds now s (Asks (Step w)) h o (step s w)
   unfolding step observe effects stepEffects

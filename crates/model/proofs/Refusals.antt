@@ -6,15 +6,16 @@ use Prim.Native.Nat.{ℕ, _<_}
 use native.Mathlib.Omega.{arith}
 use lib.Dec.{ltb, leb, eqb}
 use lib.ListN.{length, getD}
-use Rattle.model.specs.Store.{absent, lastClock, Reading, Slot, Range, OpenAnnounce, OpenPass, CloseWithdraw, Doing, Idle, PutPublish, PutStamp, PutHandIn, FlushTake, FlushRead, FlushFree, OnTime, ReadEnter, ReadStand, GetShow, Store, Hub, blank, up, workerAt, slotAt, holders, rangeOf, withWorker, place}
+use Rattle.model.specs.Store.{lastClock, Reading, Slot, Range, OpenAnnounce, OpenPass, CloseWithdraw, Doing, Idle, PutPublish, PutStamp, PutHandIn, FlushTake, FlushRead, FlushFree, OnTime, ReadEnter, ReadStand, GetShow, Store, Hub, blank, up, workerAt, slotAt, holders, rangeOf, withWorker, place}
 use Rattle.model.specs.Rules.{Rules}
 use Rattle.model.specs.Answer.{Going, Done, No, Stepped, Applied}
 use Rattle.model.specs.Steps.{putPublish, putStamp, putHandIn, flushTake, flushSplit, flushRead, flushFree, openAnnounce, openPass, answerFor, readEnter, readStand, getShow, closeWithdraw, timeStep, stepAt}
 use Rattle.model.specs.Record.{Operation, Sizes, SetUp, Begin, Step, Decoded, Asks, Refuses, decode, commandOf, unusedZero}
-use Rattle.model.specs.Apply.{terms, refuse, inRanges, setUp, registerBelow, isIdle, mayOpen, mayUseTime, begin, step, takesStep, obey, applyDecoded, apply}
+use Rattle.model.specs.Apply.{inRanges, setUp, isIdle, begin, step, takesStep, obey, applyDecoded, apply}
 use Rattle.model.specs.Demand.{occurrences}
 use Rattle.model.specs.Refusals.{onReading, atStep, idled, Refused, EndsWell, Demand1}
 use Rattle.model.proofs.Basic.{cond-both}
+use Rattle.model.proofs.Begin.{begin-by}
 
 -- a refusal on reading
 on-reading : (h : Hub) (d : Decoded) (k : ℕ) → takesStep h d ≡ false → 0 < occurrences k onReading → Refused h d k h
@@ -87,25 +88,8 @@ setup-well rules row z =
     (λ e. on-reading (blank row) (Asks (SetUp z)) 5 refl (omega arith))
 
 begin-well : (s : Store) (w : ℕ) (c : Operation) → Ends (up s) (Asks (Begin w c)) (begin s w c)
-unfolding begin takesStep occurrences
-begin-well s w c =
-    cond-both E (ltb w (s .site .P)) _ _
-    (λ e₁. cond-both E (registerBelow (s .site .V') (terms c .register)) _ _
-    (λ e₂. cond-both E (isIdle (workerAt s w .doing)) _ _
-    (λ e₃. cond-both E (mayOpen (terms c .time) (ltb (workerAt s w .announced) absent)) _ _
-    (λ e₄. cond-both E (mayUseTime (terms c .time) (ltb (workerAt s w .announced) absent)) _ _
-    (λ e₅. tt)
-    (λ e₅. no 13 (omega arith)))
-    (λ e₄. no 12 (omega arith)))
-    (λ e₃. no 10 (omega arith)))
-    (λ e₂. no 4 (omega arith)))
-    (λ e₁. no 3 (omega arith))
-  where
-    E : Applied → Type 0
-    E = Ends (up s) (Asks (Begin w c))
-
-    no : (k : ℕ) → 0 < occurrences k onReading → E (refuse (up s) k)
-    no k n = on-reading (up s) (Asks (Begin w c)) k refl n
+unfolding takesStep
+begin-well s w c = begin-by (Ends (up s) (Asks (Begin w c))) s w c (λ k n. on-reading (up s) (Asks (Begin w c)) k refl n) (λ t. tt)
 
 -- the refusals of a record that is not read as a command are 6, 1 and 2
 abbrev Read : Decoded → Type 0

@@ -12,6 +12,10 @@ pub record Rules : Type 0 where
 abbrev pub document01 : Rules
 document01 = record { batch = batchOf }
 
+-- the rules that the code follows
+abbrev pub inForce : Rules
+inForce = document01
+
 -- "A local pool is a count and at most 64 ranges": the batch size is from 1 to 64 for each number of workers that a setup may have
 abbrev pub Allowed : Rules → Type 0
 Allowed rules = (p : ℕ) → 1 ≤ p → p ≤ 16 → (1 ≤ rules .batch p) × (rules .batch p ≤ 64)

@@ -11,7 +11,7 @@ use Rattle.lists.proofs.Over.{length-over}
 use Rattle.model.specs.Store as Model
 use Rattle.model.specs.Store.{Store, blank, up, startWorker, workerAt}
 use Rattle.model.specs.Batch.{batchOf}
-use Rattle.model.specs.Rules.{document01}
+use Rattle.model.specs.Rules.{inForce, under}
 use Rattle.model.specs.Answer.{Ok}
 use Rattle.model.specs.Apply.{fresh, apply, hubAfter}
 use Rattle.model.specs.Demand.{All}
@@ -137,16 +137,16 @@ module _ (m m′ : Memory) (b : List ℕ) (Z : Sized m) where
       (t, e, record { store = L; laid = written-lies t (sound L) m Z }, written-sized t (sound L) m Z)
 
   -- an accepted setup
-  pub setup-written : (row : List Model.Slot) → apply document01 (blank row) b .answer ≡ Ok
-      → m′ ≡ writeHub (apply document01 (blank row) b .hub) m → LeftAs (apply document01 (blank row) b .hub) m′
+  pub setup-written : (row : List Model.Slot) → apply inForce (blank row) b .answer ≡ Ok
+      → m′ ≡ writeHub (apply inForce (blank row) b .hub) m → LeftAs (apply inForce (blank row) b .hub) m′
   unfolding hubAfter
   setup-written row ok is =
-      let A = accepts document01 row b ok in
-      written (apply document01 (blank row) b .hub) (fresh (batchOf (A .sizes .P)) (A .sizes) (A .row)) (A .is)
-      (record { row = row; setup = b; accepted = ok; records = []; left = A .is }) is
+      let A = accepts inForce row b ok in
+      written (apply inForce (blank row) b .hub) (fresh (batchOf (A .sizes .P)) (A .sizes) (A .row)) (A .is)
+      (record { row = row; setup = under inForce b; batch = refl; accepted = ok; records = []; left = A .is }) is
 
   -- one record more
-  pub record-written : (s : Store) → LeftByRecords s → m′ ≡ writeHub (apply document01 (up s) b .hub) m → LeftAs (apply document01 (up s) b .hub) m′
+  pub record-written : (s : Store) → LeftByRecords s → m′ ≡ writeHub (apply inForce (up s) b .hub) m → LeftAs (apply inForce (up s) b .hub) m′
   record-written s L is =
       let N = left-next L b in
-      written (apply document01 (up s) b .hub) (N .0) (N .1) (N .2) is
+      written (apply inForce (up s) b .hub) (N .0) (N .1) (N .2) is

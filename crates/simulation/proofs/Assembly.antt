@@ -7,7 +7,7 @@ use Prim.Native.Nat.{ℕ, _<_}
 use lib.ListN.{length}
 use Rattle.model.specs.Store as Model
 use Rattle.model.specs.Store.{Store, blank, up, workerAt}
-use Rattle.model.specs.Rules.{document01}
+use Rattle.model.specs.Rules.{inForce}
 use Rattle.model.specs.Answer.{Ok, Applied}
 use Rattle.model.specs.Record.{decode}
 use Rattle.model.specs.Steps.{stepAt}
@@ -59,14 +59,14 @@ done-by m b a g e F =
 
 module _ (m : Memory) (b : List ℕ) (Z : Sized m) (bytes : Bytes b) (e : ready m ≡ false) where
   -- the code does what the model's hub does that is not set up and whose row is lent
-  pub done-blank : DoneAs m b (apply document01 (blank (map slotOf (m .slots))) b)
+  pub done-blank : DoneAs m b (apply inForce (blank (map slotOf (m .slots))) b)
   unfolding apply
   done-blank =
-      done-by m b (apply document01 (blank (map slotOf (m .slots))) b) _ (ap (λ (t : Bool). gateIn t m b) e)
+      done-by m b (apply inForce (blank (map slotOf (m .slots))) b) _ (ap (λ (t : Bool). gateIn t m b) e)
       (follows-blank m Z (decode b) (clock-fits b bytes))
 
   -- an accepted setup leaves its store in the memory
-  pub setup-left : answerOf (doneOf m b .answer) ≡ Ok → LeftAs (apply document01 (blank (map slotOf (m .slots))) b .hub) (doneOf m b .memory)
+  pub setup-left : answerOf (doneOf m b .answer) ≡ Ok → LeftAs (apply inForce (blank (map slotOf (m .slots))) b .hub) (doneOf m b .memory)
   setup-left ok = setup-written m (doneOf m b .memory) b Z (map slotOf (m .slots)) (sym (done-blank .1) ∙ ok) (done-blank .0)
 
 ------------------------------------------------------------------------
@@ -86,7 +86,7 @@ module _ (steps : StepsSimulate) where
 
     -- what the model makes of the record
     abbrev a : Applied
-    a = apply document01 (up s) b
+    a = apply inForce (up s) b
 
     -- the record's decision, for the store and for the memory
     gate-is : gateIn (ready m) m b ≡ gateBy (decodedIn b) true (length (m .slots)) (hubRep s)
@@ -125,12 +125,12 @@ module _ (steps : StepsSimulate) where
     by-gate (Go w) t = stepped w t
 
     -- on memory that records left the code does what the model does
-    pub done-left : DoneAs m b (apply document01 (up s) b)
+    pub done-left : DoneAs m b (apply inForce (up s) b)
     unfolding apply
     done-left = done-by m b a _ gate-is (by-gate _ (gate-left s S (decode b) (length (m .slots))))
 
     -- and the memory that it leaves is left by records again
-    pub left-again : LeftAs (apply document01 (up s) b .hub) (doneOf m b .memory)
+    pub left-again : LeftAs (apply inForce (up s) b .hub) (doneOf m b .memory)
     left-again = record-written m (doneOf m b .memory) b Z s (L .store) (done-left .0)
 
   -- the public function's contract

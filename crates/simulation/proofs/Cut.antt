@@ -13,7 +13,7 @@ use lib.Seq.{getD-take, take-take}
 use borrow.Author.Tests.{le-leb, lt-leb}
 use Rattle.model.specs.Store as Model
 use Rattle.model.specs.Store.{Store, blank, up}
-use Rattle.model.specs.Rules.{document01}
+use Rattle.model.specs.Rules.{inForce}
 use Rattle.model.specs.Answer.{said, Applied}
 use Rattle.model.specs.Record.{Sizes, SetUp, Begin, Step, Decoded, Asks, Refuses, decode}
 use Rattle.model.specs.Apply.{refuse, inRanges, fresh, setUp, obey, applyDecoded, apply}
@@ -127,7 +127,7 @@ module _ (m : Memory) (l : List Slot) where
   made-cut : (z : Sizes) → z .N ≤ 2048 → take (z .N) row′ ≡ take (z .N) row
   made-cut z h = ap (take (z .N)) (map-take slotOf 2048 l) ∙ take-take (z .N) 2048 row h
 
-  set-up-cut : (z : Sizes) → Alike m (setUp document01 (blank row′) z) (setUp document01 (blank row) z)
+  set-up-cut : (z : Sizes) → Alike m (setUp inForce (blank row′) z) (setUp inForce (blank row) z)
   unfolding setUp fresh
   set-up-cut z =
       both (Alike m) (inRanges z && leb (z .N) (length row′)) (inRanges z && leb (z .N) (length row)) _ _ _ _
@@ -140,14 +140,14 @@ module _ (m : Memory) (l : List Slot) where
       })
       (λ e. refused-cut 5)
 
-  decoded-cut : (r : Decoded) → Alike m (applyDecoded document01 (blank row′) r) (applyDecoded document01 (blank row) r)
+  decoded-cut : (r : Decoded) → Alike m (applyDecoded inForce (blank row′) r) (applyDecoded inForce (blank row) r)
   unfolding applyDecoded obey
   decoded-cut (Asks (SetUp z)) = set-up-cut z
   decoded-cut (Asks (Begin w o)) = refused-cut 8
   decoded-cut (Asks (Step w)) = refused-cut 8
   decoded-cut (Refuses k) = refused-cut k
 
-  apply-cut : (b : List ℕ) → Alike m (apply document01 (blank row′) b) (apply document01 (blank row) b)
+  apply-cut : (b : List ℕ) → Alike m (apply inForce (blank row′) b) (apply inForce (blank row) b)
   unfolding apply
   apply-cut b = decoded-cut (decode b)
 
@@ -205,12 +205,12 @@ does-cut m m′ b y D rest =
       left = λ s L.
           let d = D .left s (left-cut m L) in
           let N = left-next (L .store) b in
-          let f : FewIn (apply document01 (up s) b .hub) = subst FewIn (sym (N .1)) (left-few (N .2)) in
-          (written m m′ rest (apply document01 (up s) b .hub) f (d .0), d .1);
+          let f : FewIn (apply inForce (up s) b .hub) = subst FewIn (sym (N .1)) (left-few (N .2)) in
+          (written m m′ rest (apply inForce (up s) b .hub) f (d .0), d .1);
       blank = λ e.
           let d = D .blank (ready-cut m ∙ e) in
           let A = apply-cut (cut m) (m .slots) b in
-          (written m m′ rest (apply document01 (blank (map slotOf (m .slots))) b .hub) (A .few) (d .0 ∙ A .memory), d .1 ∙ A .answer);
+          (written m m′ rest (apply inForce (blank (map slotOf (m .slots))) b .hub) (A .few) (d .0 ∙ A .memory), d .1 ∙ A .answer);
       nine = λ e. D .nine (ready-cut m ∙ e);
       ends = ends-cut m m′ rest (decode b) (said (answerOf y) .refusal) (D .ends);
     }

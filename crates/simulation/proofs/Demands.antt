@@ -7,7 +7,7 @@ use Prim.Native.Nat.{ℕ}
 use native.Mathlib.Omega.{arith}
 use Rattle.model.specs.Store as Model
 use Rattle.model.specs.Store.{blank, up}
-use Rattle.model.specs.Rules.{document01, under, allUnder}
+use Rattle.model.specs.Rules.{inForce, under, allUnder}
 use Rattle.model.specs.Answer.{Ok}
 use Rattle.model.specs.Record.{Sizes, SetUp, Asks, decode}
 use Rattle.model.specs.Apply.{apply}
@@ -29,16 +29,16 @@ sent ts = map (λ (t : EventIn). t .bytes) ts
 
 -- calls on memory that records left are answered as the model answers them
 follow : (ts : List EventIn) (m : Memory) (h : Model.Hub) → LeftAs h m → Calls m ts
-    → map exchangeOf ts ≡ map exchange (events h (allUnder document01 (sent ts)))
+    → map exchangeOf ts ≡ map exchange (events h (allUnder inForce (sent ts)))
 unfolding Calls events
 follow [] m h L C = refl
 follow (t ∷ ts) m h (s, e, L, Z) C =
     let d = C .1 .left s L in
     let n = record-written m (t .after) (t .bytes) Z s (L .store) (d .0) in
-    let rest : map exchangeOf ts ≡ map exchange (events (apply document01 (up s) (t .bytes) .hub) (allUnder document01 (sent ts))) =
-    follow ts (t .after) (apply document01 (up s) (t .bytes) .hub) n (C .3) in
+    let rest : map exchangeOf ts ≡ map exchange (events (apply inForce (up s) (t .bytes) .hub) (allUnder inForce (sent ts))) =
+    follow ts (t .after) (apply inForce (up s) (t .bytes) .hub) n (C .3) in
     (λ i. record { bytes = t .bytes; answer = d .1 i } ∷ rest i)
-    ∙ ap (λ (k : Model.Hub). map exchange (events k (allUnder document01 (sent (t ∷ ts))))) (sym e)
+    ∙ ap (λ (k : Model.Hub). map exchange (events k (allUnder inForce (sent (t ∷ ts))))) (sym e)
 
 -- memory on which a setup is accepted did not count as set up
 pub was-blank : (m m′ : Memory) (b : List ℕ) (y : Answer) → Does m b y m′ → (z : Sizes) → decode b ≡ Asks (SetUp z) → answerOf y ≡ Ok
@@ -58,12 +58,12 @@ unfolding Calls
 demand-3 m first ts Z e C ok =
     let row : List Model.Slot = map slotOf (m .slots) in
     let b = C .1 .blank e in
-    let a : apply document01 (blank row) (first .bytes) .answer ≡ Ok = sym (b .1) ∙ ok in
+    let a : apply inForce (blank row) (first .bytes) .answer ≡ Ok = sym (b .1) ∙ ok in
     record {
       answers =
-          follow ts (first .after) (apply document01 (blank row) (first .bytes) .hub) (setup-written m (first .after) (first .bytes) Z row a (b .0))
+          follow ts (first .after) (apply inForce (blank row) (first .bytes) .hub) (setup-written m (first .after) (first .bytes) Z row a (b .0))
           (C .3);
-      demand = demand row (under document01 (first .bytes)) a (allUnder document01 (sent ts));
+      demand = demand row (under inForce (first .bytes)) a (allUnder inForce (sent ts));
     }
 
 pub demands : Demands

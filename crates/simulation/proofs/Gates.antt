@@ -7,7 +7,7 @@ use lib.Dec.{ltb}
 use borrow.Author.Tests.{ltb-true}
 use Rattle.model.specs.Store as Model
 use Rattle.model.specs.Store.{Store, up, absent, workerAt, place}
-use Rattle.model.specs.Rules.{document01}
+use Rattle.model.specs.Rules.{inForce}
 use Rattle.model.specs.Answer.{Ok, Stepped, Applied}
 use Rattle.model.specs.Record as Record
 use Rattle.model.specs.Steps.{stepAt}
@@ -121,7 +121,7 @@ module _ (s : Store) (S : Sound s) where
 
   -- the decision on a record that was read as r is the model's
   pub gate-left : (r : Record.Decoded) (long : ℕ)
-      → Means s (gateBy (decodedRep r) true long (hubRep s)) (applyDecoded document01 (up s) r)
+      → Means s (gateBy (decodedRep r) true long (hubRep s)) (applyDecoded inForce (up s) r)
   unfolding whoOf gateOf applyDecoded obey setUp step
   gate-left (Record.Refuses k) long = refl
   gate-left (Record.Asks (Record.SetUp z)) long = refl

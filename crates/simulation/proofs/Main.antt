@@ -3,7 +3,7 @@
 use mathlib.Core.List.{List}
 use Prim.Native.Nat.{ℕ}
 use Rattle.model.specs.Store.{Store, up}
-use Rattle.model.specs.Rules.{document01}
+use Rattle.model.specs.Rules.{inForce}
 use Rattle.model.specs.Apply.{apply}
 use Rattle.simulation.specs.Memory.{Memory}
 use Rattle.simulation.specs.Left.{Left, Sized}
@@ -17,10 +17,10 @@ use Rattle.simulation.proofs.Assembly.{DoneAs}
 use Rattle.simulation.proofs.OneByOne as Records
 use Rattle.simulation.proofs.Steps.{steps}
 
-pub done-left : (s : Store) (m : Memory) (b : List ℕ) → Left s m → Sized m → DoneAs m b (apply document01 (up s) b)
+pub done-left : (s : Store) (m : Memory) (b : List ℕ) → Left s m → Sized m → DoneAs m b (apply inForce (up s) b)
 done-left = Assembly.done-left steps
 
-pub left-again : (s : Store) (m : Memory) (b : List ℕ) → Left s m → Sized m → LeftAs (apply document01 (up s) b .hub) (doneOf m b .memory)
+pub left-again : (s : Store) (m : Memory) (b : List ℕ) → Left s m → Sized m → LeftAs (apply inForce (up s) b .hub) (doneOf m b .memory)
 left-again = Assembly.left-again steps
 
 pub does : (m : Memory) (b : List ℕ) → Sized m → Bytes b → Does m b (doneOf m b .answer) (doneOf m b .memory)

@@ -12,7 +12,7 @@ use Rattle.lists.proofs.Over.{over-nil}
 use Rattle.model.specs.Store as Model
 use Rattle.model.specs.Store.{blank, up, lastClock}
 use Rattle.model.specs.Batch.{batchOf}
-use Rattle.model.specs.Rules.{document01}
+use Rattle.model.specs.Rules.{inForce}
 use Rattle.model.specs.Answer as Answers
 use Rattle.model.specs.Record as Record
 use Rattle.model.specs.Record.{Sizes, commandOf, unusedZero, decode}
@@ -99,7 +99,7 @@ module _ (m : Memory) (Z : Sized m) where
 
   set-up : (z : Sizes) → z .clock ≤ lastClock
       → Follows m (cond (sizesOk (z .P) (z .V') (z .N) (z .clock) (length (m .slots))) (Make (z .P) (z .V') (z .N) (z .clock)) (Refuse 5))
-      (setUp document01 (blank row) z)
+      (setUp inForce (blank row) z)
   unfolding setUp
   set-up z h =
       let long : length (m .slots) ≡ length row = sym (length-map (m .slots) slotOf) in
@@ -111,7 +111,7 @@ module _ (m : Memory) (Z : Sized m) where
 
   -- the code does what the model's hub does that is not set up and whose row is lent
   pub follows-blank : (r : Record.Decoded) → ClockFits r
-      → Follows m (gateBy (decodedRep r) false (length (m .slots)) (m .hub)) (applyDecoded document01 (blank (map slotOf (m .slots))) r)
+      → Follows m (gateBy (decodedRep r) false (length (m .slots)) (m .hub)) (applyDecoded inForce (blank (map slotOf (m .slots))) r)
   unfolding whoOf gateOf applyDecoded obey
   follows-blank (Record.Refuses k) f = refused (blank row) m k refl
   follows-blank (Record.Asks (Record.SetUp z)) f = set-up z f

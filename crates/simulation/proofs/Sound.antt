@@ -10,7 +10,7 @@ use lib.ListN.{length}
 use Rattle.model.specs.Store as Model
 use Rattle.model.specs.Store.{Store, Range, up, absent, lastClock, startWorker, workerAt, slotAt, newestOf}
 use Rattle.model.specs.Batch.{batchOf}
-use Rattle.model.specs.Rules.{document01, Ruled, under}
+use Rattle.model.specs.Rules.{Rules, inForce, Ruled, under}
 use Rattle.model.specs.Apply.{fresh, apply, applyRuled, hubAfter}
 use Rattle.model.specs.Demand.{Call, Plain, occurrences, All}
 use Rattle.model.specs.About.{about}
@@ -24,7 +24,7 @@ use Rattle.model.proofs.Full.{near}
 use Rattle.model.proofs.Setup.{accepts}
 use Rattle.model.proofs.Reached.{Reached, reached-apply, reached-start, bounds}
 use Rattle.simulation.specs.Left.{LeftByRecords}
-use Rattle.model.proofs.Document.{document01-allowed}
+use Rattle.model.proofs.Document.{allowed}
 use Rattle.simulation.proofs.Chains.{three, next-older, head-older, old-low, stands-in}
 
 -- a range names a slot, and its low and high are times
@@ -82,17 +82,18 @@ pub record Sound (s : Store) : Type 0 where
 ------------------------------------------------------------------------
 -- The model's invariant holds of it
 
-reached-from : (bs : List Ruled) (s t : Store) → Reached document01 s → hubAfter (up s) bs ≡ up t → Reached document01 t
+reached-from : (first : Rules) (bs : List Ruled) (s t : Store) → Reached first s → hubAfter (up s) bs ≡ up t → Reached first t
 unfolding hubAfter
-reached-from [] s t R e = subst (Reached document01) (up-inj s t e) R
-reached-from (b ∷ bs) s t R e =
+reached-from first [] s t R e = subst (Reached first) (up-inj s t e) R
+reached-from first (b ∷ bs) s t R e =
     let N = reached-apply (b .rules) s R (b .bytes) in
-    reached-from bs (N .0) t (N .2) (subst (λ (h : Model.Hub). hubAfter h bs ≡ up t) (N .1) e)
+    reached-from first bs (N .0) t (N .2) (subst (λ (h : Model.Hub). hubAfter h bs ≡ up t) (N .1) e)
 
-pub reached : {s : Store} → LeftByRecords s → Reached document01 s
+pub reached : {s : Store} (L : LeftByRecords s) → Reached (L .setup .rules) s
 reached {s} L =
-    let A = accepts document01 (L .row) (L .setup) (L .accepted) in
-    reached-from (L .records) (fresh (batchOf (A .sizes .P)) (A .sizes) (A .row)) s (reached-start document01 document01-allowed A)
+    let rules : Rules = L .setup .rules in
+    let A = accepts rules (L .row) (L .setup .bytes) (L .accepted) in
+    reached-from rules (L .records) (fresh (rules .batch (A .sizes .P)) (A .sizes) (A .row)) s (reached-start rules (allowed rules (L .batch)) A)
     (subst (λ (h : Model.Hub). hubAfter h (L .records) ≡ up s) (A .is) (L .left))
 
 ------------------------------------------------------------------------
@@ -205,11 +206,11 @@ module _ {now : ℕ} {s : Store} {olds : List (List ℕ)} {h : List Call} {o : L
 ------------------------------------------------------------------------
 -- The statements
 
-reached-sound : (s : Store) → Reached document01 s → Sound s
-reached-sound s R =
+reached-sound : (first : Rules) → first .batch ≡ batchOf → (s : Store) → Reached first s → Sound s
+reached-sound first same s R =
     record {
       bounds = B;
-      batch = R .fits .batch;
+      batch = R .fits .batch ∙ ap (λ (f : ℕ → ℕ). f (s .site .P)) same;
       newest = newest-in I;
       unstamped = unstamped-apart I;
       free = free-slot I;
@@ -238,7 +239,7 @@ reached-sound s R =
 
 -- every store that records left is sound
 pub sound : {s : Store} → LeftByRecords s → Sound s
-sound {s} L = reached-sound s (reached L)
+sound {s} L = reached-sound (L .setup .rules) (L .batch) s (reached L)
 
 after-more : (h : Model.Hub) (bs : List Ruled) (b : Ruled) → hubAfter h (bs ++ (b ∷ [])) ≡ applyRuled (hubAfter h bs) b .hub
 unfolding hubAfter
@@ -246,19 +247,20 @@ after-more h [] b = refl
 after-more h (c ∷ bs) b = after-more (applyRuled h c .hub) bs b
 
 -- a record more leaves such a store again
-pub left-next : {s : Store} → LeftByRecords s → (b : List ℕ) → (t : Store) × (apply document01 (up s) b .hub ≡ up t) × LeftByRecords t
+pub left-next : {s : Store} → LeftByRecords s → (b : List ℕ) → (t : Store) × (apply inForce (up s) b .hub ≡ up t) × LeftByRecords t
 left-next {s} L b =
-    let N = reached-apply document01 s (reached L) b in (
+    let N = reached-apply inForce s (reached L) b in (
       N .0,
       N .1,
       record {
         row = L .row;
         setup = L .setup;
+        batch = L .batch;
         accepted = L .accepted;
-        records = L .records ++ (under document01 b ∷ []);
+        records = L .records ++ (under inForce b ∷ []);
         left =
-            after-more (apply document01 (Model.blank (L .row)) (L .setup) .hub) (L .records) (under document01 b)
-            ∙ ap (λ (h : Model.Hub). apply document01 h b .hub) (L .left)
+            after-more (applyRuled (Model.blank (L .row)) (L .setup) .hub) (L .records) (under inForce b)
+            ∙ ap (λ (h : Model.Hub). apply inForce h b .hub) (L .left)
             ∙ N .1;
       },
     )

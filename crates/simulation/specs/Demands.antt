@@ -6,7 +6,7 @@ use mathlib.Core.List.{List, [], _∷_, map}
 use Prim.Native.Nat.{ℕ, _<_}
 use lib.ListN.{getD}
 use Rattle.model.specs.Store.{Store, blank}
-use Rattle.model.specs.Rules.{document01, allUnder}
+use Rattle.model.specs.Rules.{inForce, allUnder}
 use Rattle.model.specs.Answer.{Ok}
 use Rattle.model.specs.Record.{Sizes, SetUp, Asks, decode}
 use Rattle.model.specs.Apply.{apply}
@@ -41,7 +41,7 @@ exchangeOf t = record { bytes = t .bytes; answer = answerOf (t .answer) }
 -- the events of the model for the same setup and the same records
 abbrev pub eventsOf : Memory → EventIn → List EventIn → List Event
 eventsOf m first ts =
-    events (apply document01 (blank (map slotOf (m .slots))) (first .bytes) .hub) (allUnder document01 (map (λ t. t .bytes) ts))
+    events (apply inForce (blank (map slotOf (m .slots))) (first .bytes) .hub) (allUnder inForce (map (λ t. t .bytes) ts))
 
 -- Demand 3 for the code, of a setup that was answered `ok` and a list of records after it. What the code answers is what the model answers, and
 -- of that demand 3 holds: there is one order of the operations in which every finished get and read showed what plain registers show, nothing

@@ -2,24 +2,26 @@
 use mathlib.Core.Path.{_≡_}
 use mathlib.Core.Bool.{Bool}
 use mathlib.Core.List.{List}
-use Prim.Native.Nat.{ℕ}
 use lib.ListN.{length}
 use Rattle.model.specs.Store as Model
 use Rattle.model.specs.Store.{Store, blank, up}
 use Rattle.model.specs.Answer.{Ok}
-use Rattle.model.specs.Rules.{document01, Ruled}
-use Rattle.model.specs.Apply.{apply, hubAfter}
+use Rattle.model.specs.Batch.{batchOf}
+use Rattle.model.specs.Rules.{Ruled}
+use Rattle.model.specs.Apply.{applyRuled, hubAfter}
 use Rattle.slots.specs.Slots.{linkedTo}
 use Rattle.ready.specs.Ready.{readyOf}
 use Rattle.simulation.specs.Memory.{Memory, write}
 
--- a store that an accepted setup and a list of records after it leave
+-- A store that an accepted setup and a list of records after it leave, each under its own rules.
 pub record LeftByRecords (s : Store) : Type 0 where
   pub row : List Model.Slot
-  pub setup : List ℕ
-  pub accepted : apply document01 (blank row) setup .answer ≡ Ok
+  pub setup : Ruled
+  -- the setup took document 01's batch size, which the code computes from P
+  pub batch : setup .rules .batch ≡ batchOf
+  pub accepted : applyRuled (blank row) setup .answer ≡ Ok
   pub records : List Ruled
-  pub left : hubAfter (apply document01 (blank row) setup .hub) records ≡ up s
+  pub left : hubAfter (applyRuled (blank row) setup .hub) records ≡ up s
 
 -- memory in which such a store lies
 pub record Left (s : Store) (m : Memory) : Type 0 where

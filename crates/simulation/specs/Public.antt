@@ -7,7 +7,7 @@ use Prim.Native.Nat.{ℕ, _<_}
 use lib.Dec.{ltb}
 use Rattle.model.specs.Store as Model
 use Rattle.model.specs.Store.{Store}
-use Rattle.model.specs.Rules.{document01}
+use Rattle.model.specs.Rules.{inForce}
 use Rattle.model.specs.Record.{Sizes, SetUp, Begin, Step, Decoded, Asks, Refuses, decode}
 use Rattle.model.specs.Demand.{occurrences}
 use Rattle.model.specs.Refusals.{onReading, atStep}
@@ -69,13 +69,13 @@ EndsWell m d y m′ = EndsBy m d (said (answerOf y) .refusal) m′
 pub record Does (m : Memory) (b : List ℕ) (y : Answer) (m′ : Memory) : Type 0 where
   -- Memory that records left: the model's next store is written over it, and the answer is the model's. This is demand 2.
   pub left : (s : Store) → Left s m
-      → (m′ ≡ writeHub (Model·Apply.apply document01 (Model.up s) b .hub) m)
-      × (answerOf y ≡ Model·Apply.apply document01 (Model.up s) b .answer)
+      → (m′ ≡ writeHub (Model·Apply.apply inForce (Model.up s) b .hub) m)
+      × (answerOf y ≡ Model·Apply.apply inForce (Model.up s) b .answer)
   -- Memory that does not count as set up: the same of the model's hub that is not set up, whose row is lent. So every record but a setup that
   -- gets that far gets 8, and a setup is accepted or gets 5.
   pub blank : ready m ≡ false
-      → (m′ ≡ writeHub (Model·Apply.apply document01 (Model.blank (map slotOf (m .slots))) b .hub) m)
-      × (answerOf y ≡ Model·Apply.apply document01 (Model.blank (map slotOf (m .slots))) b .answer)
+      → (m′ ≡ writeHub (Model·Apply.apply inForce (Model.blank (map slotOf (m .slots))) b .hub) m)
+      × (answerOf y ≡ Model·Apply.apply inForce (Model.blank (map slotOf (m .slots))) b .answer)
   -- Memory that counts as set up, whoever left it: a setup gets 9.
   pub nine : ready m ≡ true → (z : Sizes) → decode b ≡ Asks (SetUp z) → answerOf y ≡ Model·Answer.No 9
   -- Any memory.

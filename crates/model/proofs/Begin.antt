@@ -1,0 +1,38 @@
+-- One law about the begin of an operation: a claim that holds of each of its refusals, and of the operation begun where every test passed, holds
+-- of it. The tests are gone through here and nowhere else in these proofs.
+use mathlib.Core.Path.{_≡_}
+use mathlib.Core.Bool.{true}
+use Prim.Native.Nat.{ℕ, _<_}
+use native.Mathlib.Omega.{arith}
+use lib.Dec.{ltb}
+use Rattle.model.specs.Store.{absent, Store, up, workerAt, place}
+use Rattle.model.specs.Answer.{Ok, Applied}
+use Rattle.model.specs.Record.{Operation}
+use Rattle.model.specs.Apply.{refuse, terms, registerBelow, isIdle, mayOpen, mayUseTime, begin}
+use Rattle.model.specs.Demand.{occurrences}
+use Rattle.model.specs.Refusals.{onReading}
+use Rattle.model.proofs.Basic.{cond-both}
+
+-- every test of a begin passed
+pub record Passed (s : Store) (w : ℕ) (c : Operation) : Type 0 where
+  pub worker : ltb w (s .site .P) ≡ true
+  pub register : registerBelow (s .site .V') (terms c .register) ≡ true
+  pub idle : isIdle (workerAt s w .doing) ≡ true
+  pub opens : mayOpen (terms c .time) (ltb (workerAt s w .announced) absent) ≡ true
+  pub time : mayUseTime (terms c .time) (ltb (workerAt s w .announced) absent) ≡ true
+
+pub begin-by : (Q : Applied → Type 0) (s : Store) (w : ℕ) (c : Operation) → ((k : ℕ) → 0 < occurrences k onReading → Q (refuse (up s) k))
+    → (Passed s w c → Q (record { hub = up (place s w (terms c .first)); answer = Ok })) → Q (begin s w c)
+unfolding begin occurrences
+begin-by Q s w c refused begun =
+    cond-both Q (ltb w (s .site .P)) _ _
+    (λ e₁. cond-both Q (registerBelow (s .site .V') (terms c .register)) _ _
+    (λ e₂. cond-both Q (isIdle (workerAt s w .doing)) _ _
+    (λ e₃. cond-both Q (mayOpen (terms c .time) (ltb (workerAt s w .announced) absent)) _ _
+    (λ e₄. cond-both Q (mayUseTime (terms c .time) (ltb (workerAt s w .announced) absent)) _ _
+    (λ e₅. begun (record { worker = e₁; register = e₂; idle = e₃; opens = e₄; time = e₅ }))
+    (λ e₅. refused 13 (omega arith)))
+    (λ e₄. refused 12 (omega arith)))
+    (λ e₃. refused 10 (omega arith)))
+    (λ e₂. refused 4 (omega arith)))
+    (λ e₁. refused 3 (omega arith))
