@@ -1,11 +1,11 @@
 -- Laws of lent memory of which a part is replaced, and of the loops that replace it entry by entry.
-use mathlib.Core.Path.{_≡_, refl, sym, _∙_}
+use mathlib.Core.Path.{_≡_, refl, sym, ap, _∙_}
 use mathlib.Core.List.{List, [], _∷_, _++_}
 use Prim.Native.Nat.{ℕ, suc, _+_, _-_, _≤_, _<_}
 use native.Mathlib.Numerals.{add-one}
 use native.Mathlib.Omega.{arith}
 use lib.ListN.{length, take, drop, getD, set, length-append, length-drop, List·getD-append}
-use lib.Seq.{drop-cons, set-at, append-snoc, getD-append-add, getD-drop, getD-take, take-at, take-suc, length-take-le}
+use lib.Seq.{drop-cons, drop-drop, drop-append-add, set-at, append-snoc, getD-append-add, getD-drop, getD-take, take-at, take-suc, length-take-le}
 use Rattle.lists.specs.Over.{over, shifted}
 
 module _ {A : Type 0} where
@@ -24,6 +24,17 @@ module _ {A : Type 0} where
   pub length-over : (p d : List A) → length p ≤ length d → length (over p d) ≡ length d
   unfolding over
   length-over p d h = simp (length-append, length-drop) (omega arith)
+
+  -- of two replacements the longer counts, where it is the second
+  pub over-longer : (p q d : List A) → length q ≤ length p → over p (over q d) ≡ over p d
+  unfolding over
+  over-longer p q d h =
+      let e : length p ≡ length q + (length p - length q) = omega arith in
+      ap (λ (l : List A). p ++ l)
+      (ap (λ (n : ℕ). drop n (q ++ drop (length q) d)) e
+      ∙ drop-append-add q (drop (length q) d) (length p - length q)
+      ∙ drop-drop (length p - length q) (length q) d
+      ∙ ap (λ (n : ℕ). drop n d) (sym e))
 
   -- past the replaced entries it is as it was
   pub getD-over-past : (p d : List A) (j : ℕ) (z : A) → length p ≤ j → getD (over p d) j z ≡ getD d j z

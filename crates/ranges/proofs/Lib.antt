@@ -1,10 +1,6 @@
 pub mod WordLaws
 pub mod MergeLaws
 pub mod Merging
-pub mod TimeLaws
-pub mod Inserting
-pub mod Sorting
-pub mod FingerLaws
 pub mod SplitLaws
 pub mod Splitting
 pub mod Reversing

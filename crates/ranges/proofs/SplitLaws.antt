@@ -14,7 +14,7 @@ use Rattle.model.specs.Figure.{sort, Rising}
 use Rattle.model.proofs.Figure.{sort-rising, needed-sort, filter-alike}
 use Rattle.ranges.specs.Words.{rangesAt}
 use Rattle.ranges.proofs.WordLaws.{length-rangesAt}
-use Rattle.ranges.proofs.TimeLaws.{length-sort}
+use Rattle.times.proofs.TimeLaws.{length-sort}
 
 -- a range at the end of either side of a choice
 cond-snoc : (b : Bool) (k : List Range) (x ρ : Range) → cond b (x ∷ (k ++ (ρ ∷ []))) (k ++ (ρ ∷ [])) ≡ cond b (x ∷ k) k ++ (ρ ∷ [])

@@ -1,11 +1,11 @@
 -- Laws of ranges in lent memory: what is read of memory whose front was replaced by ranges, and what a range put there makes of it.
-use mathlib.Core.Path.{_≡_, refl, sym, ap, _∙_}
+use mathlib.Core.Path.{_≡_, refl, ap, _∙_}
 use mathlib.Core.List.{List, [], _∷_, _++_, append-assoc}
 use Prim.Native.Nat.{ℕ, zero, suc, _+_, _-_, _*_, _≤_, _<_}
 use native.Mathlib.Numerals.{add-one}
 use native.Mathlib.Omega.{arith}
 use lib.ListN.{length, take, drop, getD, length-append, length-set, take-append-drop}
-use lib.Seq.{drop-append-add, drop-cons, drop-drop, getD-drop, length-take-le}
+use lib.Seq.{drop-cons, getD-drop, length-take-le}
 use Rattle.lists.specs.Over.{over}
 use Rattle.lists.proofs.Over.{over-push, getD-over-past}
 use Rattle.model.specs.Store.{Range}
@@ -153,14 +153,3 @@ unfolding over
 over-rangesAt s n h =
     let e : flat (rangesAt s 0 n) ≡ take (3 * n) s = flat-rangesAt s 0 n (omega arith) in
     rw (e, length-take-le (3 * n) s h) (take-append-drop (3 * n) s)
-
--- of two replacements the longer counts, where it is the second
-pub over-longer : (p q d : List ℕ) → length q ≤ length p → over p (over q d) ≡ over p d
-unfolding over
-over-longer p q d h =
-    let e : length p ≡ length q + (length p - length q) = omega arith in
-    ap (λ (l : List ℕ). p ++ l)
-    (ap (λ (n : ℕ). drop n (q ++ drop (length q) d)) e
-    ∙ drop-append-add q (drop (length q) d) (length p - length q)
-    ∙ drop-drop (length p - length q) (length q) d
-    ∙ ap (λ (n : ℕ). drop n d) (sym e))

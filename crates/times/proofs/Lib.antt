@@ -1,0 +1,4 @@
+pub mod TimeLaws
+pub mod Inserting
+pub mod Sorting
+pub mod FingerLaws
