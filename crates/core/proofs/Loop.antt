@@ -18,7 +18,7 @@ use Rattle.slots.specs.Slots.{linkedTo, madeTo}
 use Rattle.slots.proofs.Growth.{length-madeTo}
 use Rattle.ranges.specs.Words.{flat}
 use Rattle.queue.specs.declared.Taking.{Taking}
-use Rattle.queue.specs.State.{Queue, held, taken, rest}
+use Rattle.queue.specs.State.{Queue, poolsIn, taken, rest}
 use Rattle.worker.specs.declared.Doing.{Doing}
 use Rattle.worker.specs.declared.Doing.the-variants.{FlushRead, FlushFree}
 use Rattle.worker.specs.declared.Pool.{Pool}
@@ -63,7 +63,7 @@ stateOf up h row newest free queue lens merged kinds numbers last =
     record { up = up; memory = memory h (rowOf row) newest free queue lens merged; kinds = kinds; numbers = numbers; last = last }
 
 -- k records of the bytes are applied, from the state S on, and T is the state now
-pub record Running (S : State) (bytes : List ℕ) (count k : ℕ) (T : State) : Type 0 where
+pub record SoFar (S : State) (bytes : List ℕ) (count k : ℕ) (T : State) : Type 0 where
   pub inside : k ≤ count
   pub state : T ≡ after S bytes k
   -- memory that counts as set up has at most sixteen workers
@@ -94,7 +94,7 @@ empty-is i = record { slots = padded-nil 64 i; lows = padded-nil 64 i; highs = p
 
 -- What is known once record k is decided: it reads as r and names worker w, and g is the decision.
 pub record Decides (S : State) (bytes : List ℕ) (count k : ℕ) (T : State) (r : Decoded) (w : ℕ) (g : Gate) : Type 0 where
-  pub running : Running S bytes count k T
+  pub soFar : SoFar S bytes count k T
   pub more : k < count
   pub reads : decodedOf r ≡ Model.decode (recordAt bytes k)
   pub worker : w ≡ whoOf r % 16
@@ -105,13 +105,13 @@ pub record Decides (S : State) (bytes : List ℕ) (count k : ℕ) (T : State) (r
 -- by what the loop's locals and its calls are known to be
 pub deciding : (row : List (List ℕ)) {S : State} {bytes : List ℕ} {count k : ℕ} {up : Bool} {h : Hub}
     {newest free queue lens merged kinds numbers : List ℕ} {last : Answer} {r : Decoded} {w : ℕ} {g : Gate}
-    → Running S bytes count k (stateOf up h row newest free queue lens merged kinds numbers last) → k < count
+    → SoFar S bytes count k (stateOf up h row newest free queue lens merged kinds numbers last) → k < count
     → decodedOf r ≡ Model.decode (recordAt bytes k) → w ≡ whoOf r % 16
     → g ≡ gateOf r up (h .p) (h .v) (length row) (getD (h .workers) w nobody .doing) (getD (h .workers) w nobody .announced)
     → Decides S bytes count k (stateOf up h row newest free queue lens merged kinds numbers last) r w g
 deciding row {up = up} {h = h} {r = r} {w = w} R more reads worker decided =
     record {
-      running = R;
+      soFar = R;
       more = more;
       reads = reads;
       worker = worker;
@@ -134,8 +134,8 @@ module _ {S : State} {bytes : List ℕ} {count k : ℕ} {T : State} {r : Decoded
   abbrev x : Worker
   x = workerIn h w
 
-  R : Running S bytes count k T
-  R = D .running
+  R : SoFar S bytes count k T
+  R = D .soFar
 
   read-as : r ≡ decodedIn b
   read-as = decoded-back r ∙ ap decodedRep (D .reads)
@@ -163,7 +163,7 @@ module _ {S : State} {bytes : List ℕ} {count k : ℕ} {T : State} {r : Decoded
   on-gate : (g′ : Gate) (u : Bool) (q : Result) (kinds numbers : List ℕ) (last : Answer) → g ≡ g′ → u ≡ (T .up || makes g′) → obeyIn m g′ ≡ q
       → (u ≡ true → q .memory .hub .p ≤ 16) → length (q .memory .slots) ≡ length (m .slots) → length (q .memory .hub .workers) ≡ 16
       → Wrote (q .answer) kinds numbers last
-      → Running S bytes count (k + 1) (record { up = u; memory = q .memory; kinds = kinds; numbers = numbers; last = last })
+      → SoFar S bytes count (k + 1) (record { up = u; memory = q .memory; kinds = kinds; numbers = numbers; last = last })
   unfolding after next doneAs
   on-gate g′ u q kinds numbers last eg eu eq few row sixteen z =
       let d : doneAs (T .up) m b ≡ q = ap (obeyIn m) (gate ∙ eg) ∙ eq in
@@ -191,7 +191,7 @@ module _ {S : State} {bytes : List ℕ} {count k : ℕ} {T : State} {r : Decoded
   -- Refused, set up, begun
 
   pub on-refuse : (n : ℕ) (kinds numbers : List ℕ) (last : Answer) → g ≡ Refuse n → Wrote (No n) kinds numbers last
-      → Running S bytes count (k + 1) (record { up = T .up; memory = m; kinds = kinds; numbers = numbers; last = last })
+      → SoFar S bytes count (k + 1) (record { up = T .up; memory = m; kinds = kinds; numbers = numbers; last = last })
   unfolding obeyIn
   on-refuse n kinds numbers last e z = on-gate (Refuse n) (T .up) _ kinds numbers last e (or-false (T .up)) refl (R .few) refl (R .sixteen) z
 
@@ -201,7 +201,7 @@ module _ {S : State} {bytes : List ℕ} {count k : ℕ} {T : State} {r : Decoded
   pub on-make : (p v n t : ℕ) (h′ : Hub) (slots newest free : List _) (kinds numbers : List ℕ) (last : Answer) → g ≡ Make p v n t
       → h′ ≡ freshHub p v n t → slots ≡ madeTo (m .slots) v n → newest ≡ fillTo (m .newest) short v
       → free ≡ fillTo (m .free) (λ j. short (n - 1 - j)) (h′ .free) → Wrote Ok kinds numbers last
-      → Running S bytes count (k + 1)
+      → SoFar S bytes count (k + 1)
       (record { up = true; memory = memory h′ slots newest free (m .queue) (m .lens) (m .merged); kinds = kinds; numbers = numbers; last = last })
   unfolding obeyIn setUpIn
   on-make p v n t h′ slots newest free kinds numbers last e eh es en ef z =
@@ -223,7 +223,7 @@ module _ {S : State} {bytes : List ℕ} {count k : ℕ} {T : State} {r : Decoded
       (n .1 ∙ omega arith, omega arith)
 
   pub on-start : (v : ℕ) (d : Doing) (kinds numbers : List ℕ) (last : Answer) → g ≡ Start v d → Wrote Ok kinds numbers last
-      → Running S bytes count (k + 1)
+      → SoFar S bytes count (k + 1)
       (record { up = T .up; memory = withHub m (withWorkersIn h (set (h .workers) w (atPlace x d))); kinds = kinds; numbers = numbers; last = last })
   unfolding obeyIn
   on-start v d kinds numbers last e z =
@@ -265,7 +265,7 @@ module _ {S : State} {bytes : List ℕ} {count k : ℕ} {T : State} {r : Decoded
 
     on-go : (s′ : Next) (q : Result) (kinds numbers : List ℕ) (last : Answer) → s ≡ s′ → nextIn m′ w x s′ ≡ q → q .memory .hub .p ≡ h .p
         → length (q .memory .slots) ≡ length row → length (q .memory .hub .workers) ≡ 16 → Wrote (q .answer) kinds numbers last
-        → Running S bytes count (k + 1) (record { up = T .up; memory = q .memory; kinds = kinds; numbers = numbers; last = last })
+        → SoFar S bytes count (k + 1) (record { up = T .up; memory = q .memory; kinds = kinds; numbers = numbers; last = last })
     on-go s′ q kinds numbers last f n ep er es z =
         on-gate (Go w) (T .up) q kinds numbers last (e ∙ ap Go (of-worker .0)) (or-false (T .up)) (goes s′ f ∙ n)
         (λ u. subst (λ (y : ℕ). y ≤ 16) (sym ep) (R .few u)) (er ∙ long) es z
@@ -274,7 +274,7 @@ module _ {S : State} {bytes : List ℕ} {count k : ℕ} {T : State} {r : Decoded
     replaced y = length-set (h .workers) w y ∙ R .sixteen
 
     pub on-taken : (o : Outcome) (kinds numbers : List ℕ) (last : Answer) → s ≡ Taken o → Wrote (o .answer) kinds numbers last
-        → Running S bytes count (k + 1)
+        → SoFar S bytes count (k + 1)
         (record {
           up = T .up;
           memory =
@@ -294,7 +294,7 @@ module _ {S : State} {bytes : List ℕ} {count k : ℕ} {T : State} {r : Decoded
     -- put (3)
     pub on-hand-in : (c : ℕ) (a : Handed) (kinds numbers : List ℕ) (last : Answer) → s ≡ HandIn c → a ≡ putHandInStep row (x .pool) c (h .p)
         → Wrote (a .answer) kinds numbers last
-        → Running S bytes count (k + 1)
+        → SoFar S bytes count (k + 1)
         (record {
           up = T .up;
           memory =
@@ -317,10 +317,10 @@ module _ {S : State} {bytes : List ℕ} {count k : ℕ} {T : State} {r : Decoded
     -- flush (1)
     pub on-take : (a : Taking) (queue lens merged : List ℕ) (kinds numbers : List ℕ) (last : Answer) → s ≡ Take
         → (a .count ≡ length (taken (queueIn m)))
-        × ((held queue lens (a .counts) ≡ rest (queueIn m))
+        × ((poolsIn queue lens (a .counts) ≡ rest (queueIn m))
         × (merged ≡ withPart (m .merged) w (over (flat (taken (queueIn m))) (partOf (m .merged) w))))
         → Wrote Going kinds numbers last
-        → Running S bytes count (k + 1)
+        → SoFar S bytes count (k + 1)
         (record {
           up = T .up;
           memory =
@@ -352,13 +352,13 @@ module _ {S : State} {bytes : List ℕ} {count k : ℕ} {T : State} {r : Decoded
               row newest (m .free) (q .queue) (q .lens) d;
           answer = Going;
         } in
-        on-go Take (left (a .count) (held queue lens (a .counts)) merged) kinds numbers last f (λ i. left (sym ec i) (sym eq i) (sym em i)) refl refl
+        on-go Take (left (a .count) (poolsIn queue lens (a .counts)) merged) kinds numbers last f (λ i. left (sym ec i) (sym eq i) (sym em i)) refl refl
         (replaced _) z
 
     -- flush (2)
     pub on-read : (n j : ℕ) (times : List ℕ) (kinds numbers : List ℕ) (last : Answer) → s ≡ Read n j
         → times ≡ flushReadStep (x .times) j (workerIn h (j % 16) .announced) → Wrote Going kinds numbers last
-        → Running S bytes count (k + 1)
+        → SoFar S bytes count (k + 1)
         (record {
           up = T .up;
           memory =
@@ -387,9 +387,9 @@ module _ {S : State} {bytes : List ℕ} {count k : ℕ} {T : State} {r : Decoded
     -- flush (3)
     pub on-split : (n : ℕ) (a : Parted) (queue lens merged : List ℕ) (kinds numbers : List ℕ) (last : Answer) → s ≡ Split n
         → a .left ≡ splitLeft (m .merged) w n (x .times) (h .p) (x .pool)
-        → held queue lens (a .counts) ≡ splitQueue (queueIn m) (m .merged) w n (x .times) (h .p) (x .pool)
+        → poolsIn queue lens (a .counts) ≡ splitQueue (queueIn m) (m .merged) w n (x .times) (h .p) (x .pool)
         → merged ≡ splitMerged (m .merged) w n (x .times) (h .p) (x .pool) → Wrote Going kinds numbers last
-        → Running S bytes count (k + 1)
+        → SoFar S bytes count (k + 1)
         (record {
           up = T .up;
           memory =
@@ -420,7 +420,7 @@ module _ {S : State} {bytes : List ℕ} {count k : ℕ} {T : State} {r : Decoded
               row newest (m .free) (q .queue) (q .lens) d;
           answer = Going;
         } in
-        on-go (Split n) (left emptyPool (a .left) (held queue lens (a .counts)) merged) kinds numbers last f
+        on-go (Split n) (left emptyPool (a .left) (poolsIn queue lens (a .counts)) merged) kinds numbers last f
         (λ i. left (empty-is i) (sym el i) (sym eq i) (sym em i)) refl refl (replaced _) z
 
     -- flush (4), once the readers of all workers are moved
@@ -431,7 +431,7 @@ module _ {S : State} {bytes : List ℕ} {count k : ℕ} {T : State} {r : Decoded
         → h′ ≡ withWorkersIn (withFreeIn (withWorkersIn h (set (h .workers) w (atPlace x (FlushFree (n - 1))))) (a .free))
         (mapped (offWorker (a .slot) (a .older)) j (set (h .workers) w (atPlace x (FlushFree (n - 1)))))
         → Wrote (Freed (a .slot)) kinds numbers last
-        → Running S bytes count (k + 1)
+        → SoFar S bytes count (k + 1)
         (record { up = T .up; memory = memory h′ slots newest free (m .queue) (m .lens) (m .merged); kinds = kinds; numbers = numbers; last = last })
     unfolding nextIn freedIn
     on-free n a slots free h′ j kinds numbers last f ea es ef lo hi eh z =
@@ -465,7 +465,7 @@ ready-is h row newest free queue lens merged up linked ek eu =
 
 -- all records are applied
 pub finished : (m : Memory) (bytes kinds numbers : List ℕ) (count k : ℕ) (up : Bool) (T : State)
-    → Running (record { up = up; memory = m; kinds = kinds; numbers = numbers; last = Ok }) bytes count k T → count ≤ k → up ≡ ready m
+    → SoFar (record { up = up; memory = m; kinds = kinds; numbers = numbers; last = Ok }) bytes count k T → count ≤ k → up ≡ ready m
     → Ran m bytes kinds numbers count (T .memory) (T .kinds) (T .numbers) (T .last)
 finished m bytes kinds numbers count k up T R all tested =
     let i = R .inside in

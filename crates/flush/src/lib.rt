@@ -4,7 +4,7 @@ ghost use Prim.Native.Nat.{_<_};
 ghost use lib.ListN.{length};
 ghost use Rattle.lists.specs.Over.{over};
 ghost use Rattle.ranges.specs.Words.{flat};
-ghost use Rattle.queue.specs.State.{held, taken, rest};
+ghost use Rattle.queue.specs.State.{poolsIn, taken, rest};
 ghost use Rattle.versions.specs.Versions.{rowOf};
 ghost use Rattle.flush.specs.Flush.{putHandInStep, partOf, withPart, flushReadStep};
 use queue::Counts;
@@ -57,9 +57,9 @@ fn take_into(
     w: usize,
 ) -> Taking
     requires { ⌜ (w < 16) × (length (now merged) ≡ 12288) ⌝ }
-    ensures { λ r. ⌜ r .count ≡ length (taken (held (now (queue .entry)) (now (lens .entry)) counts)) ⌝ }
-    ensures { λ r. ⌜ held (now (queue .exit)) (now (lens .exit)) (r .counts) ≡ rest (held (now (queue .entry)) (now (lens .entry)) counts) ⌝ }
-    ensures { λ _. ⌜ now (merged .exit) ≡ withPart (now (merged .entry)) w (over (flat (taken (held (now (queue .entry)) (now (lens .entry)) counts))) (partOf (now (merged .entry)) w)) ⌝ }
+    ensures { λ r. ⌜ r .count ≡ length (taken (poolsIn (now (queue .entry)) (now (lens .entry)) counts)) ⌝ }
+    ensures { λ r. ⌜ poolsIn (now (queue .exit)) (now (lens .exit)) (r .counts) ≡ rest (poolsIn (now (queue .entry)) (now (lens .entry)) counts) ⌝ }
+    ensures { λ _. ⌜ now (merged .exit) ≡ withPart (now (merged .entry)) w (over (flat (taken (poolsIn (now (queue .entry)) (now (lens .entry)) counts))) (partOf (now (merged .entry)) w)) ⌝ }
 {
     let at = 768 * w;
     let e = at + 768;
@@ -75,9 +75,9 @@ pub fn flush_take(
     w: usize,
 ) -> Taking
     requires { ⌜ w < 16 ⌝ }
-    ensures { λ r. ⌜ r .count ≡ length (taken (held (now (queue .entry)) (now (lens .entry)) counts)) ⌝ }
-    ensures { λ r. ⌜ held (now (queue .exit)) (now (lens .exit)) (r .counts) ≡ rest (held (now (queue .entry)) (now (lens .entry)) counts) ⌝ }
-    ensures { λ _. ⌜ now (merged .exit) ≡ withPart (now (merged .entry)) w (over (flat (taken (held (now (queue .entry)) (now (lens .entry)) counts))) (partOf (now (merged .entry)) w)) ⌝ }
+    ensures { λ r. ⌜ r .count ≡ length (taken (poolsIn (now (queue .entry)) (now (lens .entry)) counts)) ⌝ }
+    ensures { λ r. ⌜ poolsIn (now (queue .exit)) (now (lens .exit)) (r .counts) ≡ rest (poolsIn (now (queue .entry)) (now (lens .entry)) counts) ⌝ }
+    ensures { λ _. ⌜ now (merged .exit) ≡ withPart (now (merged .entry)) w (over (flat (taken (poolsIn (now (queue .entry)) (now (lens .entry)) counts))) (partOf (now (merged .entry)) w)) ⌝ }
 {
     take_into(queue, lens, counts, merged, w)
 }

@@ -34,9 +34,9 @@ use Rattle.slots.proofs.Row.{Slots}
 use Rattle.state.specs.declared.Hub.{Hub}
 use Rattle.state.proofs.Hub as B
 use Rattle.state.proofs.Hub.Laws as B′
-use Rattle.hub.specs.declared.Left.{Left}
-use Rattle.hub.proofs.Left as L
-use Rattle.hub.proofs.Left.Laws as L′
+use Rattle.hub.specs.declared.Counted.{Counted}
+use Rattle.hub.proofs.Counted as L
+use Rattle.hub.proofs.Counted.Laws as L′
 use Rattle.hub.proofs.Lends.{Ends, call-on}
 use Rattle.hub.proofs.Passed.{Buffer, BufferLeft, buffer-vals, buffer-list, buffer-own, buffer-end, buffer-ends, AllDone, SameLong}
 use Rattle.hub.proofs.Values.{hub-vals, left-vals}
@@ -47,7 +47,7 @@ abbrev pub ApplyAll : {M : Type 1} (𝓤 : URA M) (H : Heap 𝓤) (A : Atoms �
 ApplyAll 𝓤 H A mem run = tripleOf 𝓤 H A apply-all.signature (apply-all.spec 𝓤 H A mem run)
 
 -- what is said of the slots before and after
-abbrev pub Through : Hub → List Slot → Buffer → Left → List Slot → BufferLeft → Type 0
+abbrev pub Through : Hub → List Slot → Buffer → Counted → List Slot → BufferLeft → Type 0
 Through h ys x r zs z = (rest-of 2048 zs ≡ rest-of 2048 ys) × AllDone h (take 2048 ys) x (r .count) (r .hub) (take 2048 zs) z
 
 module _ {M : Type 1} (𝓤 : URA M) (H : Heap 𝓤) (A : Atoms 𝓤) (W : Given 𝓤 H A) (mem : Memory → SProp 𝓤) (run : Routine → Fun 𝓤)
@@ -69,13 +69,13 @@ module _ {M : Type 1} (𝓤 : URA M) (H : Heap 𝓤) (A : Atoms 𝓤) (W : Given
   abbrev Last : Type 0
   Last = List Slot × (Unit {0} × BufferLeft)
 
-  abbrev Says : Left → Last → Type 0
+  abbrev Says : Counted → Last → Type 0
   Says r l = Through h ys x r (l .0) (l .1 .1) × SameLong x (l .1 .1)
 
-  abbrev Said : Lft → GName → Left → SProp 𝓤
+  abbrev Said : Lft → GName → Counted → SProp 𝓤
   Said ν δ = ensured 𝓤 H A apply-all.ended (apply-all.clauses 𝓤 H A mem run) (ν, ks) (slice b o δ ys, (h, x)) tt
 
-  said : (ν : Lft) (δ : GName) (r : Left)
+  said : (ν : Lft) (δ : GName) (r : Counted)
       → ent 𝓤 (Said ν δ r) (mean 𝓤 H A (Ends T.the-row ys Last (λ l. l .0) (λ l. ‵ (buffer-end x (l .1 .1))) (Says r) δ))
   said ν δ r = exE 𝓤 _ (λ (l : Last). let D : Type 0 = Through h ys x r (l .0) (l .1 .1) in
       qed W (‵ (lasts apply-all.ended (ν, ks) (slice b o δ ys, (h, x)) l) ∷ raw (fact 𝓤 D) ∷ []) ∵
@@ -94,7 +94,7 @@ module _ {M : Type 1} {𝓤 : URA M} {H : Heap 𝓤} {A : Atoms 𝓤} {K : Type 
       → (n b o : ℕ) (ys : List Slot) → length ys ≡ n → Room T.the-row n → (h : Hub) (ks : Lfts 8) (qs : Shares 8) (x : Buffer)
       → Is B.the-row h (hub-vals h)
       → ((i j : Item 𝓤) → Opds K W (i ∷ j ∷ Γ) E xs (sliceVal (b, o) n ∷ only (hub-vals h) ∷ buffer-list x))
-      → ((r : Left) (zs : List Slot) (z : BufferLeft) → Through h ys x r zs z × SameLong x z → length zs ≡ n → Is L.the-row r (left-vals r)
+      → ((r : Counted) (zs : List Slot) (z : BufferLeft) → Through h ys x r zs z × SameLong x z → length zs ≡ n → Is L.the-row r (left-vals r)
       → Seq K W (‵ (Slots κ n b o γ zs) ∷ ‵ (flft κ p) ∷ raw (toks 𝓤 A 8 ks qs) ∷ ‵ (buffer-end x z) ∷ Γ)
       (lands C Λ E dst (only (left-vals r)) rest q))
       → Seq K W (‵ (Slots κ n b o γ ys) ∷ ‵ (flft κ p) ∷ raw (toks 𝓤 A 8 ks qs) ∷ ‵ (buffer-own ks x) ∷ Γ)

@@ -165,11 +165,11 @@ module _ {M : Type 1} {𝓤 : URA M} {H : Heap 𝓤} {A : Atoms 𝓤} (W : Given
           ∷ ‵ (froom tyUnit l₀ 0) ∷ ‵ (fdies tyUnit l₀) ∷ []
 
       -- what is to hold where the loop is left, and after a turn
-      abbrev Left : Kit.Post 𝓤 H
-      Left = anyQ (afterBlock 𝓤 H (afterSeq 𝓤 H (Wp 𝓤 H C Λ En (rest-body R₀ R₁) (atReturn 𝓤 H En Post)) (atReturn 𝓤 H En Post)))
+      abbrev Afterwards : Kit.Post 𝓤 H
+      Afterwards = anyQ (afterBlock 𝓤 H (afterSeq 𝓤 H (Wp 𝓤 H C Λ En (rest-body R₀ R₁) (atReturn 𝓤 H En Post)) (atReturn 𝓤 H En Post)))
 
       abbrev Turned : At → Kit.Post 𝓤 H
-      Turned x = anyQ (afterTurn 𝓤 H (Below 𝓤 H A ≺ I x) (Kit.post 𝓤 H Left))
+      Turned x = anyQ (afterTurn 𝓤 H (Below 𝓤 H A ≺ I x) (Kit.post 𝓤 H Afterwards))
 
       turn-at : (t : ℕ) (i : t ≤ n) (us : List (R₁ .Denot)) (l : length us ≡ length ws) (e : view us ≡ copiedTo slots (view ws) (n - t))
           → Sq W (I (at t i us l e)) (runs C Λ En (turn-body R₀ R₁ σ f₀ f₁) (Turned (at t i us l e)))

@@ -36,11 +36,11 @@ use Rattle.state.proofs.Hub as B
 use Rattle.state.proofs.Hub.Laws as B′
 use Rattle.versions.specs.Versions.{rowOf}
 use Rattle.hub.specs.declared.Applied.{Applied}
-use Rattle.hub.specs.declared.Left.{Left}
+use Rattle.hub.specs.declared.Counted.{Counted}
 use Rattle.hub.proofs.Applied as P
 use Rattle.hub.proofs.Applied.Laws as P′
-use Rattle.hub.proofs.Left as L
-use Rattle.hub.proofs.Left.Laws as L′
+use Rattle.hub.proofs.Counted as L
+use Rattle.hub.proofs.Counted.Laws as L′
 use Rattle.hub.proofs.Lends.{Ends, call-on}
 use Rattle.hub.proofs.Passed.{Single, SingleLeft, single-vals, single-list, single-own, single-end, OneDone, Buffer, BufferLeft, buffer-vals}
 use Rattle.hub.proofs.Passed.{buffer-list, buffer-own, buffer-end, buffer-ends, AllDone, SameLong}
@@ -117,13 +117,13 @@ module _ {M : Type 1} (𝓤 : URA M) (H : Heap 𝓤) (A : Atoms 𝓤) (W : Given
   abbrev Last-all : Type 0
   Last-all = List (List ℕ) × (Unit {0} × (Unit {0} × BufferLeft))
 
-  abbrev Says-all : Left → Last-all → Type 0
+  abbrev Says-all : Counted → Last-all → Type 0
   Says-all r l = AllDone h (take k (rowOf ws)) x (r .count) (r .hub) (take k (rowOf (l .0))) (l .1 .1 .1) × SameLong x (l .1 .1 .1)
 
-  abbrev Said-all : Lft → GName → Left → SProp 𝓤
+  abbrev Said-all : Lft → GName → Counted → SProp 𝓤
   Said-all ν δ = ensured 𝓤 H A run-all.ended (run-all.clauses 𝓤 H A mem run) (ν, ks) (slice b o δ ws, (k, (h, x))) tt
 
-  said-all : (ν : Lft) (δ : GName) (r : Left) → ent 𝓤 (Said-all ν δ r) (mean 𝓤 H A
+  said-all : (ν : Lft) (δ : GName) (r : Counted) → ent 𝓤 (Said-all ν δ r) (mean 𝓤 H A
       (Ends Words ws Last-all (λ l. l .0) (λ l. ‵ (buffer-end x (l .1 .1 .1))) (Says-all r) δ))
   said-all ν δ r =
       exE 𝓤 _ (λ (l : Last-all). let D : Type 0 = AllDone h (take k (rowOf ws)) x (r .count) (r .hub) (take k (rowOf (l .0)))
@@ -164,7 +164,7 @@ module _ {M : Type 1} {𝓤 : URA M} {H : Heap 𝓤} {A : Atoms 𝓤} {K : Type 
       → (n b o : ℕ) (ws : List (List ℕ)) → length ws ≡ n → Room Words n → (k : ℕ) (h : Hub) (ks : Lfts 8) (qs : Shares 8) (x : Buffer) → k < 2 ^ 64
       → Is B.the-row h (hub-vals h) → k ≤ length ws
       → ((i j : Item 𝓤) → Opds K W (i ∷ j ∷ Γ) E xs (sliceVal (b, o) n ∷ vint w64 k ∷ only (hub-vals h) ∷ buffer-list x))
-      → ((r : Left) (zs : List (List ℕ)) (z : BufferLeft) → AllDone h (take k (rowOf ws)) x (r .count) (r .hub) (take k (rowOf zs)) z × SameLong x z
+      → ((r : Counted) (zs : List (List ℕ)) (z : BufferLeft) → AllDone h (take k (rowOf ws)) x (r .count) (r .hub) (take k (rowOf zs)) z × SameLong x z
       → length zs ≡ n → Is L.the-row r (left-vals r)
       → Seq K W (‵ (Row κ n b o γ zs) ∷ ‵ (flft κ p) ∷ raw (toks 𝓤 A 8 ks qs) ∷ ‵ (buffer-end x z) ∷ Γ) (lands C Λ E dst (only (left-vals r)) rest q))
       → Seq K W (‵ (Row κ n b o γ ws) ∷ ‵ (flft κ p) ∷ raw (toks 𝓤 A 8 ks qs) ∷ ‵ (buffer-own ks x) ∷ Γ)

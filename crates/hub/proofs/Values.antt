@@ -15,13 +15,13 @@ use Rattle.state.specs.declared.Hub.{Hub}
 use Rattle.state.proofs.Hub as B
 use Rattle.state.proofs.Hub.Laws as B′
 use Rattle.hub.specs.declared.Applied.{Applied}
-use Rattle.hub.specs.declared.Left.{Left}
+use Rattle.hub.specs.declared.Counted.{Counted}
 use Rattle.hub.specs.declared.Owned.{Owned}
 use Rattle.hub.specs.declared.Answered.{Answered}
 use Rattle.hub.proofs.Applied as P
 use Rattle.hub.proofs.Applied.Laws as P′
-use Rattle.hub.proofs.Left as L
-use Rattle.hub.proofs.Left.Laws as L′
+use Rattle.hub.proofs.Counted as L
+use Rattle.hub.proofs.Counted.Laws as L′
 use Rattle.hub.proofs.Owned as O
 use Rattle.hub.proofs.Owned.Laws as O′
 use Rattle.hub.proofs.Answered as N
@@ -33,7 +33,7 @@ hub-vals = LL.vals B.the-type B′.the-laws
 abbrev pub applied-vals : Applied → List Val
 applied-vals = LL.vals P.the-type P′.the-laws
 
-abbrev pub left-vals : Left → List Val
+abbrev pub left-vals : Counted → List Val
 left-vals = LL.vals L.the-type L′.the-laws
 
 abbrev pub owned-vals : Owned → List Val
@@ -49,7 +49,7 @@ module _ {M : Type 1} (𝓤 : URA M) (H : Heap 𝓤) (A : Atoms 𝓤) (W : Given
   pub typed-applied : (u : Applied) → Is P.the-row u (applied-vals u) → Holds (hasTy P′.mir (only (applied-vals u))) × WT (only (applied-vals u))
   typed-applied u g = LL.lawful P.the-type P′.the-laws 𝓤 H A W .typed u (applied-vals u) g .0
 
-  pub typed-left : (u : Left) → Is L.the-row u (left-vals u) → Holds (hasTy L′.mir (only (left-vals u))) × WT (only (left-vals u))
+  pub typed-left : (u : Counted) → Is L.the-row u (left-vals u) → Holds (hasTy L′.mir (only (left-vals u))) × WT (only (left-vals u))
   typed-left u g = LL.lawful L.the-type L′.the-laws 𝓤 H A W .typed u (left-vals u) g .0
 
   pub typed-owned : (u : Owned) → Is O.the-row u (owned-vals u) → Holds (hasTy O′.mir (only (owned-vals u))) × WT (only (owned-vals u))

@@ -173,7 +173,7 @@ pub fn apply(
 // ---- a buffer of records
 
 // What is left of the hub by value, and how many records were applied.
-pub struct Left {
+pub struct Counted {
     pub hub: Hub,
     pub count: usize,
 }
@@ -191,7 +191,7 @@ fn run_all(
     queue: &mut [u32; 6144],
     lens: &mut [u32; 2048],
     merged: &mut [u32; 12288],
-) -> Left
+) -> Counted
     requires { ⌜ n ≤ length (now row) ⌝ }
     ensures { λ r. ⌜
         Applies
@@ -233,7 +233,7 @@ fn run_all(
         merged,
     );
     let left = done.hub;
-    Left { hub: left, count }
+    Counted { hub: left, count }
 }
 
 // Applies the records of the bytes, as many as there is room for answers: the kind and the number of answer k stand at k.
@@ -248,7 +248,7 @@ pub fn apply_all(
     queue: &mut [u32; 6144],
     lens: &mut [u32; 2048],
     merged: &mut [u32; 12288],
-) -> Left
+) -> Counted
     ensures { λ r. ⌜
         (drop 2048 (now (slots .exit)) ≡ drop 2048 (now (slots .entry)))
         × Applies

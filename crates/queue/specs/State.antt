@@ -19,8 +19,8 @@ pub record Queue : Type 0 where
   pub queued : ℕ
 
 -- the queue in two pieces of memory with its counts
-abbrev pub held : List ℕ → List ℕ → Counts → Queue
-held queue lens counts = record { queue = queue; lens = lens; pools = counts .pools; queued = counts .queued }
+abbrev pub poolsIn : List ℕ → List ℕ → Counts → Queue
+poolsIn queue lens counts = record { queue = queue; lens = lens; pools = counts .pools; queued = counts .queued }
 
 ------------------------------------------------------------------------
 -- A pool more

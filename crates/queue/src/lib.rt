@@ -7,7 +7,7 @@ ghost use lib.ListN.{length, take, getD};
 ghost use Rattle.lists.specs.Over.{over, overAt, shifted};
 ghost use Rattle.model.specs.Ranges.{merge};
 ghost use Rattle.ranges.specs.Words.{rangesAt, flat};
-ghost use Rattle.queue.specs.State.{held, room, pushed, mayTake, Took};
+ghost use Rattle.queue.specs.State.{poolsIn, room, pushed, mayTake, Took};
 
 // How many pools are queued, and how many ranges they have together.
 pub struct Counts {
@@ -44,7 +44,7 @@ fn copy(src: &[u32], n: usize, dst: &mut [u32], to: usize)
 
 // Whether there is room for a pool of n ranges, which is not empty; what the memory holds does not matter.
 fn has_room(counts: Counts, n: usize) -> bool
-    ensures { λ r. ⌜ r ≡ room (held [] [] counts) n ⌝ }
+    ensures { λ r. ⌜ r ≡ room (poolsIn [] [] counts) n ⌝ }
 {
     if 2048 < n {
         return false;
@@ -61,7 +61,7 @@ pub fn push(
     n: usize,
 ) -> Counts
     requires { ⌜ 3 * n ≤ length (now src) ⌝ }
-    ensures { λ r. ⌜ held (now (queue .exit)) (now (lens .exit)) r ≡ pushed (held (now (queue .entry)) (now (lens .entry)) counts) (now (src .entry)) n ⌝ }
+    ensures { λ r. ⌜ poolsIn (now (queue .exit)) (now (lens .exit)) r ≡ pushed (poolsIn (now (queue .entry)) (now (lens .entry)) counts) (now (src .entry)) n ⌝ }
 {
     if has_room(counts, n) {
         let pools = counts.pools;
@@ -101,7 +101,7 @@ fn merge_two(queue: &[u32], la: usize, lb: usize, merged: &mut [u32])
 
 // Whether the counts and the first two lengths are those of a queue whose first two pools have at most 256 ranges.
 fn may_take(lens: &[u32; 2048], counts: Counts) -> bool
-    ensures { λ r. ⌜ r ≡ mayTake (held [] (now (lens .entry)) counts) ⌝ }
+    ensures { λ r. ⌜ r ≡ mayTake (poolsIn [] (now (lens .entry)) counts) ⌝ }
 {
     let pools = counts.pools;
     let queued = counts.queued;
@@ -126,8 +126,8 @@ fn take_pools(
     counts: Counts,
     merged: &mut [u32],
 ) -> Taking
-    requires { ⌜ (mayTake (held (now queue) (now lens) counts) ≡ true) × (768 ≤ length (now merged)) ⌝ }
-    ensures { λ r. ⌜ Took (held (now (queue .entry)) (now (lens .entry)) counts) (held (now (queue .exit)) (now (lens .exit)) (r .counts)) (now (merged .entry)) (now (merged .exit)) (r .count) ⌝ }
+    requires { ⌜ (mayTake (poolsIn (now queue) (now lens) counts) ≡ true) × (768 ≤ length (now merged)) ⌝ }
+    ensures { λ r. ⌜ Took (poolsIn (now (queue .entry)) (now (lens .entry)) counts) (poolsIn (now (queue .exit)) (now (lens .exit)) (r .counts)) (now (merged .entry)) (now (merged .exit)) (r .count) ⌝ }
 {
     let pools = counts.pools;
     let queued = counts.queued;
@@ -155,7 +155,7 @@ pub fn take(
     merged: &mut [u32],
 ) -> Taking
     requires { ⌜ 768 ≤ length (now merged) ⌝ }
-    ensures { λ r. ⌜ Took (held (now (queue .entry)) (now (lens .entry)) counts) (held (now (queue .exit)) (now (lens .exit)) (r .counts)) (now (merged .entry)) (now (merged .exit)) (r .count) ⌝ }
+    ensures { λ r. ⌜ Took (poolsIn (now (queue .entry)) (now (lens .entry)) counts) (poolsIn (now (queue .exit)) (now (lens .exit)) (r .counts)) (now (merged .entry)) (now (merged .exit)) (r .count) ⌝ }
 {
     if may_take(lens, counts) {
         return take_pools(queue, lens, counts, merged);

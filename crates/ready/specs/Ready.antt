@@ -32,12 +32,12 @@ poolFits q n = cond (ltb 64 (q .len)) false (belowTo (q .slots) n (q .len))
 abbrev pub listFits : ℕ → ℕ → List ℕ → ℕ → Bool
 listFits m w merged n = cond (ltb 256 m) false (slotsBelow merged (256 * w) n m)
 
-abbrev pub handIn : Named → ℕ → List ℕ → ℕ → Bool
-handIn Nothing w merged n = true
-handIn (Is m) w merged n = listFits m w merged n
+abbrev pub rangesFit : Named → ℕ → List ℕ → ℕ → Bool
+rangesFit Nothing w merged n = true
+rangesFit (Is m) w merged n = listFits m w merged n
 
 unfoldable pub handFits : Named → ℕ → List ℕ → ℕ → Bool
-handFits x w merged n = cond (leb 16 w) false (handIn x w merged n)
+handFits x w merged n = cond (leb 16 w) false (rangesFit x w merged n)
 
 -- a register or a slot, if there is one, is below n
 abbrev pub namedBelow : Named → ℕ → Bool

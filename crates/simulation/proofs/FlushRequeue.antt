@@ -55,7 +55,7 @@ words-all : (y : List Range) (d : List ℕ) → take (3 * length y) (over (flat 
 words-all y d = take-over (flat y) d (3 * length y) (length-flat y)
 
 -- of a queue that holds the pools ps: the local pool p, the needed ranges y
-module _ (ps : List (List Range)) (q : Queue) (p y : List Range) (b : ℕ) (size : length (q .lens) ≡ 2048) (held : q ≡ queueRep ps q)
+module _ (ps : List (List Range)) (q : Queue) (p y : List Range) (b : ℕ) (size : length (q .lens) ≡ 2048) (poolsIn : q ≡ queueRep ps q)
     (some : length ps ≤ length (joinedRanges ps)) (pos : 1 ≤ b) (few : length p ≤ 64)
     (room : length (joinedRanges ps) + length y + length p < 2048) where
   abbrev words : List ℕ
@@ -93,7 +93,7 @@ module _ (ps : List (List Range)) (q : Queue) (p y : List Range) (b : ℕ) (size
       let jr = joined-more qs (drop half y) in
       let lq = length-append ps (take half y ∷ []) in
       let lr = length-append qs (drop half y ∷ []) in
-      let first = push-rep-over ps q q words half (take half y) size held t (words-first y z half n) (omega arith) (omega arith) (omega arith) in
+      let first = push-rep-over ps q q words half (take half y) size poolsIn t (words-first y z half n) (omega arith) (omega arith) (omega arith) in
       let second =
       push-rep-over qs q (pushed q words half) (drop (3 * half) words) (length y - half) (drop half y) size first u
       (words-others y z half n) (omega arith) (omega arith) (omega arith) in
@@ -107,7 +107,7 @@ module _ (ps : List (List Range)) (q : Queue) (p y : List Range) (b : ℕ) (size
       let qs : List (List Range) = ps ++ (y ∷ []) in
       let jq = joined-more ps y in
       let lq = length-append ps (y ∷ []) in
-      let first = push-rep-over ps q q words (length y) y size held refl (words-all y (replicate 768 0)) (omega arith) (omega arith) (omega arith) in
+      let first = push-rep-over ps q q words (length y) y size poolsIn refl (words-all y (replicate 768 0)) (omega arith) (omega arith) (omega arith) in
       local qs _ first (omega arith) (omega arith)
 
   abbrev joined : Queue
@@ -120,7 +120,7 @@ module _ (ps : List (List Range)) (q : Queue) (p y : List Range) (b : ℕ) (size
       let a : rangesAt own 0 (length p) ≡ p = ap (λ (z : List ℕ). rangesAt z 0 (length p)) own-is ∙ rangesAt-over p (replicate 192 0) in
       let c : rangesAt words 0 (length y) ≡ y = rangesAt-over y (replicate 768 0) in
       (λ i. pushed q (over (flat (merge (a i) (c i))) (replicate 960 0)) (sym n i))
-      ∙ push-queued ps q q (over (flat l) (replicate 960 0)) l size held (words-all l (replicate 960 0)) (omega arith) (omega arith)
+      ∙ push-queued ps q q (over (flat l) (replicate 960 0)) l size poolsIn (words-all l (replicate 960 0)) (omega arith) (omega arith)
 
   -- by the two tests
   pub requeued-is : requeued q (poolRep p) words (length y) b ≡ queueRep (ps ++ neededPools b y ++ queuedPool (merge p (joining b y))) q

@@ -26,7 +26,7 @@ use Rattle.ranges.specs.Words.{flat}
 use Rattle.ranges.proofs.WordLaws.{length-flat}
 use Rattle.queue.specs.Rep.{joinedRanges}
 use Rattle.flush.specs.Flush.{partOf}
-use Rattle.ready.specs.Ready.{poolFits, listFits, handIn, handFits, placeFits, workerFits, lensSum, readyOf}
+use Rattle.ready.specs.Ready.{poolFits, listFits, rangesFit, handFits, placeFits, workerFits, lensSum, readyOf}
 use Rattle.simulation.specs.Memory.{Memory, hubRep, handWords, inHandWords, write}
 use Rattle.simulation.specs.Left.{Sized, ready}
 use Rattle.simulation.proofs.Each.{All-reverse, All-joined}
@@ -86,7 +86,7 @@ slots-of : (s : Store) (l : List Range) → All (RangeIn s) l → All (λ ρ. ρ
 slots-of s l t = All-map (λ ρ a. a .0) l t
 
 hand-yes : (s : Store) (t : ℕ) (d : Model.Doing) (w : ℕ) (merged : List ℕ) → PlaceIn s t d
-    → partOf merged w ≡ over (inHandWords d) (partOf merged w) → handIn (aboutOf (doingRep d) .ranges) w merged (s .site .N) ≡ true
+    → partOf merged w ≡ over (inHandWords d) (partOf merged w) → rangesFit (aboutOf (doingRep d) .ranges) w merged (s .site .N) ≡ true
 unfolding handWords
 hand-yes s t Model.Idle w merged a e = refl
 hand-yes s t (Model.PutPublish r x) w merged a e = refl

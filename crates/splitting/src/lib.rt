@@ -6,7 +6,7 @@ ghost use lib.ListN.{length, take};
 ghost use Rattle.lists.specs.Over.{over};
 ghost use Rattle.model.specs.Ranges.{neededOf, needlessOf};
 ghost use Rattle.ranges.specs.Words.{rangesAt, flat};
-ghost use Rattle.queue.specs.State.{held};
+ghost use Rattle.queue.specs.State.{poolsIn};
 ghost use Rattle.worker.specs.Pool.{rangesIn};
 ghost use Rattle.flush.specs.Flush.{partOf, withPart};
 ghost use Rattle.splitting.specs.Splitting.{requeued, joinedAfter, mayCut, splitLeft, splitQueue, splitMerged, splitNeeded, splitLocal, splitJoined};
@@ -125,8 +125,8 @@ pub fn flush_split(
 ) -> Parted
     ensures { λ r. ⌜ r .left ≡ splitLeft (now (merged .entry)) w m (now (times .entry)) p q ⌝ }
     ensures { λ r. ⌜
-        held (now (queue .exit)) (now (lens .exit)) (r .counts)
-        ≡ splitQueue (held (now (queue .entry)) (now (lens .entry)) counts) (now (merged .entry)) w m (now (times .entry)) p q
+        poolsIn (now (queue .exit)) (now (lens .exit)) (r .counts)
+        ≡ splitQueue (poolsIn (now (queue .entry)) (now (lens .entry)) counts) (now (merged .entry)) w m (now (times .entry)) p q
         ⌝ }
     ensures { λ _. ⌜ now (merged .exit) ≡ splitMerged (now (merged .entry)) w m (now (times .entry)) p q ⌝ }
     ensures { λ _. ⌜ now (needed .exit) ≡ splitNeeded (now (merged .entry)) w m (now (times .entry)) p q (now (needed .entry)) ⌝ }

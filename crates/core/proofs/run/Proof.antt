@@ -1,4 +1,4 @@
--- `run` meets its contract. The invariant is `Running` (Loop.antt): the records so far have done what the definition says. Each arm of the loop is
+-- `run` meets its contract. The invariant is `SoFar` (Loop.antt): the records so far have done what the definition says. Each arm of the loop is
 -- a law there. The inner loop moves the reads of the first j workers.
 use mathlib.Core.Path.{_≡_, refl, sym, ap, _∙_}
 use Prim.Native.Nat.{ℕ, _≤_, _-_, _%_}
@@ -13,7 +13,7 @@ use Rattle.simulation.specs.Buffer.{after}
 use Rattle.lists.proofs.Mapped.{mapped, length-mapped}
 use Rattle.core.proofs.Moving.{move-one, move-none}
 use Rattle.core.proofs.Tested.{ready-few}
-use Rattle.core.proofs.Loop.{stateOf, Running, words-long, deciding, below, workers, told, on-refuse}
+use Rattle.core.proofs.Loop.{stateOf, SoFar, words-long, deciding, below, workers, told, on-refuse}
 use Rattle.core.proofs.Loop.{on-make, on-start, on-taken, on-hand-in, on-take, on-read, on-split, on-free, ready-is, finished}
 use Rattle.core.proofs.run.Statement.{statement}
 use Rattle.core.proofs.run.Tie as tie
@@ -29,7 +29,7 @@ abbrev μ-loop2 : tie.MeasureT-loop2
 abbrev Inv-loop : tie.InvT-loop
 Inv-loop row₀ bytes count kinds₀ numbers₀ newest₀ free₀ queue₀ lens₀ merged₀ linked up₀ hub₀ last₀ needed₀ local₀ joined₀ k₀
     row kinds numbers newest free queue lens merged up hub last needed local joined k =
-    Running (stateOf up₀ hub₀ row₀ newest₀ free₀ queue₀ lens₀ merged₀ kinds₀ numbers₀ last₀) bytes count k
+    SoFar (stateOf up₀ hub₀ row₀ newest₀ free₀ queue₀ lens₀ merged₀ kinds₀ numbers₀ last₀) bytes count k
     (stateOf up hub row newest free queue lens merged kinds numbers last)
 
 abbrev μ-loop : tie.MeasureT-loop

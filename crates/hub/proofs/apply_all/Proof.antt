@@ -44,9 +44,9 @@ use Rattle.slots.proofs.Row.{Slots}
 use Rattle.state.specs.declared.Hub.{Hub}
 use Rattle.state.proofs.Hub as B
 use Rattle.state.proofs.Hub.Laws as B′
-use Rattle.hub.specs.declared.Left.{Left}
-use Rattle.hub.proofs.Left as L
-use Rattle.hub.proofs.Left.Laws as L′
+use Rattle.hub.specs.declared.Counted.{Counted}
+use Rattle.hub.proofs.Counted as L
+use Rattle.hub.proofs.Counted.Laws as L′
 use Rattle.hub.proofs.Rows.{through}
 use Rattle.hub.proofs.Lends.{big-lit}
 use Rattle.hub.proofs.Local.{lends-local, takes-back}
@@ -103,10 +103,10 @@ module _ {M : Type 1} (𝓤 : URA M) (H : Heap 𝓤) (A : Atoms 𝓤) (W : Given
   Fin = walkOf 𝓤 H A f.ended stayed (f.clauses 𝓤 H A mem run) .post (((κ, ks), (q, qs), tt, (slice b o γ ys, (hub, x)), at), tt)
 
   -- what is said of the slots before and after
-  abbrev Did : Left → BufferLeft → List Slot → List Slot → Type 0
+  abbrev Did : Counted → BufferLeft → List Slot → List Slot → Type 0
   Did r z us vs = AllDone hub us x (r .count) (r .hub) vs z
 
-  exits : (zs : List Slot) (r : Left) (z : BufferLeft) → (rest-of 2048 zs ≡ rest-of 2048 ys) × Did r z (take 2048 ys) (take 2048 zs) → length zs ≡ n
+  exits : (zs : List Slot) (r : Counted) (z : BufferLeft) → (rest-of 2048 zs ≡ rest-of 2048 ys) × Did r z (take 2048 ys) (take 2048 zs) → length zs ≡ n
       → SameLong x z → Is L.the-row r (left-vals r)
       → ent 𝓤 (⋆ 𝓤 H A (‵ (Slots κ n b o γ zs) ∷ ‵ (flft κ q) ∷ raw (toks 𝓤 A 8 ks qs) ∷ ‵ (buffer-end x z) ∷ [])) (Fin (only (left-vals r)))
   exits zs r z e l long g =

@@ -47,10 +47,10 @@ use Rattle.slots.proofs.Row.{vals, tells, makes}
 use Rattle.state.specs.declared.Hub.{Hub}
 use Rattle.state.proofs.Hub as B
 use Rattle.state.proofs.Hub.Laws as B′
-use Rattle.hub.specs.declared.Left.{Left}
+use Rattle.hub.specs.declared.Counted.{Counted}
 use Rattle.hub.specs.declared.Owned.{Owned}
-use Rattle.hub.proofs.Left as L
-use Rattle.hub.proofs.Left.Laws as L′
+use Rattle.hub.proofs.Counted as L
+use Rattle.hub.proofs.Counted.Laws as L′
 use Rattle.hub.proofs.Owned as O
 use Rattle.hub.proofs.Owned.Laws as O′
 use Rattle.hub.proofs.Lends.{big-lit}
@@ -87,10 +87,10 @@ module _ {M : Type 1} (𝓤 : URA M) (H : Heap 𝓤) (A : Atoms 𝓤) (W : Given
   Fin = walkOf 𝓤 H A f.ended stayed (f.clauses 𝓤 H A mem run) .post ((ks, qs, tt, (ys, (hub, x)), at), tt)
 
   -- what is given back
-  abbrev back : Left → List Slot → Owned
+  abbrev back : Counted → List Slot → Owned
   back r zs = record { hub = r .hub; slots = zs; count = r .count }
 
-  is-back : (r : Left) (zs : List Slot) → Is L.the-row r (left-vals r) → Is (Array T.the-row 2048) zs (array-vals vals zs)
+  is-back : (r : Counted) (zs : List Slot) → Is L.the-row r (left-vals r) → Is (Array T.the-row 2048) zs (array-vals vals zs)
       → Is O.the-row (back r zs) (owned-vals (back r zs))
   is-back r zs gr gz = LL.owes O.the-type O′.the-laws (back r zs) (
     LL.owed L.the-type L′.the-laws r _ gr .0,
@@ -98,12 +98,12 @@ module _ {M : Type 1} (𝓤 : URA M) (H : Heap 𝓤) (A : Atoms 𝓤) (W : Given
   )
 
   -- 2048 slots are all that the door reads
-  all-of-them : (r : Left) (zs : List Slot) (z : BufferLeft) → length zs ≡ 2048 → Through hub ys x r zs z → AllDone hub ys x (r .count) (r .hub) zs z
+  all-of-them : (r : Counted) (zs : List Slot) (z : BufferLeft) → length zs ≡ 2048 → Through hub ys x r zs z → AllDone hub ys x (r .count) (r .hub) zs z
   all-of-them r zs z long e =
       subst (λ (us : List Slot). AllDone hub us x (r .count) (r .hub) zs z) (take-all 2048 ys (omega (arith, gy .1 .0 .1)))
       (subst (λ (us : List Slot). AllDone hub (take 2048 ys) x (r .count) (r .hub) us z) (take-all 2048 zs (omega arith)) (e .1))
 
-  exits : (r : Left) (zs : List Slot) (z : BufferLeft) → AllDone hub ys x (r .count) (r .hub) zs z → SameLong x z
+  exits : (r : Counted) (zs : List Slot) (z : BufferLeft) → AllDone hub ys x (r .count) (r .hub) zs z → SameLong x z
       → Is O.the-row (back r zs) (owned-vals (back r zs))
       → ent 𝓤 (⋆ 𝓤 H A (raw (toks 𝓤 A 8 ks qs) ∷ ‵ (buffer-end x z) ∷ [])) (Fin (only (owned-vals (back r zs))))
   exits r zs z e long g =

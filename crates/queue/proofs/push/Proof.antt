@@ -2,7 +2,7 @@
 use mathlib.Core.Path.{sym, _∙_}
 use mathlib.Core.List.{[]}
 use Prim.Native.Nat.{_+_, _≤_, _<_}
-use Rattle.queue.specs.State.{held, room, pushed}
+use Rattle.queue.specs.State.{poolsIn, room, pushed}
 use Rattle.queue.proofs.StateLaws.{room-facts}
 use borrow.Author.Needs.{needs}
 use native.Mathlib.Omega.{arith}
@@ -12,7 +12,7 @@ use Rattle.queue.proofs.push.Tie as tie
 -- the pool has room
 fits : (c : tie.Then1) → (0 < c .before .before .before .args .n) × (c .before .before .before .args .counts .pools < 2048)
     × (c .before .before .before .args .counts .queued + c .before .before .before .args .n ≤ 2048)
-fits c = let a = c .before .before .before .args in room-facts (held [] [] (a .counts)) (a .n) (sym (c .before .has-room .ensures) ∙ c .if1 .taken)
+fits c = let a = c .before .before .before .args in room-facts (poolsIn [] [] (a .counts)) (a .n) (sym (c .before .has-room .ensures) ∙ c .if1 .taken)
 
 has-room-requires : tie.Need-has-room-requires
 has-room-requires c κs = search needs

@@ -3,7 +3,7 @@
 use mathlib.Core.Path.{ap, _∙_}
 use Prim.Native.Nat.{ℕ, _+_, _≤_}
 use Rattle.lists.specs.Over.{shifted}
-use Rattle.queue.specs.State.{held}
+use Rattle.queue.specs.State.{poolsIn}
 use Rattle.queue.proofs.StateLaws.{may-facts, took}
 use borrow.Author.Needs.{needs}
 use native.Mathlib.Omega.{arith}
@@ -12,7 +12,7 @@ use Rattle.queue.proofs.take_pools.Tie as tie
 
 -- there are no more pools than lengths
 listed : (s : tie.Start) → s .args .counts .pools ≤ 2048
-listed s = may-facts (held (s .args .queue .now) (s .args .lens .now) (s .args .counts)) (s .pre .0) .0
+listed s = may-facts (poolsIn (s .args .queue .now) (s .args .lens .now) (s .args .counts)) (s .pre .0) .0
 
 -- the queue's ranges are in its memory, and the first two pools' are among them and have room
 few : (c : tie.After-length-at2) → (c .before .before .before .before .before .before .before .args .counts .queued ≤ 2048)
@@ -21,7 +21,7 @@ few : (c : tie.After-length-at2) → (c .before .before .before .before .before 
     × (c .before .before .before .length-at .result + c .length-at2 .result ≤ 256)
 few c =
     let s = c .before .before .before .before .before .before .before in
-    let h = may-facts (held (s .args .queue .now) (s .args .lens .now) (s .args .counts)) (s .pre .0) in
+    let h = may-facts (poolsIn (s .args .queue .now) (s .args .lens .now) (s .args .counts)) (s .pre .0) in
     omega (arith, c .before .before .before .length-at .ensures .0, c .length-at2 .ensures .0)
 
 length-at-requires : tie.Need-length-at-requires
@@ -70,7 +70,7 @@ returns c =
     let left =
     c .before .shift2 .ensures ∙ ap (λ (n : ℕ). shifted (a .lens .now) n (a .counts .pools))
     (c .before .before .before .at-most-two .ensures) in
-    took (held (a .queue .now) (a .lens .now) (a .counts)) _ _ (a .merged .now) _ (t .before .before .before .length-at .result)
+    took (poolsIn (a .queue .now) (a .lens .now) (a .counts)) _ _ (a .merged .now) _ (t .before .before .before .length-at .result)
     (t .length-at2 .result) (c .less-two .result) (s .pre .0) (t .before .before .before .length-at .ensures .0)
     (t .length-at2 .ensures .0) (c .before .before .before .before .before .before .before .before .merge-two .ensures)
     (c .before .before .before .before .shift .ensures) left (c .less-two .ensures)
