@@ -118,7 +118,7 @@ fn names(idle: bool, register: Named, slot: Named, ranges: Named, read: u8, stan
     }
 }
 
-// What is asked of a place: here it is taken nowhere.
+// What is asked of a place: here it is taken apart.
 pub fn about(d: Doing) -> Facts
     ensures { λ r. ⌜ r ≡ aboutOf d ⌝ }
 {
