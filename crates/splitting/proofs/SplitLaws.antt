@@ -1,5 +1,5 @@
 -- Flush (3): the counts that allow a split, and the split and the pools queued, put together, as what it answers and leaves, whatever the
--- space that it works in poolsIn.
+-- space that it works in held.
 use mathlib.Core.Path.{_≡_, refl, ap, _∙_}
 use mathlib.Core.Bool.{Bool, true, false, cond, not, _&&_}
 use mathlib.Core.List.{List, [], _∷_, reverse}
