@@ -34,9 +34,9 @@ use Rattle.slots.proofs.Row.{Slots}
 use Rattle.state.specs.declared.Hub.{Hub}
 use Rattle.state.proofs.Hub as B
 use Rattle.state.proofs.Hub.Laws as B′
-use Rattle.hub.specs.declared.Counted.{Counted}
-use Rattle.hub.proofs.Counted as L
-use Rattle.hub.proofs.Counted.Laws as L′
+use Rattle.runs.specs.declared.Counted.{Counted}
+use Rattle.runs.proofs.Counted as L
+use Rattle.runs.proofs.Counted.Laws as L′
 use Rattle.hub.proofs.Lends.{Ends, call-on}
 use Rattle.hub.proofs.Passed.{Buffer, BufferLeft, buffer-vals, buffer-list, buffer-own, buffer-end, buffer-ends, AllDone, SameLong}
 use Rattle.hub.proofs.Values.{hub-vals, left-vals}

@@ -1,6 +1,5 @@
 pub mod Buffers
 pub mod Copying
-pub mod First
 pub mod Front
 pub mod Growth
 pub mod Handed

@@ -29,7 +29,7 @@ use Rattle.simulation.specs.Buffer.{Applies}
 use Rattle.simulation.specs.Public.{Does}
 use Rattle.simulation.specs.Demands.{Bytes}
 use Rattle.simulation.proofs.Cut.{does-whole}
-use Rattle.hub.specs.Doors.{One}
+use Rattle.runs.specs.Runs.{One}
 use Rattle.hub.proofs.Known.{Learns, array-long, bytes-small, no-thing, and-more}
 
 -- ---- the five arrays

@@ -35,21 +35,21 @@ use Rattle.state.specs.declared.Hub.{Hub}
 use Rattle.state.proofs.Hub as B
 use Rattle.state.proofs.Hub.Laws as B′
 use Rattle.versions.specs.Versions.{rowOf}
-use Rattle.hub.specs.declared.Applied.{Applied}
-use Rattle.hub.specs.declared.Counted.{Counted}
-use Rattle.hub.proofs.Applied as P
-use Rattle.hub.proofs.Applied.Laws as P′
-use Rattle.hub.proofs.Counted as L
-use Rattle.hub.proofs.Counted.Laws as L′
+use Rattle.runs.specs.declared.Applied.{Applied}
+use Rattle.runs.specs.declared.Counted.{Counted}
+use Rattle.runs.proofs.Applied as P
+use Rattle.runs.proofs.Applied.Laws as P′
+use Rattle.runs.proofs.Counted as L
+use Rattle.runs.proofs.Counted.Laws as L′
 use Rattle.hub.proofs.Lends.{Ends, call-on}
 use Rattle.hub.proofs.Passed.{Single, SingleLeft, single-vals, single-list, single-own, single-end, OneDone, Buffer, BufferLeft, buffer-vals}
 use Rattle.hub.proofs.Passed.{buffer-list, buffer-own, buffer-end, buffer-ends, AllDone, SameLong}
 use Rattle.hub.proofs.Values.{hub-vals, applied-vals, left-vals}
 use Rattle.hub.proofs.Words.{Words, Row}
-use Rattle.hub.proofs.run_one as run-one
-use Rattle.hub.proofs.run_one.Symbol.{name as #hub·run-one}
-use Rattle.hub.proofs.run_all as run-all
-use Rattle.hub.proofs.run_all.Symbol.{name as #hub·run-all}
+use Rattle.runs.proofs.run_one as run-one
+use Rattle.runs.proofs.run_one.Symbol.{name as #runs·run-one}
+use Rattle.runs.proofs.run_all as run-all
+use Rattle.runs.proofs.run_all.Symbol.{name as #runs·run-all}
 
 module _ {M : Type 1} (𝓤 : URA M) (H : Heap 𝓤) (A : Atoms 𝓤) (mem : Memory → SProp 𝓤) (run : Routine → Fun 𝓤) where
   abbrev pub RunOne : Contract 𝓤
@@ -139,7 +139,7 @@ module _ {M : Type 1} (𝓤 : URA M) (H : Heap 𝓤) (A : Atoms 𝓤) (W : Given
 module _ {M : Type 1} {𝓤 : URA M} {H : Heap 𝓤} {A : Atoms 𝓤} {K : Type 0} {W : Given 𝓤 H A} {Γ : List (Item 𝓤)} {E : Env 𝓤 H}
     {C : Calls 𝓤 H} {Λ : Loops 𝓤 H}
     {q : Post 𝓤 H} {dst : Place} {rest : Body} {xs : List Operand} {κ : Lft} {p : Share} {γ : GName} where
-  pub call-run-one : (t : K) (mem : Memory → SProp 𝓤) (run : Routine → Fun 𝓤) → FmC 𝓤 H (W .laws) C → Triple 𝓤 (C #hub·run-one) (RunOne 𝓤 H A mem run)
+  pub call-run-one : (t : K) (mem : Memory → SProp 𝓤) (run : Routine → Fun 𝓤) → FmC 𝓤 H (W .laws) C → Triple 𝓤 (C #runs·run-one) (RunOne 𝓤 H A mem run)
       → (n b o : ℕ) (ws : List (List ℕ)) → length ws ≡ n → Room Words n → (k : ℕ) (h : Hub) (ks : Lfts 6) (qs : Shares 6) (x : Single) → k < 2 ^ 64
       → Is B.the-row h (hub-vals h) → k ≤ length ws
       → ((i j : Item 𝓤) → Opds K W (i ∷ j ∷ Γ) E xs (sliceVal (b, o) n ∷ vint w64 k ∷ only (hub-vals h) ∷ single-list x))
@@ -149,7 +149,7 @@ module _ {M : Type 1} {𝓤 : URA M} {H : Heap 𝓤} {A : Atoms 𝓤} {K : Type 
       → Seq K W (‵ (Row κ n b o γ zs) ∷ ‵ (flft κ p) ∷ raw (toks 𝓤 A 6 ks qs) ∷ ‵ (single-end x z) ∷ Γ)
       (lands C Λ E dst (only (applied-vals r)) rest q))
       → Seq K W (‵ (Row κ n b o γ ws) ∷ ‵ (flft κ p) ∷ raw (toks 𝓤 A 6 ks qs) ∷ ‵ (single-own ks x) ∷ Γ)
-      (runs C Λ E (seq (call #hub·run-one xs dst) rest) q)
+      (runs C Λ E (seq (call #runs·run-one xs dst) rest) q)
   call-run-one t mem run fm known n b o ws len room k h ks qs x gk gh within os next =
       move t (2 ∷ 3 ∷ []) $ join t $ move t (1 ∷ 2 ∷ 0 ∷ []) $
       call-on t fm (RunOne 𝓤 H A mem run) known P.the-row applied-vals (LL.tells P.the-type P′.the-laws) Words n b o ws len room
@@ -160,7 +160,7 @@ module _ {M : Type 1} {𝓤 : URA M} {H : Heap 𝓤} {A : Atoms 𝓤} {K : Type 
       (Says-one 𝓤 H A W mem run n b o ws k h ks qs x) (λ ν. id⊢ 𝓤 _) (goes-one 𝓤 H A W mem run n b o ws k h ks qs x gk gh within) (λ ν δ w. id⊢ 𝓤 _)
       (said-one 𝓤 H A W mem run n b o ws k h ks qs x) (λ ν δ. os) (λ r l. next r (l .0) (l .1 .1 .1))
 
-  pub call-run-all : (t : K) (mem : Memory → SProp 𝓤) (run : Routine → Fun 𝓤) → FmC 𝓤 H (W .laws) C → Triple 𝓤 (C #hub·run-all) (RunAll 𝓤 H A mem run)
+  pub call-run-all : (t : K) (mem : Memory → SProp 𝓤) (run : Routine → Fun 𝓤) → FmC 𝓤 H (W .laws) C → Triple 𝓤 (C #runs·run-all) (RunAll 𝓤 H A mem run)
       → (n b o : ℕ) (ws : List (List ℕ)) → length ws ≡ n → Room Words n → (k : ℕ) (h : Hub) (ks : Lfts 8) (qs : Shares 8) (x : Buffer) → k < 2 ^ 64
       → Is B.the-row h (hub-vals h) → k ≤ length ws
       → ((i j : Item 𝓤) → Opds K W (i ∷ j ∷ Γ) E xs (sliceVal (b, o) n ∷ vint w64 k ∷ only (hub-vals h) ∷ buffer-list x))
@@ -168,7 +168,7 @@ module _ {M : Type 1} {𝓤 : URA M} {H : Heap 𝓤} {A : Atoms 𝓤} {K : Type 
       → length zs ≡ n → Is L.the-row r (left-vals r)
       → Seq K W (‵ (Row κ n b o γ zs) ∷ ‵ (flft κ p) ∷ raw (toks 𝓤 A 8 ks qs) ∷ ‵ (buffer-end x z) ∷ Γ) (lands C Λ E dst (only (left-vals r)) rest q))
       → Seq K W (‵ (Row κ n b o γ ws) ∷ ‵ (flft κ p) ∷ raw (toks 𝓤 A 8 ks qs) ∷ ‵ (buffer-own ks x) ∷ Γ)
-      (runs C Λ E (seq (call #hub·run-all xs dst) rest) q)
+      (runs C Λ E (seq (call #runs·run-all xs dst) rest) q)
   call-run-all t mem run fm known n b o ws len room k h ks qs x gk gh within os next =
       move t (2 ∷ 3 ∷ []) $ join t $ move t (1 ∷ 2 ∷ 0 ∷ []) $
       call-on t fm (RunAll 𝓤 H A mem run) known L.the-row left-vals (LL.tells L.the-type L′.the-laws) Words n b o ws len room

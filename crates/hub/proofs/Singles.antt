@@ -32,9 +32,9 @@ use Rattle.slots.proofs.Row.{Slots}
 use Rattle.state.specs.declared.Hub.{Hub}
 use Rattle.state.proofs.Hub as B
 use Rattle.state.proofs.Hub.Laws as B′
-use Rattle.hub.specs.declared.Applied.{Applied}
-use Rattle.hub.proofs.Applied as P
-use Rattle.hub.proofs.Applied.Laws as P′
+use Rattle.runs.specs.declared.Applied.{Applied}
+use Rattle.runs.proofs.Applied as P
+use Rattle.runs.proofs.Applied.Laws as P′
 use Rattle.hub.proofs.Lends.{Ends, call-on}
 use Rattle.hub.proofs.Passed.{Single, SingleLeft, single-vals, single-list, single-own, single-end, SingleDoes}
 use Rattle.hub.proofs.Values.{hub-vals, applied-vals}

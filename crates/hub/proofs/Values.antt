@@ -14,14 +14,14 @@ use denote.Struct.Laws as LL
 use Rattle.state.specs.declared.Hub.{Hub}
 use Rattle.state.proofs.Hub as B
 use Rattle.state.proofs.Hub.Laws as B′
-use Rattle.hub.specs.declared.Applied.{Applied}
-use Rattle.hub.specs.declared.Counted.{Counted}
+use Rattle.runs.specs.declared.Applied.{Applied}
+use Rattle.runs.specs.declared.Counted.{Counted}
 use Rattle.hub.specs.declared.Owned.{Owned}
 use Rattle.hub.specs.declared.Answered.{Answered}
-use Rattle.hub.proofs.Applied as P
-use Rattle.hub.proofs.Applied.Laws as P′
-use Rattle.hub.proofs.Counted as L
-use Rattle.hub.proofs.Counted.Laws as L′
+use Rattle.runs.proofs.Applied as P
+use Rattle.runs.proofs.Applied.Laws as P′
+use Rattle.runs.proofs.Counted as L
+use Rattle.runs.proofs.Counted.Laws as L′
 use Rattle.hub.proofs.Owned as O
 use Rattle.hub.proofs.Owned.Laws as O′
 use Rattle.hub.proofs.Answered as N

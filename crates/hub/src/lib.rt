@@ -1,12 +1,14 @@
 // The doors to the loop over the records (crate `core`): the slots as one lent row of structs, of any length. The first 2048 of them are read
 // into words, the loop runs on the words, and they are written back.
 ghost use mathlib.Core.Path.{_≡_};
-ghost use Prim.Native.Nat.{_+_, _/_, _≤_, min};
-ghost use lib.ListN.{length, replicate, take, drop};
+ghost use Prim.Native.Nat.{min};
+ghost use lib.ListN.{replicate, take, drop};
 ghost use Rattle.versions.specs.Versions.{rowOf};
 ghost use Rattle.simulation.specs.Public.{Does};
 ghost use Rattle.simulation.specs.Buffer.{Applies};
-ghost use Rattle.hub.specs.Doors.{copiedTo, One};
+ghost use Rattle.hub.specs.Doors.{copiedTo};
+use runs::Applied;
+use runs::Counted;
 use slots::Slot;
 use state::Hub;
 use values::Answer;
@@ -44,89 +46,7 @@ fn zeros() -> [[u64; 5]; 2048]
     [[0u64; 5]; 2048]
 }
 
-fn at_most(n: usize, most: usize) -> usize
-    ensures { λ r. ⌜ (r ≡ min n most) × (r ≤ most) ⌝ }
-{
-    if n < most {
-        return n;
-    }
-    most
-}
-
-// How many records n bytes are. A rest of fewer than sixteen is one more.
-fn count_records(n: usize) -> usize
-    ensures { λ r. ⌜ r ≡ (n + 15) / 16 ⌝ }
-{
-    if n % 16 == 0 {
-        return n / 16;
-    }
-    n / 16 + 1
-}
-
 // ---- one record
-
-// What a record leaves of the hub by value, and what it is answered.
-pub struct Applied {
-    pub hub: Hub,
-    pub answer: Answer,
-}
-
-// One record on the first n slots of the words.
-fn run_one(
-    row: &mut [[u64; 5]],
-    n: usize,
-    hub: Hub,
-    rec: &[u8],
-    newest: &mut [u16; 256],
-    free: &mut [u16; 2048],
-    queue: &mut [u32; 6144],
-    lens: &mut [u32; 2048],
-    merged: &mut [u32; 12288],
-) -> Applied
-    requires { ⌜ n ≤ length (now row) ⌝ }
-    ensures { λ r. ⌜
-        One
-        (record {
-          hub = hub;
-          slots = take n (rowOf (now (row .entry)));
-          newest = now (newest .entry);
-          free = now (free .entry);
-          queue = now (queue .entry);
-          lens = now (lens .entry);
-          merged = now (merged .entry);
-        })
-        (now (rec .entry))
-        (record {
-          hub = r .hub;
-          slots = take n (rowOf (now (row .exit)));
-          newest = now (newest .exit);
-          free = now (free .exit);
-          queue = now (queue .exit);
-          lens = now (lens .exit);
-          merged = now (merged .exit);
-        })
-        (r .answer)
-        ⌝ }
-{
-    let mut kinds = [0u8; 1];
-    let mut numbers = [0u64; 1];
-    let done = core::run(
-        &mut row[0..n],
-        hub,
-        rec,
-        1,
-        &mut kinds,
-        &mut numbers,
-        newest,
-        free,
-        queue,
-        lens,
-        merged,
-    );
-    let left = done.hub;
-    let answer = done.last;
-    Applied { hub: left, answer }
-}
 
 // One record, of any bytes and any number of them, on any lent memory.
 pub fn apply(
@@ -163,78 +83,14 @@ pub fn apply(
         ⌝ }
 {
     let mut row = zeros();
-    let n = at_most(slots.len(), 2048);
+    let n = runs::at_most(slots.len(), 2048);
     load_row(slots, &mut row, n);
-    let done = run_one(&mut row, n, hub, rec, newest, free, queue, lens, merged);
+    let done = runs::run_one(&mut row, n, hub, rec, newest, free, queue, lens, merged);
     store_row(&row, slots, n);
     done
 }
 
 // ---- a buffer of records
-
-// What is left of the hub by value, and how many records were applied.
-pub struct Counted {
-    pub hub: Hub,
-    pub count: usize,
-}
-
-// The records of the bytes, as many as there is room for answers, on the first n slots of the words.
-fn run_all(
-    row: &mut [[u64; 5]],
-    n: usize,
-    hub: Hub,
-    bytes: &[u8],
-    kinds: &mut [u8],
-    numbers: &mut [u64],
-    newest: &mut [u16; 256],
-    free: &mut [u16; 2048],
-    queue: &mut [u32; 6144],
-    lens: &mut [u32; 2048],
-    merged: &mut [u32; 12288],
-) -> Counted
-    requires { ⌜ n ≤ length (now row) ⌝ }
-    ensures { λ r. ⌜
-        Applies
-        (record {
-          hub = hub;
-          slots = take n (rowOf (now (row .entry)));
-          newest = now (newest .entry);
-          free = now (free .entry);
-          queue = now (queue .entry);
-          lens = now (lens .entry);
-          merged = now (merged .entry);
-        })
-        (now (bytes .entry)) (now (kinds .entry)) (now (numbers .entry)) (r .count)
-        (record {
-          hub = r .hub;
-          slots = take n (rowOf (now (row .exit)));
-          newest = now (newest .exit);
-          free = now (free .exit);
-          queue = now (queue .exit);
-          lens = now (lens .exit);
-          merged = now (merged .exit);
-        })
-        (now (kinds .exit)) (now (numbers .exit))
-        ⌝ }
-{
-    let room = at_most(kinds.len(), numbers.len());
-    let count = at_most(count_records(bytes.len()), room);
-    let done = core::run(
-        &mut row[0..n],
-        hub,
-        bytes,
-        count,
-        kinds,
-        numbers,
-        newest,
-        free,
-        queue,
-        lens,
-        merged,
-    );
-    let left = done.hub;
-    Counted { hub: left, count }
-}
 
 // Applies the records of the bytes, as many as there is room for answers: the kind and the number of answer k stand at k.
 pub fn apply_all(
@@ -275,9 +131,9 @@ pub fn apply_all(
         ⌝ }
 {
     let mut row = zeros();
-    let n = at_most(slots.len(), 2048);
+    let n = runs::at_most(slots.len(), 2048);
     load_row(slots, &mut row, n);
-    let done = run_all(
+    let done = runs::run_all(
         &mut row,
         n,
         hub,
@@ -405,7 +261,7 @@ pub fn apply_row(
         ⌝ }
 {
     let mut slots = row;
-    let n = at_most(long, 2048);
+    let n = runs::at_most(long, 2048);
     let done = apply(
         &mut slots[0..n],
         hub,

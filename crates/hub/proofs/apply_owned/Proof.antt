@@ -47,10 +47,10 @@ use Rattle.slots.proofs.Row.{vals, tells, makes}
 use Rattle.state.specs.declared.Hub.{Hub}
 use Rattle.state.proofs.Hub as B
 use Rattle.state.proofs.Hub.Laws as B′
-use Rattle.hub.specs.declared.Counted.{Counted}
+use Rattle.runs.specs.declared.Counted.{Counted}
 use Rattle.hub.specs.declared.Owned.{Owned}
-use Rattle.hub.proofs.Counted as L
-use Rattle.hub.proofs.Counted.Laws as L′
+use Rattle.runs.proofs.Counted as L
+use Rattle.runs.proofs.Counted.Laws as L′
 use Rattle.hub.proofs.Owned as O
 use Rattle.hub.proofs.Owned.Laws as O′
 use Rattle.hub.proofs.Lends.{big-lit}

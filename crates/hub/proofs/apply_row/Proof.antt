@@ -50,10 +50,10 @@ use Rattle.slots.proofs.Row.{vals, tells, makes}
 use Rattle.state.specs.declared.Hub.{Hub}
 use Rattle.state.proofs.Hub as B
 use Rattle.state.proofs.Hub.Laws as B′
-use Rattle.hub.specs.declared.Applied.{Applied}
+use Rattle.runs.specs.declared.Applied.{Applied}
 use Rattle.hub.specs.declared.Answered.{Answered}
-use Rattle.hub.proofs.Applied as P
-use Rattle.hub.proofs.Applied.Laws as P′
+use Rattle.runs.proofs.Applied as P
+use Rattle.runs.proofs.Applied.Laws as P′
 use Rattle.hub.proofs.Answered as N
 use Rattle.hub.proofs.Answered.Laws as N′
 use Rattle.hub.proofs.Lends.{big-lit}
@@ -65,9 +65,9 @@ use Rattle.hub.proofs.Passed.{Single, SingleLeft, single-types, single-
 use Rattle.hub.proofs.Handed.{single-gave, single-go}
 use Rattle.hub.proofs.Moves.{AtMost, call-at-most}
 use Rattle.hub.proofs.Singles.{Apply, call-apply}
-use Rattle.hub.proofs.at_most.Symbol as at-most-def
-use Rattle.hub.proofs.at_most.Symbol.{name as #hub·at-most}
-use Rattle.hub.proofs.at_most.Met as at-most-thm
+use Rattle.runs.proofs.at_most.Symbol as at-most-def
+use Rattle.runs.proofs.at_most.Symbol.{name as #runs·at-most}
+use Rattle.runs.proofs.at_most.Met as at-most-thm
 use Rattle.hub.proofs.apply.Symbol as apply-def
 use Rattle.hub.proofs.apply.Symbol.{name as #hub·apply}
 use Rattle.hub.proofs.apply.Met as apply-thm
@@ -139,7 +139,7 @@ module _ {M : Type 1} (𝓤 : URA M) (H : Heap 𝓤) (A : Atoms 𝓤) (W : Given
       says ! e $ frame ! $ nothing ! $ fjoin ! $ nothing ! $ fjoin ! $ nothing ! $ fjoin ! $ nothing ! $ fjoin ! $ frame ! $
       owned ! N.the-row (Is N.the-row) (LL.makes N.the-type N′.the-plain 𝓤 H A) (back r us) (answered-vals (back r us)) g $ done !
 
-  module _ (𝓣 : Tables 𝓤 H) (known-most : Triple 𝓤 (𝓣 .C #hub·at-most) (AtMost 𝓤 H A mem run))
+  module _ (𝓣 : Tables 𝓤 H) (known-most : Triple 𝓤 (𝓣 .C #runs·at-most) (AtMost 𝓤 H A mem run))
       (known : Triple 𝓤 (𝓣 .C #hub·apply) (Apply 𝓤 H A mem run)) where
     abbrev fm : FmC 𝓤 H (W .laws) (𝓣 .C)
     fm = fmOf 𝓤 H (W .laws) 𝓣
@@ -213,7 +213,7 @@ module _ {M : Type 1} (𝓤 : URA M) (H : Heap 𝓤) (A : Atoms 𝓤) (W : Given
         by ! (exits r (joined zs) z (said r zs z long e) (is-back r (joined zs) gr gz))))))))))))))))))))))))))))))))
 
 module _ {M : Type 1} (𝓤 : URA M) (H : Heap 𝓤) (A : Atoms 𝓤) (W : Given 𝓤 H A) (mem : Memory → SProp 𝓤) (run : Routine → Fun 𝓤) (𝓣 : Tables 𝓤 H)
-    (known-most : Triple 𝓤 (𝓣 .C #hub·at-most) (AtMost 𝓤 H A mem run)) (known : Triple 𝓤 (𝓣 .C #hub·apply) (Apply 𝓤 H A mem run)) where
+    (known-most : Triple 𝓤 (𝓣 .C #runs·at-most) (AtMost 𝓤 H A mem run)) (known : Triple 𝓤 (𝓣 .C #hub·apply) (Apply 𝓤 H A mem run)) where
   apply-row-walks : Walks 𝓤 H A f.ended stayed (WpFn 𝓤 H (𝓣 .C) (𝓣 .Λ) code.function) (f.clauses 𝓤 H A mem run)
   apply-row-walks =
       walked 𝓤 H A f.ended stayed (f.clauses 𝓤 H A mem run) (WpFn 𝓤 H (𝓣 .C) (𝓣 .Λ) code.function)
@@ -237,5 +237,5 @@ apply-row-spec 𝓤 H 𝓜 𝓖 𝓡 =
     entered 𝓤 H (tripleOf 𝓤 H (𝓖 .A) f.signature (f.spec 𝓤 H (𝓖 .A) (𝓜 .mem) (𝓡 .run)))
     (tables 𝓤 H 𝓜 𝓡 code.env .C) (tables 𝓤 H 𝓜 𝓡 code.env .Λ) #hub·apply-row code.function (code.unfolded 𝓤 H 𝓜 𝓡)
     (apply-row-meets 𝓤 H (𝓖 .A) (givenOf 𝓤 H 𝓜 𝓖) (𝓜 .mem) (𝓡 .run) (tablesOf 𝓤 H 𝓜 (tables 𝓤 H 𝓜 𝓡 code.env))
-    (cited 𝓤 H (AtMost 𝓤 H (𝓖 .A) (𝓜 .mem) (𝓡 .run)) 𝓜 𝓡 code.env #hub·at-most at-most-def.routine code.calls-hub·at-most (at-most-thm.met 𝓤 H 𝓜 𝓖 𝓡))
+    (cited 𝓤 H (AtMost 𝓤 H (𝓖 .A) (𝓜 .mem) (𝓡 .run)) 𝓜 𝓡 code.env #runs·at-most at-most-def.routine code.calls-runs·at-most (at-most-thm.met 𝓤 H 𝓜 𝓖 𝓡))
     (cited 𝓤 H (Apply 𝓤 H (𝓖 .A) (𝓜 .mem) (𝓡 .run)) 𝓜 𝓡 code.env #hub·apply apply-def.routine code.calls-hub·apply (apply-thm.met 𝓤 H 𝓜 𝓖 𝓡)))

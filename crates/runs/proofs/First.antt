@@ -18,7 +18,7 @@ use Rattle.simulation.specs.Memory.{Memory}
 use Rattle.simulation.specs.Left.{ready}
 use Rattle.simulation.specs.Shell.{Result, obeyIn, doneAs, doneOf}
 use Rattle.simulation.specs.Buffer.{after, next, Ran}
-use Rattle.hub.specs.Doors.{One}
+use Rattle.runs.specs.Runs.{One}
 
 -- the number in n bytes below the sixteenth, and whether they are zero
 number-first : (b : List ℕ) (i n : ℕ) → i + n ≤ 16 → number (take 16 b) i n ≡ number b i n

@@ -1,9 +1,9 @@
 -- `run_one` meets its contract: the loop ran for one record on the first n words, which are the first n slots of the row.
 use borrow.Author.Needs.{needs}
-use Rattle.hub.proofs.First.{one-ran}
-use Rattle.hub.proofs.Rows.{ran-within}
-use Rattle.hub.proofs.run_one.Statement.{statement}
-use Rattle.hub.proofs.run_one.Tie as tie
+use Rattle.runs.proofs.First.{one-ran}
+use Rattle.runs.proofs.Within.{ran-within}
+use Rattle.runs.proofs.run_one.Statement.{statement}
+use Rattle.runs.proofs.run_one.Tie as tie
 
 sub-run : tie.Need-sub-run
 sub-run c = search needs

@@ -3,9 +3,9 @@
 use mathlib.Core.Path.{_∙_}
 use Prim.Native.Nat.{min}
 use borrow.Author.Needs.{needs}
-use Rattle.hub.proofs.Rows.{ran-within}
-use Rattle.hub.proofs.run_all.Statement.{statement}
-use Rattle.hub.proofs.run_all.Tie as tie
+use Rattle.runs.proofs.Within.{ran-within}
+use Rattle.runs.proofs.run_all.Statement.{statement}
+use Rattle.runs.proofs.run_all.Tie as tie
 
 at-most-requires : tie.Need-at-most-requires
 at-most-requires c κs = search needs

@@ -1,0 +1,12 @@
+-- What the loop leaves and answers for one record.
+use mathlib.Core.Path.{_≡_}
+use mathlib.Core.List.{List}
+use Prim.Native.Nat.{ℕ}
+use Rattle.values.specs.declared.Answer.{Answer}
+use Rattle.simulation.specs.Memory.{Memory}
+use Rattle.simulation.specs.Shell.{doneOf}
+
+-- a record of the bytes b met the memory m, left the memory m′ and was answered y
+pub record One (m : Memory) (b : List ℕ) (m′ : Memory) (y : Answer) : Type 0 where
+  pub memory : m′ ≡ doneOf m b .memory
+  pub answer : y ≡ doneOf m b .answer

@@ -1,0 +1,159 @@
+// The loop over the records (crate `core`) run on the first n slots of a row of words: for one record, and for as many as there is room for.
+ghost use mathlib.Core.Path.{_≡_};
+ghost use Prim.Native.Nat.{_+_, _/_, _≤_, min};
+ghost use lib.ListN.{length, take};
+ghost use Rattle.versions.specs.Versions.{rowOf};
+ghost use Rattle.simulation.specs.Buffer.{Applies};
+ghost use Rattle.runs.specs.Runs.{One};
+use state::Hub;
+use values::Answer;
+
+pub fn at_most(n: usize, most: usize) -> usize
+    ensures { λ r. ⌜ (r ≡ min n most) × (r ≤ most) ⌝ }
+{
+    if n < most {
+        return n;
+    }
+    most
+}
+
+// How many records n bytes are. A rest of fewer than sixteen is one more.
+fn count_records(n: usize) -> usize
+    ensures { λ r. ⌜ r ≡ (n + 15) / 16 ⌝ }
+{
+    if n % 16 == 0 {
+        return n / 16;
+    }
+    n / 16 + 1
+}
+
+// ---- one record
+
+// What a record leaves of the hub by value, and what it is answered.
+pub struct Applied {
+    pub hub: Hub,
+    pub answer: Answer,
+}
+
+// One record on the first n slots of the words.
+pub fn run_one(
+    row: &mut [[u64; 5]],
+    n: usize,
+    hub: Hub,
+    rec: &[u8],
+    newest: &mut [u16; 256],
+    free: &mut [u16; 2048],
+    queue: &mut [u32; 6144],
+    lens: &mut [u32; 2048],
+    merged: &mut [u32; 12288],
+) -> Applied
+    requires { ⌜ n ≤ length (now row) ⌝ }
+    ensures { λ r. ⌜
+        One
+        (record {
+          hub = hub;
+          slots = take n (rowOf (now (row .entry)));
+          newest = now (newest .entry);
+          free = now (free .entry);
+          queue = now (queue .entry);
+          lens = now (lens .entry);
+          merged = now (merged .entry);
+        })
+        (now (rec .entry))
+        (record {
+          hub = r .hub;
+          slots = take n (rowOf (now (row .exit)));
+          newest = now (newest .exit);
+          free = now (free .exit);
+          queue = now (queue .exit);
+          lens = now (lens .exit);
+          merged = now (merged .exit);
+        })
+        (r .answer)
+        ⌝ }
+{
+    let mut kinds = [0u8; 1];
+    let mut numbers = [0u64; 1];
+    let done = core::run(
+        &mut row[0..n],
+        hub,
+        rec,
+        1,
+        &mut kinds,
+        &mut numbers,
+        newest,
+        free,
+        queue,
+        lens,
+        merged,
+    );
+    let left = done.hub;
+    let answer = done.last;
+    Applied { hub: left, answer }
+}
+
+// ---- a buffer of records
+
+// What is left of the hub by value, and how many records were applied.
+pub struct Counted {
+    pub hub: Hub,
+    pub count: usize,
+}
+
+// The records of the bytes, as many as there is room for answers, on the first n slots of the words.
+pub fn run_all(
+    row: &mut [[u64; 5]],
+    n: usize,
+    hub: Hub,
+    bytes: &[u8],
+    kinds: &mut [u8],
+    numbers: &mut [u64],
+    newest: &mut [u16; 256],
+    free: &mut [u16; 2048],
+    queue: &mut [u32; 6144],
+    lens: &mut [u32; 2048],
+    merged: &mut [u32; 12288],
+) -> Counted
+    requires { ⌜ n ≤ length (now row) ⌝ }
+    ensures { λ r. ⌜
+        Applies
+        (record {
+          hub = hub;
+          slots = take n (rowOf (now (row .entry)));
+          newest = now (newest .entry);
+          free = now (free .entry);
+          queue = now (queue .entry);
+          lens = now (lens .entry);
+          merged = now (merged .entry);
+        })
+        (now (bytes .entry)) (now (kinds .entry)) (now (numbers .entry)) (r .count)
+        (record {
+          hub = r .hub;
+          slots = take n (rowOf (now (row .exit)));
+          newest = now (newest .exit);
+          free = now (free .exit);
+          queue = now (queue .exit);
+          lens = now (lens .exit);
+          merged = now (merged .exit);
+        })
+        (now (kinds .exit)) (now (numbers .exit))
+        ⌝ }
+{
+    let room = at_most(kinds.len(), numbers.len());
+    let count = at_most(count_records(bytes.len()), room);
+    let done = core::run(
+        &mut row[0..n],
+        hub,
+        bytes,
+        count,
+        kinds,
+        numbers,
+        newest,
+        free,
+        queue,
+        lens,
+        merged,
+    );
+    let left = done.hub;
+    Counted { hub: left, count }
+}
