@@ -47,7 +47,7 @@ unfoldable pub linkSlots : List Slot → ℕ → ℕ → Reading → List Slot
 linkSlots l c f x = set (change l c (λ v. setNewer v f)) f (published x c)
 
 -- Unlink slot c: its neighbours become each other's. The slot's own neighbours are then absent: a free slot has none, so that the
--- test of lent memory has one rule for every slot (docs/DECISIONS.md, "Free slots").
+-- test of lent memory has one rule for every slot (docs/DECISIONS.md, "Neighbours of free slots").
 unfoldable pub unlinkSlots : List Slot → ℕ → List Slot
 unlinkSlots l c =
     let o = getD l c slot₀ .older in
