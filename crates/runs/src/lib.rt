@@ -8,6 +8,7 @@ ghost use Rattle.runs.specs.Runs.{One};
 use state::Hub;
 use values::Answer;
 
+// The smaller of the two numbers.
 pub fn at_most(n: usize, most: usize) -> usize
     ensures { λ r. ⌜ (r ≡ min n most) × (r ≤ most) ⌝ }
 {
