@@ -4,8 +4,7 @@ use Prim.Native.Nat.{ℕ, zero, suc, _<_, _%_}
 use Rattle.values.specs.declared.Answer.{Answer}
 use Rattle.values.specs.declared.Answer.the-variants.{Ok, Going, Freed, At, Value, Done, No}
 
--- the kinds in the order of document 01, "The log":
--- "`ok` (set up or begun), `going`, `freed S` (slot), `at T`, `value X`, `done`, or `no` and the refusal"
+-- the kinds, in the order of H10.3
 abbrev pub kindOf : Answer → ℕ
 kindOf Ok = 0
 kindOf Going = 1

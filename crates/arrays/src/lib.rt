@@ -13,7 +13,7 @@ pub fn set_short(l: &mut [u16], i: usize, x: usize)
     }
 }
 
-// "register r has the one version in slot r": the first v registers' newest versions.
+// H2.9: the newest version of register r is in slot r, for the first v registers.
 pub fn fill_newest(newest: &mut [u16; 256], v: usize)
     ensures { λ _. ⌜ now (newest .exit) ≡ fillTo (now (newest .entry)) short v ⌝ }
 {
@@ -22,7 +22,7 @@ pub fn fill_newest(newest: &mut [u16; 256], v: usize)
     }
 }
 
-// "Slots V to N−1 are free, V taken first": the k free slots from n - k on, the first of them last.
+// H2.10: the k free slots from n - k on. The lowest is taken first, so it stands last.
 pub fn fill_free(free: &mut [u16; 2048], n: usize, k: usize)
     requires { ⌜ k ≤ n ⌝ }
     ensures { λ _. ⌜ now (free .exit) ≡ fillTo (now (free .entry)) (λ j. short (n - 1 - j)) k ⌝ }

@@ -1,4 +1,4 @@
--- The batch size by the count of leading zeros is that of document 01: one test that antt computes for every number of workers that a
+-- The batch size by the count of leading zeros is that of H1.24: one test that antt computes for every number of workers that a
 -- byte holds, and one law that carries a test to each number.
 use mathlib.Core.Path.{_≡_, refl}
 use mathlib.Core.Bool.{Bool, true, cond, _&&_, and-eq-true-iff}

@@ -8,8 +8,7 @@ fn wide(x: u8) -> u32
     x as u32
 }
 
-// B for p workers: "the number of workers times its base-2 logarithm rounded up, and 1 for one worker".
-// The logarithm of q, rounded up, is the number of bits of q - 1.
+// H1.24: B for p workers. The base-2 logarithm of q, rounded up, is the number of bits of q - 1.
 pub fn batch(p: u8) -> u32
     ensures { λ r. ⌜ r ≡ batchOf p ⌝ }
 {

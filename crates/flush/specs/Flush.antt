@@ -22,7 +22,7 @@ word x = x % 4294967296
 ------------------------------------------------------------------------
 -- Put (3)
 
--- "Append the covered version's range to the local pool. If that now holds B, flush; else the put is done."
+-- H5.12: the covered version's range goes to the end of the local pool. H5.13, H5.14: with B ranges there a flush follows, else the put is done.
 abbrev pub handedPool : Pool → ℕ → Slot → Pool
 handedPool q c v = appended q c (word (v .low)) (word (v .high))
 
@@ -47,6 +47,6 @@ withPart merged w part = take (768 * w) merged ++ (part ++ drop (768 * w + 768) 
 ------------------------------------------------------------------------
 -- Flush (2)
 
--- the announced time of worker j is read
+-- H5.17: the announced time of worker j is read
 abbrev pub flushReadStep : List ℕ → ℕ → Announced → List ℕ
 flushReadStep times j t = set times (j % 16) (timeOf t)

@@ -22,14 +22,16 @@ nextToFree merged w m = cond (ltb (256 * w + (m - 1)) 4096) (getD merged (3 * (2
 abbrev pub oneMore : ℕ → ℕ
 oneMore n = cond (ltb n 2048) (n + 1) n
 
--- "unlink it and free its slot": the slot that is freed, its older neighbour, and how many are free then
+-- H5.28: the slot that is freed, its older neighbour, and how many are free then
 unfoldable pub freedStep : List Slot → List ℕ → ℕ → ℕ → ℕ → Freed
 freedStep l merged w m n =
     record { slot = short (nextToFree merged w m); older = short (slotAtIn l (nextToFree merged w m) .older); free = oneMore n }
 
+-- H5.25, H5.26: the row with that slot unlinked
 unfoldable pub freedRow : List Slot → List ℕ → ℕ → ℕ → List Slot
 freedRow l merged w m = unlinkedIn l (nextToFree merged w m)
 
+-- H5.28: the free slots with that slot after the others; it is taken first
 unfoldable pub freedFree : List ℕ → List ℕ → ℕ → ℕ → ℕ → List ℕ
 freedFree free merged w m n = set free n (short (nextToFree merged w m))
 
@@ -41,7 +43,7 @@ isOn c (StandsOn g e) = eqb e c
 abbrev pub standsOn : Doing → ℕ → Bool
 standsOn d c = isOn c (aboutOf d .stance)
 
--- "A read standing on it moves to its older neighbour": from slot c to slot o
+-- H5.27: a read that stands on the freed slot c goes to its older neighbour o
 abbrev pub offTo : ℕ → ℕ → Doing → Stance → Doing
 offTo c o d Nowhere = d
 offTo c o d (StandsOn g e) = cond (eqb e c) (ReadStand g o) d

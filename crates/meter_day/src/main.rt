@@ -2,7 +2,7 @@
 // records itself, applies them as one buffer and prints their log lines.
 use state::Hub;
 
-// Writes record k: the operation, the worker, the register and the value (document 01, "Records"). Past the end nothing is written.
+// Writes record k: the operation, the worker, the register and the value (H3.3 of docs/HUB.md). Past the end nothing is written.
 fn write_record(out: &mut [u8], k: usize, operation: u8, worker: u8, register: u8, value: u8) {
     if out.len() / 16 <= k {
         return;

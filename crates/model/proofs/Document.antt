@@ -1,4 +1,4 @@
--- The theorems under document 01's rules. That its batch size is from 1 to 64 is computed for each number of workers.
+-- The theorems under the rules of docs/HUB.md. That their batch size is from 1 to 64 is computed for each number of workers.
 use mathlib.Core.Bool.{Bool, true, _&&_}
 use mathlib.Core.Path.{_≡_, refl, sym, subst}
 use mathlib.Core.Logic.{⊎-elim}
@@ -35,7 +35,7 @@ each (suc n) p t a b =
     (λ e. each n p (q .0) a (omega (arith, e .0)))
     (eq-cases p (suc n))
 
--- rules with document 01's batch size
+-- rules with the batch size of H1.24
 pub allowed : (rules : Rules) → rules .batch ≡ batchOf → Allowed rules
 allowed rules e p a b = subst (λ (f : ℕ → ℕ). (1 ≤ f p) × (f p ≤ 64)) (sym e) (each 16 p tested a b)
 

@@ -1,4 +1,4 @@
--- Refusal 14 in document 01's words: there is no free slot exactly where every slot stands in some register's list. And the rule for every
+-- Refusal 14 as H7 of docs/HUB.md words it: there is no free slot exactly where every slot stands in some register's list. And the rule for every
 -- slot's neighbours.
 use mathlib.Core.Path.{_≡_, refl, sym, ap, _∙_, subst}
 use mathlib.Core.Bool.{Bool, cond}

@@ -17,8 +17,8 @@ pub data Stance : Type 0 where
   Nowhere : Stance
   StandsOn : Goal → ℕ → Stance
 
--- An effect in the order of demand 3 that may come with another worker's step: a put's with the stamp over the version in a slot, an open's as the
--- clock passes its time.
+-- H6.13: an effect in the order of demand 3 that may come with another worker's step: a put's with the stamp over the version in a slot, an
+-- open's as the clock passes its time.
 pub data Effect : Type 0 where
   NoEffect : Effect
   ByStamp : ℕ → Effect

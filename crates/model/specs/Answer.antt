@@ -1,27 +1,30 @@
--- What the hub answers to a record (document 01, "The log" and the two tables of refusals).
+-- What the hub answers to a record: H10.3, and the refusals of H7.
 use mathlib.Core.Bool.{Bool, true, false}
 use mathlib.Core.Option.{Option, none, some}
 use Prim.Native.Nat.{ℕ}
 use Rattle.model.specs.Store.{Reading, Store, Hub}
 
 pub data Answer : Type 0 where
-  -- set up or begun
+  -- H2.14, H4.1: set up or begun
   Ok : Answer
+  -- H5.2
   Going : Answer
-  -- the slot
+  -- H5.28: the slot
   Freed : ℕ → Answer
-  -- the snapshot's time
+  -- H5.34: the snapshot's time
   At : ℕ → Answer
+  -- H5.37, H5.39
   Value : Reading → Answer
+  -- H5.3
   Done : Answer
-  -- the refusal's number, 1 to 15
+  -- H7: the refusal's number, 1 to 15
   No : ℕ → Answer
 
 -- What is asked of an answer: one definition, a line for each answer.
 pub record Said : Type 0 where
   -- set up or begun
   pub ok : Bool
-  -- given to a step, it ends the operation: it is "neither `going` nor `freed S`"
+  -- H6.8: given to a step, it ends the operation; all answers do but `going` and `freed S`
   pub ends : Bool
   -- the slot that is freed
   pub freed : Option ℕ

@@ -1,5 +1,5 @@
--- One record applied to the hub: setup, the begin of an operation, a step, and the refusals in their order
--- (document 01, "Refused by the record" and "Refused by the state"): 6, 1, 2, 8 or 9, 5, 3, 4, then 10 or 11, then 12 or 13.
+-- One record applied to the hub: setup (H2), the begin of an operation (H4), a step, and the refusals in their order (H7.1): 6, 1, 2, 8 or 9,
+-- 5, 3, 4, then 10 or 11, then 12 or 13.
 use mathlib.Core.Bool.{Bool, true, false, cond, not, _&&_}
 use mathlib.Core.List.{List, [], _∷_}
 use mathlib.Core.Option.{Option, none, some}
@@ -14,18 +14,18 @@ use Rattle.model.specs.Versions.{alone}
 use Rattle.model.specs.Steps.{stepAt}
 use Rattle.model.specs.Record.{Operation, Put, Open, Read, Close, Get, Collect, Sizes, Command, SetUp, Begin, Step, Decoded, Asks, Refuses, decode}
 
--- "Each gives its number and leaves the store untouched."
+-- H7.4: a refusal on reading changes nothing
 abbrev pub refuse : Hub → ℕ → Applied
 refuse h k = record { hub = h; answer = No k }
 
--- refusal k where the test fails, else what follows
+-- H7.3: refusal k where the test fails, else what follows
 abbrev pub unless : Bool → Hub → ℕ → Applied → Applied
 unless test h k next = cond test next (refuse h k)
 
 ------------------------------------------------------------------------
 -- Setup
 
--- 5: "P workers (1 to 16), V registers (1 to 256), N slots (V to 2048), a 32-bit clock", "starting clock, at least 1"
+-- H2.2: the sizes that a setup may have; else 5
 unfoldable pub inRanges : Sizes → Bool
 inRanges z =
     (leb 1 (z .P) && leb (z .P) 16)
@@ -33,17 +33,16 @@ inRanges z =
     && (leb (z .V') (z .N) && leb (z .N) 2048)
     && (leb 1 (z .clock) && leb (z .clock) lastClock)
 
--- the first v slots of a row each with the one version of its register, "value 0, low 0, high open"; the others are free and have no
--- neighbours, and their value, low and high stay
+-- H2.9: the first v slots of a row have the one version of a register each. H2.12: the others are free and have no neighbours, and their
+-- value, low and high stay.
 unfoldable pub firstSlots : ℕ → List Slot → List Slot
 firstSlots v [] = []
 firstSlots zero (z ∷ l) = alone z ∷ firstSlots zero l
 firstSlots (suc v) (z ∷ l) =
     record { value = reading₀; low = 0; high = absent; older = absent; newer = absent } ∷ firstSlots v l
 
--- "At setup, whatever the lent memory held, every worker has its starting record, the queue is empty, and register r has the one version in
--- slot r, value 0, low 0, high open. Slots V to N−1 are free, V taken first, then V+1 and so on." The batch size is b. The row beyond N is not
--- in the store; that it keeps its contents is said where memory is lent.
+-- H2.5 to H2.11: what a setup makes: P workers at their start, an empty queue, register r in slot r, the slots from V on free, upwards. The batch
+-- size is b. The row beyond N is not in the store; that it keeps its contents (H2.13) is said where memory is lent.
 unfoldable pub fresh : ℕ → Sizes → List Slot → Store
 fresh b z row =
     record {
@@ -56,7 +55,7 @@ fresh b z row =
       workers = replicate (z .P) startWorker;
     }
 
--- 9 setup when set up; 5 setup outside the ranges, or "a row too short for its N"
+-- H7.6: 9 where the hub is set up. H2.2, H2.3: 5 outside the ranges, or where the row has fewer than N slots.
 unfoldable pub setUp : Rules → Hub → Sizes → Applied
 setUp rules (up s) z = refuse (up s) 9
 setUp rules (blank row) z =
@@ -66,7 +65,7 @@ setUp rules (blank row) z =
 ------------------------------------------------------------------------
 -- The begin of an operation
 
--- what an operation asks of the announced time: nothing; that there is none, else 12; that there is one, else 13
+-- H4.1: what an operation asks of the announced time: nothing; that there is none, else 12; that there is one, else 13
 pub data TimeNeed : Type 0 where
   AnyTime : TimeNeed
   NoTime : TimeNeed
@@ -78,7 +77,7 @@ pub record Terms : Type 0 where
   pub time : TimeNeed
   pub first : Doing
 
--- An operation is taken apart here. "Collect. A flush, however full the local pool."
+-- H4.1: an operation is taken apart here. H5.31: a collect begins with flush (1).
 abbrev pub terms : Operation → Terms
 terms (Put r x) = record { register = some r; time = AnyTime; first = PutPublish r x }
 terms Open = record { register = none; time = NoTime; first = OnTime OpenAnnounce }
@@ -108,7 +107,7 @@ mayUseTime OwnTime has = has
 abbrev pub isIdle : Doing → Bool
 isIdle d = about d .idle
 
--- 3 worker not below P; 4; 10; 12; 13; else begun
+-- H7.1: 3 worker not below P; 4; 10; 12; 13; else begun (H4.1)
 unfoldable pub begin : Store → ℕ → Operation → Applied
 begin s w o =
     let has = ltb (workerAt s w .announced) absent in
@@ -123,14 +122,14 @@ begin s w o =
 ------------------------------------------------------------------------
 -- A step
 
--- 3 worker not below P; else the worker's step, which is 11 where it is idle
+-- H7.1: 3 worker not below P; else the worker's step (H5.1), which is 11 where it is idle
 unfoldable pub step : Store → ℕ → Applied
 step s w =
     let x = stepAt s w (workerAt s w .doing) in
     unless (ltb w (s .site .P)) (up s) 3 (record { hub = up (x .store); answer = x .answer })
 
--- A step is taken: the hub is set up, and the record is a step of a worker below P that is not idle. "A record refused on reading begins nothing and
--- takes no step." "A step that meets a refusal is a step taken."
+-- H6.10: a step is taken: the hub is set up, and the record is a step of a worker below P that is not idle. H6.9: so a record that is refused
+-- on reading takes none, and a step that meets 14 or 15 is taken.
 unfoldable pub takesStep : Hub → Decoded → Bool
 takesStep (blank row) d = false
 takesStep (up s) (Asks (SetUp z)) = false
@@ -141,7 +140,7 @@ takesStep (up s) (Refuses k) = false
 ------------------------------------------------------------------------
 -- One record
 
--- 8 not set up
+-- H7.1: 8 not set up
 unfoldable pub obey : Rules → Hub → Command → Applied
 obey rules h (SetUp z) = setUp rules h z
 obey rules (blank row) (Begin w o) = refuse (blank row) 8
@@ -153,7 +152,7 @@ unfoldable pub applyDecoded : Rules → Hub → Decoded → Applied
 applyDecoded rules h (Asks c) = obey rules h c
 applyDecoded rules h (Refuses k) = refuse h k
 
--- One record, any bytes, any length, applied to the hub under the rules given.
+-- H6.2: one record, any bytes, any length, applied to the hub under the rules given.
 unfoldable pub apply : Rules → Hub → List ℕ → Applied
 apply rules h b = applyDecoded rules h (decode b)
 
@@ -161,7 +160,7 @@ apply rules h b = applyDecoded rules h (decode b)
 abbrev pub applyRuled : Hub → Ruled → Applied
 applyRuled h b = apply (b .rules) h (b .bytes)
 
--- the hub after a list of records, each meeting the hub as the last one left it
+-- H1.5: the hub after a list of records, each meeting the hub as the last one left it
 unfoldable pub hubAfter : Hub → List Ruled → Hub
 hubAfter h [] = h
 hubAfter h (b ∷ bs) = hubAfter (applyRuled h b .hub) bs

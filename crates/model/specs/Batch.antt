@@ -1,4 +1,4 @@
--- B, the batch size (document 01's term): "the number of workers times its base-2 logarithm rounded up, and 1 for one worker".
+-- H1.24: the batch size B, P times the base-2 logarithm of P rounded up to a whole number, and 1 for one worker.
 use mathlib.Core.Bool.{cond}
 use Prim.Native.Nat.{ℕ, zero, suc, _*_, _^_}
 use lib.Dec.{leb}

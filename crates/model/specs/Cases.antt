@@ -1,4 +1,4 @@
--- The starred cases of document 01 ("Cases") in one table, the layout of a record, and the log example. They are proved in proofs/Cases.antt.
+-- The figures of H11 (docs/HUB.md) in one table, the layout of a record, and the log example. They are proved in proofs/Cases.antt.
 use mathlib.Core.Path.{_≡_}
 use mathlib.Core.Bool.{true, false}
 use mathlib.Core.List.{List, [], _∷_, _++_, map}
@@ -29,7 +29,7 @@ recordOf (Begin w (Get r)) = 5 ∷ w ∷ bytesOf 2 r ++ replicate 12 0
 recordOf (Begin w Collect) = 6 ∷ w ∷ replicate 14 0
 recordOf (Step w) = 7 ∷ w ∷ replicate 14 0
 
--- a command's record, handed in under document 01's rules
+-- a command's record, handed in under the rules of docs/HUB.md
 abbrev pub handed : Command → Ruled
 handed c = under document01 (recordOf c)
 
@@ -104,29 +104,29 @@ unstampedPut =
     setup 2 1 2 5 ∷ put 0 0 7 ∷ Step 0 ∷ Begin 1 Open ∷ Step 1 ∷ Step 1 ∷ Begin 1 (Read 0) ∷ Step 1 ∷ Step 1 ∷ Step 1 ∷ []
 
 pub record Stars : Type 0 where
-  -- "P 17 gives 5, P 16 is set up (V 1, N 1, clock 1). V 2 with N 1 gives 5."
+  -- H2.2: seventeen workers are too many, sixteen are not; one slot is too few for two registers
   pub workers-17 : answers 1 (setup 17 1 1 1 ∷ []) ≡ No 5 ∷ []
   pub workers-16 : answers 1 (setup 16 1 1 1 ∷ []) ≡ Ok ∷ []
   pub few-slots : answers 2 (setup 1 2 1 1 ∷ []) ≡ No 5 ∷ []
-  -- "B for 1, 2, 3, 4, 5, 8, 9, 16 workers: 1, 2, 6, 8, 15, 24, 36, 64."
+  -- H1.24
   pub batches : map batchOf (1 ∷ 2 ∷ 3 ∷ 4 ∷ 5 ∷ 8 ∷ 9 ∷ 16 ∷ []) ≡ 1 ∷ 2 ∷ 6 ∷ 8 ∷ 15 ∷ 24 ∷ 36 ∷ 64 ∷ []
-  -- "Announced 5: ranges 3 to 5 and 5 to 5 needless; 5 to 6 and 2 to 9 needed. None announced: all needless."
+  -- H1.22: with time 5 announced, and with none
   pub announced-5 : map (needed (absent ∷ 5 ∷ [])) fourRanges ≡ false ∷ false ∷ true ∷ true ∷ []
   pub none-announced : map (needed (absent ∷ absent ∷ [])) fourRanges ≡ false ∷ false ∷ false ∷ false ∷ []
-  -- "Highs 4, 7 merged with 4, 6: first 4, second 4, 6, 7."
+  -- H1.23: on equal highs the first list's range goes first
   pub merged : merge (range 1 0 4 ∷ range 2 0 7 ∷ []) (range 3 0 4 ∷ range 4 0 6 ∷ [])
       ≡ range 1 0 4 ∷ range 3 0 4 ∷ range 4 0 6 ∷ range 2 0 7 ∷ []
-  -- "B 2: five needed give pools of 3 and 2; four give one of 4; two join the local pool."
+  -- H5.20, H5.21, H5.22 with B 2
   pub five-needed : poolsAfter 5 ≡ 3 ∷ 2 ∷ 1 ∷ []
   pub four-needed : poolsAfter 4 ≡ 4 ∷ 1 ∷ []
   pub two-needed : poolsAfter 2 ≡ 3 ∷ []
-  -- "Clock 4294967294: an open answers it; the next gives 15."
+  -- H5.32, H5.33: the last clock but one is announced, the last is not
   pub last-clock : answers 1 (setup 2 1 1 4294967294 ∷ Begin 0 Open ∷ Step 0 ∷ Step 0 ∷ Begin 1 Open ∷ Step 1 ∷ [])
       ≡ Ok ∷ Ok ∷ Going ∷ At 4294967294 ∷ Ok ∷ No 15 ∷ []
-  -- "Two workers announce at 5, both finish: both `at 5`, clock 6."
+  -- H5.34: two opens of one time move the clock once
   pub both-at-5 : answers 1 bothOpen ≡ Ok ∷ Ok ∷ Ok ∷ Going ∷ Going ∷ At 5 ∷ At 5 ∷ []
   pub clock-6 : clockOf (leaves (rowOf 1) bothOpen) ≡ 6
-  -- "A put published at clock 5, unstamped; clock 6; a snapshot at 5 reads: low becomes 6, the older value is shown."
+  -- H5.36, H5.37: the read stamps the put, at 6, and goes on to the version before
   pub older-shown : answers 2 unstampedPut ≡ Ok ∷ Ok ∷ Going ∷ Ok ∷ Going ∷ At 5 ∷ Ok ∷ Going ∷ Going ∷ Value (record { count = 0 }) ∷ []
   pub low-6 : getD (slotsOf (leaves (rowOf 2) unstampedPut)) 1 slot₀ .low ≡ 6
 
@@ -159,7 +159,7 @@ pub record Layout : Type 0 where
 ------------------------------------------------------------------------
 -- The log example
 
--- "With setup P 1, V 1, N 2, clock 1; put 7 on register 0; seven steps; put 9; one step; collect; five steps, it prints"
+-- The script of samples/example.txt: a put meets 14, and a collect frees a slot.
 abbrev pub exampleCommands : List Command
 exampleCommands =
     (setup 1 1 2 1 ∷ put 0 0 7 ∷ replicate 7 (Step 0)) ++ (put 0 0 9 ∷ Step 0 ∷ Begin 0 Collect ∷ replicate 5 (Step 0))

@@ -1,4 +1,4 @@
--- Demand 3 (document 01, "The order in demand 3"), as one statement about a whole list of records. Proved in proofs/Main.antt.
+-- Demand 3: H6.3 to H6.23 of docs/HUB.md, as one statement about a whole list of records. Proved in proofs/Main.antt.
 --
 -- A list of records after an accepted setup gives events. From the records and the answers alone come the operations (calls) with
 -- their begins and ends. The order of the calls is a definition: the effects in the order in which they happen. The statement says that
@@ -23,7 +23,7 @@ use Rattle.model.specs.Record.{Operation, Put, Open, Read, Close, Get, C
 use Rattle.model.specs.Apply.{takesStep, applyRuled}
 
 ------------------------------------------------------------------------
--- "The list starts from the store that the accepted setup left. Each record is lent that memory as the last one left it."
+-- H6.4, H6.5: a list of records after an accepted setup; each meets the hub as the one before left it.
 
 -- a record, the hub that it met, its answer, the hub that it left
 pub record Event : Type 0 where
@@ -48,9 +48,8 @@ abbrev pub exchange : Event → Exchange
 exchange e = record { bytes = e .bytes; answer = e .answer }
 
 ------------------------------------------------------------------------
--- "An operation begins at its record, 1 to 6, answered `ok`. It ends at the first step its worker then takes that is answered neither
--- `going` nor `freed S`: with `no` there it is refused, else finished. Without such a step it is unfinished. A record refused on reading
--- begins nothing and takes no step."
+-- H6.7, H6.8: operations. One begins with its record, answered `ok`, and ends at its worker's first step after that whose answer is neither
+-- `going` nor `freed S`: refused with `no K`, else finished. One without such a step is unfinished.
 
 pub data Ending : Type 0 where
   Unfinished : Ending
@@ -106,8 +105,8 @@ observe i (Asks (Begin w o)) a l =
 observe i (Asks (Step w)) a l = cond (said a .ends) (map (endFor i w a) l) l
 observe i (Refuses k) a l = l
 
--- The calls of a list of exchanges, the first of which has number i, after the calls given. Numbers count from the record after the setup; the
--- log's count from the setup.
+-- The calls of a list of exchanges, the first of which has number i, after the calls given. H6.6: numbers count from the record after the
+-- setup; the log's count from the setup.
 unfoldable pub history : ℕ → List Exchange → List Call → List Call
 history i [] l = l
 history i (e ∷ es) l = history (i + 1) es (observe i (decode (e .bytes)) (e .answer) l)
@@ -123,16 +122,16 @@ StepTaken h (Asks (Begin w o)) before = Unit {0}
 StepTaken h (Asks (Step w)) before = Performs h w → takesStep before (Asks (Step w)) ≡ true
 StepTaken h (Refuses k) before = Unit {0}
 
--- "A record refused on reading .. takes no step": of the events given, the first of which has number i and finds the calls h, none that `history`
--- takes for a step of an operation is refused on reading.
+-- H6.9: of the events given, the first of which has number i and finds the calls h, none that `history` takes for a step of an operation is
+-- refused on reading.
 unfoldable pub StepsTaken : ℕ → List Event → List Call → Type 0
 StepsTaken i [] h = Unit {0}
 StepsTaken i (e ∷ es) h =
     StepTaken h (decode (e .bytes)) (e .before) × StepsTaken (i + 1) es (observe i (decode (e .bytes)) (e .answer) h)
 
 ------------------------------------------------------------------------
--- "Plain registers are V values, 0 at first, and for each worker one copy of them all or none, none at first." Here they are a function of the
--- register's number; an operation that began names one below V.
+-- H6.16: plain registers, all 0 at first, and for each worker a copy of them or none, none at first. They are a function of the register's number
+-- here; an operation that began names one below V.
 
 pub record Plain : Type 0 where
   pub registers : ℕ → Reading
@@ -145,8 +144,7 @@ plain₀ = record { registers = λ r. record { count = 0 }; copy = λ w. none }
 abbrev pub update {ℓ} : {A : Type ℓ} → (ℕ → A) → ℕ → A → ℕ → A
 update f i x j = cond (eqb j i) x (f j)
 
--- "A put sets its register to its value. An open makes its worker's copy anew from the registers." "A close drops its worker's copy. A collect
--- changes nothing." Nor do a read and a get.
+-- H6.17: a put sets its register, an open gives its worker a new copy, a close takes it away; the others change nothing.
 unfoldable pub feed : Plain → ℕ → Operation → Plain
 feed p w (Put r x) = record { registers = update (p .registers) r x; copy = p .copy }
 feed p w Open = record { registers = p .registers; copy = update (p .copy) w (some (p .registers)) }
@@ -160,7 +158,7 @@ unfoldable pub inCopy : Option (ℕ → Reading) → ℕ → Option Reading
 inCopy none r = none
 inCopy (some f) r = some (f r)
 
--- "A read shows its register in its worker's copy, and nothing without a copy. A get shows its register."
+-- H6.18: a get is shown its register, a read its register in its worker's copy, or nothing without one
 unfoldable pub shows : Plain → ℕ → Operation → Option Reading
 shows p w (Put r x) = none
 shows p w Open = none
@@ -170,9 +168,7 @@ shows p w (Get r) = some (p .registers r)
 shows p w Collect = none
 
 ------------------------------------------------------------------------
--- The order: a list of indices in the history, by the calls' effects along the list of records. "Effect in the order: a put at the
--- stamping of its version, an open when the clock passes its time, a get at its step and after a put stamped in it, a read, close or
--- collect at its end."
+-- H6.13: the order, a list of indices in the history: the calls by their effects along the list of records.
 
 unfoldable pub isUnfinished : Ending → Bool
 isUnfinished Unfinished = true
@@ -184,8 +180,8 @@ unfoldable pub runningOf : List Call → ℕ → ℕ
 runningOf [] w = 0
 runningOf (c ∷ h) w = cond (eqb (c .worker) w && isUnfinished (c .ending)) 0 (suc (runningOf h w))
 
--- As store s became store t, the version that covers the one in slot c was stamped: its low was set, and with it the high of the version
--- in c. (Only the stamp of the version directly above it sets a high.)
+-- H6.14: as store s became store t, the version that covers the one in slot c was stamped: its low was set, and with it the high of the
+-- version in c. (Only the stamp of the version directly above it sets a high.)
 abbrev pub stampedOver : Store → Store → ℕ → Bool
 stampedOver s t c = eqb (slotAt s c .high) absent && not (eqb (slotAt t c .high) absent)
 
@@ -208,14 +204,14 @@ unfoldable pub filterBelow : (ℕ → Bool) → ℕ → List ℕ
 filterBelow q zero = []
 filterBelow q (suc n) = filterBelow q n ++ cond (q n) (n ∷ []) []
 
--- The puts and opens that take effect as store s becomes store t, whichever worker steps. Of several opens that one step passes the lowest
--- worker's comes first; document 01 leaves this open, and their copies are equal.
+-- The puts and opens that take effect as store s becomes store t, whichever worker steps. H6.15: of several opens that one step passes the
+-- lowest worker's comes first; their copies are equal.
 abbrev pub changeEffects : List Call → Store → Store → List ℕ
 changeEffects h s t =
     map (runningOf h)
     (filterBelow (λ v. takesEffect (stampedOver s t) (passed s t) (workerAt s v .announced) (workerAt s v .doing)) (s .site .P))
 
--- these take effect at their end
+-- H6.13: these take effect at their end
 unfoldable pub atEnd : Operation → Bool
 atEnd (Put r x) = false
 atEnd Open = false
@@ -269,9 +265,8 @@ abbrev pub All {ℓ} : {A : Type ℓ} → (A → Type 0) → List A → Type 0
 All P [] = Unit {0}
 All P (x ∷ l) = P x × All P l
 
--- How often a call stands in the order: once if it finished, never if it was refused, at most once if it is unfinished. "An unfinished one
--- without its effect counts as not begun": in `order` it stands just where it had its effect, so an open whose time another worker's step
--- passed stands there before it ends.
+-- H6.12: how often a call stands in the order: once if it finished, never if it was refused, at most once if it is unfinished. In `order` an
+-- unfinished one stands just where it had its effect, so an open whose time another worker's step passed stands there before it ends.
 abbrev pub Stands : Ending → ℕ → Type 0
 Stands Unfinished n = n ≤ 1
 Stands (RefusedAt i) n = n ≡ 0
@@ -283,12 +278,12 @@ EndsBefore k Unfinished = ⊥
 EndsBefore k (RefusedAt i) = i < k
 EndsBefore k (FinishedAt i a) = i < k
 
--- "an operation that ended before another began stands before it": none that stands later ended before an earlier one began
+-- H6.11: no call that stands later ended before an earlier one began
 unfoldable pub Ordered : List Call → List ℕ → Type 0
 Ordered h [] = Unit {0}
 Ordered h (i ∷ o) = All (λ j. EndsBefore (callAt h i .begun) (callAt h j .ending) → ⊥) o × Ordered h o
 
--- "The X in `value X` of each finished get and read equals what is shown there."
+-- H6.19: what a finished get or read answered is what is shown
 abbrev pub AnswersWith : Ending → Option Reading → Type 0
 AnswersWith Unfinished x = Unit {0}
 AnswersWith (RefusedAt i) x = Unit {0}
@@ -310,8 +305,7 @@ AgreesIf false e s = Unit {0}
 abbrev pub Agrees : Operation → Ending → Option Reading → Type 0
 Agrees c e s = AgreesIf (showing c) e s
 
--- "They are fed the operations in the order, each with the worker, register and value of its record and with no answer": from plain
--- registers p on, along o
+-- H6.17, H6.19: from plain registers p on, the calls along o are fed one by one, and each get and read is shown what it answered
 unfoldable pub RegistersAgree : List Call → Plain → List ℕ → Type 0
 RegistersAgree h p [] = Unit {0}
 RegistersAgree h p (i ∷ o) =
@@ -332,8 +326,8 @@ pub record IsOrder (h : List Call) (o : List ℕ) : Type 0 where
 ------------------------------------------------------------------------
 -- What is claimed of freeing
 
--- "`freed S` is never answered where, just before that step, an open snapshot's time makes the range of the version in S needed." A
--- snapshot is open from the step that announces its time to the step of its close: while its worker has an announced time.
+-- H6.21: where `freed S` is answered, no open snapshot's time needed the range of the version in S just before. H6.20: a snapshot is open while
+-- its worker has an announced time.
 abbrev pub FreesNothingNeeded : Hub → Answer → Type 0
 FreesNothingNeeded (blank row) a = Unit {0}
 FreesNothingNeeded (up s) a =
@@ -341,7 +335,7 @@ FreesNothingNeeded (up s) a =
     → (w : ℕ) → w < s .site .P → workerAt s w .announced < absent
     → slotAt s c .low ≤ workerAt s w .announced → workerAt s w .announced < slotAt s c .high → ⊥
 
--- a put's first step took slot c: it was the first free slot, and is then its register's newest version, with the put's value
+-- H5.7: a put's first step took slot c: it was the first free slot, and is then its register's newest version, with the put's value
 abbrev pub TookIn : ℕ → ℕ → Hub → Answer → Hub → Type 0
 TookIn c w (blank row) a after = ⊥
 TookIn c w (up s) a (blank row) = ⊥
@@ -364,7 +358,7 @@ Took c e = TookBy c (decode (e .bytes)) (e .before) (e .answer) (e .after)
 abbrev pub event₀ : Event
 event₀ = record { bytes = []; before = blank []; answer = Ok; after = blank [] }
 
--- "Between two answers `freed S` for one slot, a put's first step took that slot."
+-- H6.22: between two answers `freed S` for one slot, a put's first step took that slot
 abbrev pub FreedOnce : List Event → Type 0
 FreedOnce es =
     (c i j : ℕ) → i < j → j < length es
@@ -382,7 +376,7 @@ pub record Demand3 (es : List Event) : Type 0 where
   pub freesNothingNeeded : All (λ e. FreesNothingNeeded (e .before) (e .answer)) es
   pub freedOnce : FreedOnce es
 
--- For every lent row, every setup record that is answered `ok`, and every list of records after it, whatever the rules of each.
+-- H6.4: for every lent row, every setup record that is answered `ok`, and every list of records after it, whatever the rules of each.
 abbrev pub Demand : Type 0
 Demand =
     (row : List Slot) (setup : Ruled) → applyRuled (blank row) setup .answer ≡ Ok

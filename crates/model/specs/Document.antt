@@ -1,4 +1,4 @@
--- The theorems under document 01's own rules.
+-- The theorems under the rules of docs/HUB.md, `document01`: this is what holds of the hub as it is built.
 use mathlib.Core.Path.{_≡_}
 use mathlib.Core.List.{List}
 use Prim.Native.Nat.{ℕ}
@@ -11,7 +11,7 @@ use Rattle.model.specs.Refusals.{Demand1}
 use Rattle.model.specs.Reached.{Throughout, SoundHub}
 use Rattle.model.specs.Figure.{FigureHub}
 
--- a claim about the events of every list of records after every accepted setup, all under document 01's rules
+-- a claim about the events of every list of records after every accepted setup, all under these rules
 abbrev pub ForDocument01 : (List Event → Type 0) → Type 0
 ForDocument01 Claim =
     (row : List Slot) (setup : List ℕ) → apply document01 (blank row) setup .answer ≡ Ok

@@ -1,4 +1,4 @@
--- Document 01 as definitions, in its order.
+-- The rules of docs/HUB.md as definitions, in their order; then what is proved of them.
 pub mod Store
 pub mod About
 pub mod Batch

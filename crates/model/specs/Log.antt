@@ -1,4 +1,4 @@
--- The log's text (document 01, "The log").
+-- The text of the log: H10 of docs/HUB.md.
 use mathlib.Core.Bool.{cond}
 use mathlib.Core.List.{List, [], _∷_, _++_}
 use Prim.Native.Nat.{ℕ, zero, suc, _+_, _/_, _%_}
@@ -16,7 +16,7 @@ unfoldable pub text : String → List ℕ
 text String.[] = []
 text (String._∷_ c l) = code c ∷ text l
 
--- x in decimal, of at most n + 1 digits
+-- H10.4: x in decimal, of at most n + 1 digits
 unfoldable pub digits : ℕ → ℕ → List ℕ
 digits zero x = (48 + x % 10) ∷ []
 digits (suc n) x = cond (ltb x 10) ((48 + x % 10) ∷ []) (digits n (x / 10) ++ ((48 + x % 10) ∷ []))
@@ -25,7 +25,7 @@ digits (suc n) x = cond (ltb x 10) ((48 + x % 10) ∷ []) (digits n (x / 10) ++ 
 unfoldable pub decimal : ℕ → List ℕ
 decimal x = digits 19 x
 
--- "`ok` (set up or begun), `going`, `freed S` (slot), `at T`, `value X`, `done`, or `no` and the refusal"
+-- H10.3: the words of an answer
 unfoldable pub words : Answer → List ℕ
 words Ok = text "ok"
 words Going = text "going"
@@ -35,7 +35,7 @@ words (Value x) = text "value " ++ decimal (x .count)
 words Done = text "done"
 words (No k) = text "no " ++ decimal k
 
--- "One line a record: its number from 0, a space, then" the words
+-- H10.1, H10.2: the record's number, a space, the words, and the end of the line
 unfoldable pub line : ℕ → Answer → List ℕ
 line n a = decimal n ++ text " " ++ words a ++ text "\n"
 
@@ -44,6 +44,6 @@ unfoldable pub lines : ℕ → List Answer → List ℕ
 lines n [] = []
 lines n (a ∷ l) = line n a ++ lines (n + 1) l
 
--- what `hublog` prints for a file under the rules given: the hub is not set up at first, and its row of slots is lent
+-- H10.6: the log of a file under the rules given: the hub is not set up at first, and its row of slots is lent
 unfoldable pub logOf : Rules → List Slot → List ℕ → List ℕ
 logOf rules row file = lines 0 (answersTo (blank row) (allUnder rules (recordsOf file)))

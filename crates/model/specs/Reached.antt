@@ -1,4 +1,4 @@
--- What holds of every hub that records leave, besides demand 3: the bounds that memory is sized by, and refusal 14 in document 01's words.
+-- What holds of every hub that records leave, besides demand 3: the bounds that memory is sized by (H6.24), and refusal 14 as H7 words it.
 -- Proved in proofs/Reached.antt from the invariant of proofs/Invariant.antt.
 use mathlib.Core.Path.{_≡_}
 use mathlib.Core.Bool.{cond}
@@ -35,12 +35,12 @@ abbrev pub versionsHeld : Worker → ℕ
 versionsHeld x = inHand (about (x .doing) .hand) + length (x .pool)
 
 pub record Bounds (s : Store) : Type 0 where
-  -- "P workers (1 to 16), V registers (1 to 256), N slots (V to 2048), a 32-bit clock"
+  -- H1.1 to H1.4: the sizes and the clock
   pub workers : (1 ≤ s .site .P) × (s .site .P ≤ 16) × (length (s .workers) ≡ s .site .P)
   pub registers : (1 ≤ s .site .V') × (s .site .V' ≤ 256) × (length (s .newest) ≡ s .site .V')
   pub slots : (s .site .V' ≤ s .site .N) × (s .site .N ≤ 2048) × (length (s .slots) ≡ s .site .N)
   pub clock : s .clock ≤ lastClock
-  -- "A local pool is a count and at most 64 ranges": B is from 1 to 64,
+  -- H1.19: B is from 1 to 64,
   pub batch : (1 ≤ s .site .B) × (s .site .B ≤ 64)
   -- and a local pool holds at most B
   pub local : All (λ x. length (x .pool) ≤ s .site .B) (s .workers)
@@ -61,15 +61,15 @@ unfoldable pub listFrom : Store → ℕ → ℕ → List ℕ
 listFrom s zero c = []
 listFrom s (suc n) c = cond (ltb c (s .site .N)) (c ∷ listFrom s n (slotAt s c .older)) []
 
--- register r's list, newest version first
+-- H1.11: register r's list, newest version first
 unfoldable pub registerList : Store → ℕ → List ℕ
 registerList s r = listFrom s (s .site .N) (newestOf s r)
 
--- "every slot in some register's list"
+-- every slot below N is in the list of some register
 abbrev pub EverySlotListed : Store → Type 0
 EverySlotListed s = (c : ℕ) → c < s .site .N → (r : ℕ) × (r < s .site .V') × (0 < occurrences c (registerList s r))
 
--- 14: "put's first step, every slot in some register's list"
+-- H7: a put's first step gets 14 just where every slot is in some register's list
 abbrev pub Refuses14 : Store → Type 0
 Refuses14 s =
     (w r : ℕ) (x : Reading) → workerAt s w .doing ≡ PutPublish r x

@@ -1,4 +1,4 @@
--- Records (document 01, "Records"): sixteen bytes, the command that they give, and the refusals 6, 1 and 2.
+-- Records: H3 of docs/HUB.md. Sixteen bytes, the command that they give, and the refusals 6, 1 and 2.
 use mathlib.Core.Bool.{Bool, true, cond, _&&_}
 use mathlib.Core.List.{List, [], _∷_}
 use Prim.Native.Nat.{ℕ, zero, suc, _+_, _*_}
@@ -7,14 +7,14 @@ use lib.ListN.{length, getD, take, drop}
 use Rattle.model.specs.Store.{Reading}
 
 ------------------------------------------------------------------------
--- "numbers least byte first"
+-- H3.2: numbers, least byte first
 
 -- the number in the n bytes from index i on
 abbrev pub number : List ℕ → ℕ → ℕ → ℕ
 number b i zero = 0
 number b i (suc n) = getD b i 0 + 256 * number b (suc i) n
 
--- the n bytes from index i on are zero
+-- H3.4: the n bytes from index i on are zero
 unfoldable pub zeros : List ℕ → ℕ → ℕ → Bool
 zeros b i zero = true
 zeros b i (suc n) = eqb (getD b i 0) 0 && zeros b (suc i) n
@@ -22,7 +22,7 @@ zeros b i (suc n) = eqb (getD b i 0) 0 && zeros b (suc i) n
 ------------------------------------------------------------------------
 -- Commands
 
--- an operation that a record begins, 1 to 6
+-- H3.3: an operation that a record begins, 1 to 6
 pub data Operation : Type 0 where
   -- the register and what to store
   Put : ℕ → Reading → Operation
@@ -34,7 +34,7 @@ pub data Operation : Type 0 where
   Get : ℕ → Operation
   Collect : Operation
 
--- what a setup asks for
+-- H2.2: what a setup asks for
 pub record Sizes : Type 0 where
   pub P : ℕ
   pub V' : ℕ
@@ -49,8 +49,7 @@ pub data Command : Type 0 where
   -- 7: the worker
   Step : ℕ → Command
 
--- "Byte 0 is the operation, byte 1 the worker, bytes 2 and 3 the register, bytes 8 to 15 the value";
--- for a setup "byte 1 P, bytes 2–3 V, 4–5 N, 8–11 starting clock".
+-- H3.3: where the parts of a record stand
 abbrev pub workerIn : List ℕ → ℕ
 workerIn b = number b 1 1
 
@@ -63,7 +62,7 @@ readingIn b = record { count = number b 8 8 }
 abbrev pub sizesIn : List ℕ → Sizes
 sizesIn b = record { P = number b 1 1; V' = number b 2 2; N = number b 4 2; clock = number b 8 4 }
 
--- "0 setup; 1 put; 2 open; 3 read; 4 close; 5 get; 6 collect; 7 step", by byte 0; one above 7 is refused before this is looked at
+-- H3.3: the command by byte 0; one above 7 is refused before this is looked at
 unfoldable pub commandOf : List ℕ → ℕ → Command
 commandOf b zero = SetUp (sizesIn b)
 commandOf b (suc zero) = Begin (workerIn b) (Put (registerIn b) (readingIn b))
@@ -74,7 +73,7 @@ commandOf b (suc (suc (suc (suc (suc zero))))) = Begin (workerIn b) (Get (regist
 commandOf b (suc (suc (suc (suc (suc (suc zero)))))) = Begin (workerIn b) Collect
 commandOf b (suc (suc (suc (suc (suc (suc (suc n))))))) = Step (workerIn b)
 
--- "Bytes an operation does not use are zero."
+-- H3.3, H3.4: the unused bytes of each command are zero
 unfoldable pub unusedZero : List ℕ → Command → Bool
 unusedZero b (SetUp z) = zeros b 6 2 && zeros b 12 4
 unusedZero b (Begin w (Put r x)) = zeros b 4 4
@@ -90,8 +89,8 @@ pub data Decoded : Type 0 where
   Asks : Command → Decoded
   Refuses : ℕ → Decoded
 
--- 6 fewer than 16 bytes, the empty record too; 1 operation above 7; 2 an unused byte is not zero. "Bytes after the sixteenth belong to the
--- next record": a longer list is read by its first sixteen. The bytes may be any numbers here.
+-- H7.1: 6 fewer than 16 bytes, the empty record too (H3.9); 1 operation above 7; 2 an unused byte is not zero. H3.8: of a longer list the first
+-- sixteen are read. The bytes may be any numbers here.
 unfoldable pub decode : List ℕ → Decoded
 decode b =
     let c = commandOf b (getD b 0 0) in
@@ -102,12 +101,12 @@ decode b =
 ------------------------------------------------------------------------
 -- Files
 
--- "The program takes the file sixteen bytes at a time"; a rest of 1 to 15 bytes is one more record. At most n records are taken.
+-- H3.5, H3.6: sixteen bytes each, and a rest of 1 to 15 is one more record. At most n records are taken.
 unfoldable pub cut : ℕ → List ℕ → List (List ℕ)
 cut zero l = []
 cut (suc n) [] = []
 cut (suc n) (x ∷ l) = take 16 (x ∷ l) ∷ cut n (drop 16 (x ∷ l))
 
--- the records of a file; a record takes at least one byte, so there are no more than bytes
+-- H3.7: the records of a file; a record takes at least one byte, so there are no more than bytes
 unfoldable pub recordsOf : List ℕ → List (List ℕ)
 recordsOf file = cut (length file) file

@@ -1,5 +1,5 @@
--- Demand 1 of the definitions: a record of any bytes, handed to the hub in any state, ends in its answer or in one numbered refusal; a refusal on
--- reading changes nothing, one met at a step only sets that worker idle. `takesStep` tells the two apart, not the number. Proved in
+-- Demand 1 of the definitions, H6.1: a record of any bytes, handed to the hub in any state, ends in its answer or in one numbered refusal; a
+-- refusal on reading changes nothing, one met at a step only sets that worker idle. `takesStep` tells the two apart, not the number. Proved in
 -- proofs/Refusals.antt.
 use mathlib.Core.Path.{_≡_}
 use mathlib.Core.Bool.{cond}
@@ -13,11 +13,11 @@ use Rattle.model.specs.Record.{SetUp, Begin, Step, Decoded, Asks, Refuse
 use Rattle.model.specs.Apply.{takesStep, apply}
 use Rattle.model.specs.Demand.{occurrences}
 
--- the numbers of the refusals on reading; 7 is the row writer's
+-- H7.1: the numbers of the refusals on reading; 7 is the row writer's
 abbrev pub onReading : List ℕ
 onReading = 1 ∷ 2 ∷ 3 ∷ 4 ∷ 5 ∷ 6 ∷ 8 ∷ 9 ∷ 10 ∷ 11 ∷ 12 ∷ 13 ∷ []
 
--- and of those that a step meets
+-- H7.2: and of those that a step meets
 abbrev pub atStep : List ℕ
 atStep = 14 ∷ 15 ∷ []
 
@@ -33,7 +33,7 @@ idled (up s) (Refuses k) = up s
 pub record Refused (h : Hub) (d : Decoded) (k : ℕ) (after : Hub) : Type 0 where
   -- it is one of those that a step meets, or else of those on reading
   pub number : 0 < occurrences k (cond (takesStep h d) atStep onReading)
-  -- "Each gives its number and leaves the store untouched; 14 and 15 set the worker idle and change nothing else."
+  -- H7.4: one on reading changes nothing. H7.5: 14 and 15 set the worker idle and change nothing else.
   pub leaves : after ≡ cond (takesStep h d) (idled h d) h
 
 -- What is claimed of a hub h, a record that reads as d, the refusal in its answer, if it is one, and the hub after it.

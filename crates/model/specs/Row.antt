@@ -1,4 +1,4 @@
--- The read-out row (document 01, "Read-out row") and its refusals 4 and 7.
+-- The read-out row, H9 of docs/HUB.md, and its refusals 4 and 7.
 use mathlib.Core.Bool.{cond}
 use mathlib.Core.List.{List, [], _∷_, _++_}
 use Prim.Native.Nat.{ℕ, zero, suc, _+_, _*_, _/_, _%_}
@@ -6,12 +6,12 @@ use lib.Dec.{ltb}
 use lib.ListN.{length, take, drop}
 use Rattle.model.specs.Store.{Reading}
 
--- the n bytes of a number, the least first
+-- H3.2: the n bytes of a number, the least first
 abbrev pub bytesOf : ℕ → ℕ → List ℕ
 bytesOf zero x = []
 bytesOf (suc n) x = (x % 256) ∷ bytesOf n (x / 256)
 
--- "register (2 bytes), two zero bytes, time (4), value (8)"
+-- H9.4: the sixteen bytes of a row
 abbrev pub rowBytes : ℕ → ℕ → Reading → List ℕ
 rowBytes r t x = bytesOf 2 r ++ (0 ∷ 0 ∷ []) ++ bytesOf 4 t ++ bytesOf 8 (x .count)
 
@@ -25,8 +25,8 @@ pub record RowWritten : Type 0 where
   pub answer : RowAnswer
   pub buffer : List ℕ
 
--- "the row for register r starts at byte 16 × r of the lent buffer. Other bytes keep their contents."
--- "A row tests 4, then 7, and on either leaves the buffer untouched." 4: register not below 256; 7: shorter than 16 × (register + 1).
+-- H9.2: 4 for a register not below 256. H9.3: else 7 for a buffer shorter than 16 × (register + 1). H9.4: else the row from byte 16 × register on.
+-- H9.5: the other bytes stay, after 4 or 7 all of them.
 unfoldable pub writeRow : ℕ → ℕ → Reading → List ℕ → RowWritten
 writeRow r t x buf =
     let row = take (16 * r) buf ++ rowBytes r t x ++ drop (16 * r + 16) buf in

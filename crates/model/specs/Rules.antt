@@ -8,7 +8,7 @@ pub record Rules : Type 0 where
   -- B for so many workers; only a setup looks at it
   pub batch : ℕ → ℕ
 
--- document 01's rules
+-- the rules of docs/HUB.md, which follow the scope paper, document 01
 abbrev pub document01 : Rules
 document01 = record { batch = batchOf }
 
@@ -16,7 +16,7 @@ document01 = record { batch = batchOf }
 abbrev pub inForce : Rules
 inForce = document01
 
--- "A local pool is a count and at most 64 ranges": the batch size is from 1 to 64 for each number of workers that a setup may have
+-- H1.19, H2.2: a local pool has room for 64 ranges, so the batch size is from 1 to 64 for each number of workers that a setup may have
 abbrev pub Allowed : Rules → Type 0
 Allowed rules = (p : ℕ) → 1 ≤ p → p ≤ 16 → (1 ≤ rules .batch p) × (rules .batch p ≤ 64)
 

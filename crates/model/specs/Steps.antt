@@ -1,4 +1,4 @@
--- The steps (document 01, "The steps"). Each takes the store, the worker that steps and what its place holds.
+-- The steps: H5 of docs/HUB.md. Each takes the store, the worker that steps and what its place holds.
 use mathlib.Core.Bool.{cond}
 use mathlib.Core.List.{List, [], _∷_, _++_, map}
 use Prim.Native.Nat.{ℕ, _+_}
@@ -13,9 +13,9 @@ use Rattle.model.specs.Ranges.{firstTwo, merge, neededOf, needlessOf, ne
 ------------------------------------------------------------------------
 -- Put
 
--- (1) "With no free slot: refusal 14. Else stamp the register, take a slot, link it as newest with the value and no low, remember the
--- version it covers." "14 and 15 set the worker idle and change nothing else." The last argument is the list of free slots. That there is no
--- free slot just where "every slot in some register's list" is `Refuses14` of specs/Reached.antt.
+-- (1) H5.5: without a free slot refusal 14, which sets the worker idle and changes nothing else. H5.6 to H5.8: else the register is stamped, the
+-- first free slot gets the new version above the one that was the newest, and the put remembers that one. The last argument is the list of free
+-- slots. That there is none just where every slot is in some register's list is `Refuses14` of specs/Reached.antt.
 unfoldable pub putPublish : Store → ℕ → ℕ → Reading → List ℕ → Stepped
 putPublish s w r x [] = record { store = place s w Idle; answer = No 14 }
 putPublish s w r x (f ∷ free′) =
@@ -30,7 +30,7 @@ putPublish s w r x (f ∷ free′) =
       answer = Going;
     }
 
--- (2) "If the covered version's high is open, stamp the register."
+-- (2) H5.9: where the covered version's high is open, the register is stamped.
 unfoldable pub putStamp : Store → ℕ → ℕ → ℕ → Stepped
 putStamp s w r c =
     record {
@@ -38,7 +38,7 @@ putStamp s w r c =
       answer = Going;
     }
 
--- (3) "Append the covered version's range to the local pool. If that now holds B, flush; else the put is done."
+-- (3) H5.12: the covered version's range goes to the end of the local pool. H5.13, H5.14: with B ranges there a flush follows, else the put is done.
 unfoldable pub putHandIn : Store → ℕ → ℕ → Stepped
 putHandIn s w c =
     let p = workerAt s w .pool ++ (rangeOf s c ∷ []) in
@@ -51,9 +51,9 @@ putHandIn s w c =
     }
 
 ------------------------------------------------------------------------
--- Flush (document 01's term), the end of a full put and the whole of a collect
+-- Flush: the second part of a put that filled its local pool, and the whole of a collect (H5.31)
 
--- (1) "Take up to two pools from the queue and merge by high, the first pool's first on equal highs."
+-- (1) H5.15: the first two pools leave the queue and are merged. H5.16: the local pool stays.
 unfoldable pub flushTake : Store → ℕ → Stepped
 flushTake s w =
     record {
@@ -61,13 +61,13 @@ flushTake s w =
       answer = Going;
     }
 
--- the times that a flush reads in one step, once it has read those of the first k holders
+-- H5.17, H5.18: the times that a flush reads in one step, once it has read those of the first k holders
 unfoldable pub readTimes : Store → ℕ → List ℕ
 readTimes s k = held s k ∷ []
 
--- (3) "Split the merged list into needless and needed by the times read." The needed ones go on the queue, or else "merge into the local pool,
--- local first on equal highs. Then queue the local pool if not empty, and empty it." The joined pool may hold 2B = 128 ranges; it is queued in
--- the same step and never stands in a worker's record.
+-- (3) H5.19: the merged list is split by the times read. H5.20 to H5.22: the needed ranges go on the queue or join the local pool, which is the
+-- first list of that merge. H5.23: the local pool is queued behind them, and is empty then. It may have 2B ranges for this moment, which is up to
+-- 128, but never in a worker's record. H5.24: the needless ones are freed next.
 unfoldable pub flushSplit : Store → ℕ → List Range → List ℕ → Stepped
 flushSplit s w m ts =
     let b = s .site .B in
@@ -81,7 +81,7 @@ flushSplit s w m ts =
       answer = Going;
     }
 
--- (2) "P steps: read the announced time of worker 0, then 1, and so on", then (3)
+-- (2) H5.17: P steps, each reads the time of one worker, from worker 0 on. Then (3).
 unfoldable pub flushRead : Store → ℕ → List Range → List ℕ → Stepped
 flushRead s w m ts =
     let more : Stepped =
@@ -89,7 +89,7 @@ flushRead s w m ts =
     let last = flushSplit s w m ts in
     cond (ltb (length ts) (holders s)) more last
 
--- "A read standing on it moves to its older neighbour": from slot c to slot o
+-- H5.27: a read that stands on the freed slot c goes to its older neighbour o
 abbrev pub moveTo : ℕ → ℕ → Doing → Stance → Doing
 moveTo c o d Nowhere = d
 moveTo c o d (StandsOn g e) = ReadStand g (cond (eqb e c) o e)
@@ -100,8 +100,8 @@ moveOff c o d = moveTo c o d (about d .stance)
 unfoldable pub workerOff : ℕ → ℕ → Worker → Worker
 workerOff c o x = withDoing x (moveOff c o (x .doing))
 
--- (4) "One step per needless version, in merged order: unlink it and free its slot." "Later the slot given back last is taken first."
--- (5) "Done."
+-- (4) H5.25 to H5.28: one step for each needless range, in merged order: its slot is unlinked, reads move off it, and it goes to the front of the
+-- free list. (5) H5.29: without one left the flush is done.
 unfoldable pub flushFree : Store → ℕ → List Range → Stepped
 flushFree s w [] = record { store = place s w Idle; answer = Done }
 flushFree s w (ρ ∷ l) =
@@ -118,7 +118,7 @@ flushFree s w (ρ ∷ l) =
 ------------------------------------------------------------------------
 -- Open
 
--- (1) "Clock at 4294967295: refusal 15. Else announce the clock."
+-- (1) H5.32: refusal 15 at the last clock. H5.33: else the worker announces the clock.
 unfoldable pub openAnnounce : Store → ℕ → Stepped
 openAnnounce s w =
     let last : Stepped = record { store = place s w Idle; answer = No 15 } in
@@ -129,7 +129,7 @@ openAnnounce s w =
     } in
     cond (eqb (s .clock) lastClock) last more
 
--- (2) "If the clock still equals the announced time, add one. Answer that time."
+-- (2) H5.34: a clock that is still at the announced time goes up by one. That time is the answer.
 unfoldable pub openPass : Store → ℕ → Stepped
 openPass s w =
     let a = workerAt s w .announced in
@@ -141,29 +141,29 @@ openPass s w =
 ------------------------------------------------------------------------
 -- Read, get, close
 
--- what a get or a read answers that found this
+-- H10.3: what a get or a read answers that found this
 unfoldable pub answerFor : Reading → Answer
 answerFor x = Value x
 
--- Read (1) "Stamp the register, stand on its newest version."
+-- Read (1) H5.36: the register is stamped, and the read stands on its newest version.
 unfoldable pub readEnter : Store → ℕ → Goal → Stepped
 readEnter s w g =
     let r = g .register in
     record { store = place (stamp s r) w (ReadStand g (newestOf s r)); answer = Going }
 
--- Read (2) "If its low is at most the worker's time, answer its value; else move to the older one. Repeat (2)."
+-- Read (2) H5.37: with a low that is at most the worker's time, the value there is the answer; else the read goes to the older neighbour.
 unfoldable pub readStand : Store → ℕ → Goal → ℕ → Stepped
 readStand s w g c =
     let found : Stepped = record { store = place s w Idle; answer = answerFor (slotAt s c .value) } in
     let on : Stepped = record { store = place s w (ReadStand g (slotAt s c .older)); answer = Going } in
     cond (leb (slotAt s c .low) (workerAt s w .announced)) found on
 
--- Get: "Stamp, answer the newest value."
+-- Get, H5.39: the register is stamped, and the newest version's value is the answer.
 unfoldable pub getShow : Store → ℕ → ℕ → Stepped
 getShow s w r =
     record { store = place (stamp s r) w Idle; answer = answerFor (slotAt s (newestOf s r) .value) }
 
--- Close: "Withdraw the time."
+-- Close, H5.40: the worker has no time then.
 unfoldable pub closeWithdraw : Store → ℕ → Stepped
 closeWithdraw s w =
     record {
@@ -172,7 +172,7 @@ closeWithdraw s w =
     }
 
 ------------------------------------------------------------------------
--- One step of worker w, which is at the place given. An idle worker has none: refusal 11.
+-- H5.1: one step of worker w, which is at the place given. An idle worker has none: refusal 11.
 
 unfoldable pub timeStep : Store → ℕ → TimeStep → Stepped
 timeStep s w OpenAnnounce = openAnnounce s w

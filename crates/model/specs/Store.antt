@@ -1,26 +1,26 @@
--- What the hub holds (document 01, "What the hub holds"). All numbers are natural numbers.
+-- What the hub holds: H1 of docs/HUB.md, whose rules the comments of these files cite by number. All numbers are natural numbers.
 use mathlib.Core.List.{List, [], _∷_}
 use Prim.Native.Nat.{ℕ, zero, suc, _+_}
 use lib.ListN.{getD, set}
 
--- A time or a neighbour that is not there: an unset low, an open high, no announced time, no older or newer neighbour.
--- The number is above every time and every slot, as "an open high counts as above every time" asks.
+-- H1.8: a time or a neighbour that is not there: an unset low, an open high, no announced time, no older or newer neighbour.
+-- H1.9, H1.10: the number is above every time, and above every slot.
 abbrev pub absent : ℕ
 absent = 4294967296
 
--- The last value of the 32-bit clock.
+-- H1.4: the last value of the clock.
 abbrev pub lastClock : ℕ
 lastClock = 4294967295
 
--- What a version stores: a count of watt-hours.
+-- H1.7: the value of a version, a count of watt-hours.
 pub record Reading : Type 0 where
   pub count : ℕ
 
--- What a version from setup stores.
+-- H2.9: the value of a version from setup.
 abbrev pub reading₀ : Reading
 reading₀ = record { count = 0 }
 
--- A version slot: "value (64-bit count of watt-hours), low and high time, older and newer neighbour".
+-- H1.7: a slot for a version, with its value, its times and its neighbours.
 pub record Slot : Type 0 where
   pub value : Reading
   pub low : ℕ
@@ -28,13 +28,13 @@ pub record Slot : Type 0 where
   pub older : ℕ
   pub newer : ℕ
 
--- A range (document 01's term): "a slot with its low and high".
+-- H1.17: a range, the number of a slot with a low and a high.
 pub record Range : Type 0 where
   pub slot : ℕ
   pub low : ℕ
   pub high : ℕ
 
--- A step that moves the worker's time and no version: open (1) and (2), close.
+-- A step that moves the worker's time and no version: open (1) and (2), close (H5.32 to H5.34, H5.40).
 pub data TimeStep : Type 0 where
   OpenAnnounce : TimeStep
   OpenPass : TimeStep
@@ -44,7 +44,7 @@ pub data TimeStep : Type 0 where
 pub record Goal : Type 0 where
   pub register : ℕ
 
--- What a worker is doing: "nothing, or one operation with its place in it". A place is named after the step that comes next.
+-- H1.15: what a worker is doing, its place. A place is named after the step that comes next.
 pub data Doing : Type 0 where
   Idle : Doing
   -- put (1): the register and what to store
@@ -68,29 +68,29 @@ pub data Doing : Type 0 where
   -- get: the register
   GetShow : ℕ → Doing
 
--- "A worker's record says what it is doing (nothing, or one operation with its place in it), its announced time or none, and its local pool."
+-- H1.14: a worker's record: its place, the time that it has announced, its local pool.
 pub record Worker : Type 0 where
   pub doing : Doing
   pub announced : ℕ
   pub pool : List Range
 
--- "The starting record of a worker is one fixed value: idle, no time, empty pool."
+-- H1.16: a worker starts idle, without a time and with an empty pool.
 abbrev pub startWorker : Worker
 startWorker = record { doing = Idle; announced = absent; pool = [] }
 
--- What a setup fixes: no later record changes it.
+-- H2.5: what a setup fixes: no later record changes it.
 pub record Site : Type 0 where
-  -- how many workers
+  -- H1.1: how many workers
   pub P : ℕ
-  -- how many registers: document 01's V, which antt reserves
+  -- H1.2: how many registers. V alone is a word that antt reserves.
   pub V' : ℕ
-  -- how many slots
+  -- H1.3: how many slots
   pub N : ℕ
-  -- B, the batch size (document 01's term), taken at setup
+  -- H1.24: the batch size, taken at setup
   pub B : ℕ
 
--- A hub that is set up. `newest` has the slot of each register's newest version, `free` the free slots with the one that is taken first in
--- front, `queue` the shared pools, first in first.
+-- A hub that is set up. `newest` has the slot of each register's newest version (H1.11), `free` the free slots with the one that is taken first
+-- in front (H1.25), `queue` the shared pools, first in first (H1.20).
 pub record Store : Type 0 where
   pub site : Site
   pub clock : ℕ
@@ -100,7 +100,7 @@ pub record Store : Type 0 where
   pub queue : List (List Range)
   pub workers : List Worker
 
--- The hub as a record meets it: not set up, with the row of slots that is lent to it; or set up.
+-- H2.1: the hub as a record meets it: not set up, with the row of slots that is lent to it; or set up.
 pub data Hub : Type 0 where
   blank : List Slot → Hub
   up : Store → Hub
@@ -127,7 +127,7 @@ slotAt s c = getD (s .slots) c slot₀
 abbrev pub newestOf : Store → ℕ → ℕ
 newestOf s r = getD (s .newest) r absent
 
--- Who holds a time: each worker, the one that it has announced. This is how many holders there are.
+-- H1.14: who holds a time: each worker, the one that it has announced. This is how many holders there are.
 abbrev pub holders : Store → ℕ
 holders s = s .site .P
 
@@ -135,7 +135,7 @@ holders s = s .site .P
 abbrev pub held : Store → ℕ → ℕ
 held s v = workerAt s v .announced
 
--- the range of the version in slot c
+-- H1.17: the range of the version in slot c, as its times stand now
 unfoldable pub rangeOf : Store → ℕ → Range
 rangeOf s c = record { slot = c; low = slotAt s c .low; high = slotAt s c .high }
 

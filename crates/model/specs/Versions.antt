@@ -26,8 +26,8 @@ alone v = setOlder (setNewer v absent) absent
 abbrev pub change : List Slot → ℕ → (Slot → Slot) → List Slot
 change l c f = set l c (f (getD l c slot₀))
 
--- Stamp (document 01's term) the register whose newest version is in slot n, at clock t: "if its newest version has no low, set that
--- low and the next older version's high to the clock".
+-- H1.13: stamp the register whose newest version is in slot n, at clock t. If that version has no low, its low and the high of its older
+-- neighbour become t.
 unfoldable pub stampSlots : List Slot → ℕ → ℕ → List Slot
 stampSlots l n t =
     let o = getD l n slot₀ .older in
@@ -38,16 +38,16 @@ stampSlots l n t =
 unfoldable pub stamp : Store → ℕ → Store
 stamp s r = withSlots s (stampSlots (s .slots) (newestOf s r) (s .clock))
 
--- a version: x, unset low, open high, above the version in slot c
+-- H5.7: a put's version: x, unset low, open high, above the version in slot c
 abbrev pub published : Reading → ℕ → Slot
 published x c = record { value = x; low = absent; high = absent; older = c; newer = absent }
 
--- "link it as newest with the value and no low": slot f above slot c
+-- H5.7: slot f gets the version of a put and stands above slot c
 unfoldable pub linkSlots : List Slot → ℕ → ℕ → Reading → List Slot
 linkSlots l c f x = set (change l c (λ v. setNewer v f)) f (published x c)
 
--- Unlink slot c: its neighbours become each other's. The slot's own neighbours are then absent: a free slot has none, so that the
--- test of lent memory has one rule for every slot (docs/DECISIONS.md, "Neighbours of free slots").
+-- H5.25: unlink slot c: its neighbours become each other's. H5.26: the slot itself has none then, so that the test of lent memory has one
+-- rule for every slot.
 unfoldable pub unlinkSlots : List Slot → ℕ → List Slot
 unlinkSlots l c =
     let o = getD l c slot₀ .older in

@@ -1,1 +1,1 @@
-// The model has no code: specs/ say what the hub is and does, in the order and words of document 01.
+// The model has no code: specs/ say what the hub is and does, in the order of the rules in docs/HUB.md.

@@ -134,7 +134,7 @@ pub push-rep : (ps : List (List Range)) (q : Queue) (src : List ℕ) (n : ℕ) (
     → pushed q src n ≡ queueRep (ps ++ (l ∷ [])) q
 push-rep ps q = push-rep-over ps q q
 
--- "queue the local pool if not empty"
+-- H5.23: a pool is queued if it is not empty
 pub push-queued : (ps : List (List Range)) (q₀ q : Queue) (src : List ℕ) (l : List Range) → length (q₀ .lens) ≡ 2048
     → q ≡ queueRep ps q₀ → take (3 * length l) src ≡ flat l → length ps < 2048 → length (joinedRanges ps) + length l ≤ 2048
     → pushed q src (length l) ≡ queueRep (ps ++ queuedPool l) q₀
@@ -191,7 +191,7 @@ module _ (ps : List (List Range)) (q : Queue) (e : q ≡ queueRep ps q) where
       (omega (arith, length-map (drop 2 ps) length, length-drop 2 ps)) in
       rw may (same-queue _ _ _ _ _ _ _ _ words lengths (omega (arith, length-drop 2 ps)) (omega arith))
 
-  -- "Take up to two pools from the queue and merge": what is taken is the model's, and so is what is left
+  -- H5.15: what is taken is the model's, and so is what is left
   pub take-rep : length ps ≤ 2048 → length (joinedRanges ps) ≤ 2048 → length (firstTwo ps) ≤ 256
       → (taken q ≡ firstTwo ps) × (rest q ≡ queueRep (drop 2 ps) q)
   take-rep hp hr ht = let may = may-take-rep hp hr ht in (taken-rep may, rest-rep may)

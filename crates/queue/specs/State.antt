@@ -57,7 +57,7 @@ firstRanges q = firstLength q + secondLength q
 unfoldable pub mayTake : Queue → Bool
 mayTake q = leb (q .pools) 2048 && leb (q .queued) 2048 && leb (firstRanges q) (q .queued) && leb (firstRanges q) 256
 
--- "Take up to two pools from the queue and merge by high"
+-- H5.15: the first two pools, merged
 unfoldable pub taken : Queue → List Range
 taken q = cond (mayTake q) (merge (rangesAt (q .queue) 0 (firstLength q)) (rangesAt (q .queue) (firstLength q) (secondLength q))) []
 

@@ -1,4 +1,4 @@
-// The queue of shared pools in lent memory: a pool pushed at its end, up to two taken from its front and merged (document 01, flush).
+// The queue of shared pools in lent memory (H1.20): a pool pushed at its end, up to two taken from its front and merged (H5.15).
 ghost use mathlib.Core.Path.{_≡_};
 ghost use mathlib.Core.Bool.{true};
 ghost use mathlib.Core.List.{[]};

@@ -4,7 +4,7 @@ use mathlib.Core.List.{List, [], _∷_}
 use lib.Dec.{leb}
 use Rattle.model.specs.Store.{Range}
 
--- the merge of the two pools starts with the first pool's first range: "by high, the first pool's first on equal highs"
+-- H1.23: the merge of the two lists starts with the first list's first range
 abbrev pub firstGoes : List Range → List Range → Bool
 firstGoes [] bs = false
 firstGoes (a ∷ l) [] = true

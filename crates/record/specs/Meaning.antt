@@ -1,4 +1,4 @@
--- What a decoded record means: for each case of an enum, document 01's command with its numbers, or the number of the refusal, as the model has it.
+-- What a decoded record means: for each case of an enum, the command of H3.3 with its numbers, or the number of the refusal, as the model has it.
 use Rattle.model.specs.Record as Model
 use Rattle.values.specs.Meaning.{readingOf}
 use Rattle.record.specs.declared.Operation.{Operation}

@@ -1,4 +1,4 @@
--- What the row writer's answer means: for each case of the enum, document 01's number, as the model has it.
+-- What the row writer's answer means: for each case of the enum, the number of H9, as the model has it.
 use Rattle.model.specs.Row as Model
 use Rattle.row.specs.declared.RowAnswer.{RowAnswer}
 use Rattle.row.specs.declared.RowAnswer.the-variants.{Written, No}

@@ -1,4 +1,4 @@
-// The read-out row (document 01, "Read-out row").
+// The read-out row: H9 of docs/HUB.md.
 ghost use mathlib.Core.Path.{_≡_};
 ghost use Prim.Native.Nat.{_+_, _≤_};
 ghost use lib.ListN.{length};

@@ -1,4 +1,4 @@
-// Document 01's cases of the read-out row that have no star, and their neighbours: for each the number of the refusal, 0 where there is
+// The cases of the read-out row in H11 of docs/HUB.md, and their neighbours: for each the number of the refusal, 0 where there is
 // none, and then every byte of the lent buffer, as bytes on standard output.
 use libc::STDOUT_FILENO;
 use row::RowAnswer;

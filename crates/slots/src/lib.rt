@@ -4,7 +4,7 @@ ghost use lib.ListN.{set, getD};
 ghost use Rattle.slots.specs.Slots.{vacantSlot, linkedAnd, madeSlot};
 use values::Reading;
 
-// "value, low and high time, older and newer neighbour". An unset low, an open high and an absent neighbour are 4294967296.
+// H1.7: a slot for a version. H8.9: an unset low, an open high and an absent neighbour are 4294967296.
 pub struct Slot {
     pub value: Reading,
     pub low: u64,

@@ -10,7 +10,7 @@ use Rattle.worker.specs.declared.Doing.the-variants.{Idle}
 use Rattle.worker.specs.declared.Announced.the-variants.{Nothing}
 use Rattle.state.specs.declared.Hub.{Hub}
 
--- "every worker has its starting record, the queue is empty"; the n - v slots that hold no register's version are free
+-- H2.6 to H2.8, H8.10: all workers at their start, the queue empty. H2.10: the n - v slots that hold no register's version are free.
 abbrev pub freshHub : ℕ → ℕ → ℕ → ℕ → Hub
 freshHub p v n t =
     record {

@@ -3,7 +3,7 @@ ghost use mathlib.Core.Path.{_≡_};
 ghost use Rattle.state.specs.State.{freshHub};
 use worker::Worker;
 
-// P, V and N of document 01, the clock, how many slots are free, how many pools are queued and how many ranges they have together.
+// P, V and N (H1.1 to H1.3), the clock, how many slots are free, how many pools are queued and how many ranges they have together.
 pub struct Hub {
     pub p: usize,
     pub v: usize,
@@ -16,7 +16,7 @@ pub struct Hub {
 }
 
 impl Hub {
-    // "every worker has its starting record, the queue is empty"; slots V to N - 1 are free.
+    // H2.6 to H2.8: all workers at their start, the queue empty. H2.10: slots V to N - 1 are free.
     pub fn fresh(p: usize, v: usize, n: usize, clock: u32) -> Hub
         ensures { λ r. ⌜ r ≡ freshHub p v n clock ⌝ }
     {

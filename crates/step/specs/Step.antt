@@ -49,8 +49,8 @@ stillAt o l newest = record { next = Taken o; row = l; newest = newest }
 ------------------------------------------------------------------------
 -- Put. The worker's announced time is t, the clock k, and n slots are free.
 
--- (1) "With no free slot: refusal 14. Else stamp the register, take a slot, link it as newest with the value and no low, remember the
--- version it covers."
+-- (1) H5.5: without a free slot refusal 14. H5.6 to H5.8: else the register is stamped, the next free slot gets the new version above the one that
+-- was the newest, and the put remembers that one.
 unfoldable pub putPublishStep : ℕ → Reading → Announced → ℕ → ℕ → List Slot → List ℕ → List ℕ → Stepped
 putPublishStep r x t k n l newest free =
     let i = newestAt newest r in
@@ -62,7 +62,7 @@ putPublishStep r x t k n l newest free =
       newest = set newest r (short f);
     })
 
--- (2) "If the covered version's high is open, stamp the register."
+-- (2) H5.9: where the covered version's high is open, the register is stamped.
 unfoldable pub putStampStep : ℕ → ℕ → Announced → ℕ → ℕ → List Slot → List ℕ → Stepped
 putStampStep r c t k n l newest =
     record {
@@ -74,12 +74,12 @@ putStampStep r c t k n l newest =
 ------------------------------------------------------------------------
 -- Open
 
--- (1) "Clock at 4294967295: refusal 15. Else announce the clock."
+-- (1) H5.32: refusal 15 at the last clock. H5.33: else the worker announces the clock.
 unfoldable pub openAnnounceStep : Announced → ℕ → ℕ → Outcome
 openAnnounceStep t k n = cond (eqb k lastClock) (outcomeOf Idle t k n (No 15)) (outcomeOf (OnTime OpenPass) (At k) k n Going)
 
--- (2) "If the clock still equals the announced time, add one. Answer that time." The last clock value is not passed. A worker at this place
--- has a time; without one nothing is answered.
+-- (2) H5.34: a clock that is still at the announced time goes up by one, and that time is the answer. The last clock value is not passed. A
+-- worker at this place has a time; without one nothing is answered.
 unfoldable pub openPassStep : Announced → ℕ → ℕ → Outcome
 openPassStep Nothing k n = outcomeOf Idle Nothing k n Going
 openPassStep (At a) k n = outcomeOf Idle (At a) (cond (eqb k a) (cond (ltb k lastClock) (k + 1) k) k) n (AnswerAt a)
@@ -87,7 +87,7 @@ openPassStep (At a) k n = outcomeOf Idle (At a) (cond (eqb k a) (cond (ltb k las
 ------------------------------------------------------------------------
 -- Read, get, close
 
--- Read (1) "Stamp the register, stand on its newest version."
+-- Read (1) H5.36: the register is stamped, and the read stands on its newest version.
 unfoldable pub readEnterStep : Goal → Announced → ℕ → ℕ → List Slot → List ℕ → Stepped
 readEnterStep g t k n l newest =
     let i = newestAt newest (g .register) in
@@ -97,13 +97,13 @@ readEnterStep g t k n l newest =
       newest = newest;
     }
 
--- Read (2) "If its low is at most the worker's time, answer its value; else move to the older one."
+-- Read (2) H5.37: with a low that is at most the worker's time, the value there is the answer; else the read goes to the older neighbour.
 unfoldable pub readStandStep : Goal → ℕ → Announced → ℕ → ℕ → List Slot → Outcome
 readStandStep g c t k n l =
     let v = slotAtIn l c in
     cond (leb (v .low) (timeOf t)) (outcomeOf Idle t k n (Value (v .value))) (outcomeOf (ReadStand g (short (v .older))) t k n Going)
 
--- Get: "Stamp, answer the newest value."
+-- Get, H5.39: the register is stamped, and the newest version's value is the answer.
 unfoldable pub getShowStep : ℕ → Announced → ℕ → ℕ → List Slot → List ℕ → Stepped
 getShowStep r t k n l newest =
     record {
@@ -112,7 +112,7 @@ getShowStep r t k n l newest =
       newest = newest;
     }
 
--- Close: "Withdraw the time."
+-- Close, H5.40: the worker has no time then.
 unfoldable pub closeWithdrawStep : ℕ → ℕ → Outcome
 closeWithdrawStep k n = outcomeOf Idle Nothing k n Done
 
@@ -129,7 +129,7 @@ timeStepOf CloseWithdraw t k n = closeWithdrawStep k n
 abbrev pub readOrSplit : ℕ → ℕ → ℕ → Next
 readOrSplit m j p = cond (ltb j p) (Read m j) (Split m)
 
--- flush (4) while ranges are left, then (5) "Done."
+-- flush (4) while ranges are left, then (5), H5.29
 abbrev pub freeOrDone : ℕ → Announced → ℕ → ℕ → Next
 freeOrDone m t k n = cond (eqb m 0) (Taken (outcomeOf Idle t k n Done)) (Free m)
 

@@ -1,4 +1,4 @@
--- What the values mean: for each case of an enum, document 01's number and values, as the model has them.
+-- What the values mean: for each case of an enum, the answer of H10.3 with its number, as the model has them.
 use Rattle.model.specs.Store as Model
 use Rattle.model.specs.Answer as Model·Answer
 use Rattle.values.specs.declared.Reading.{Reading}

@@ -13,7 +13,7 @@ use Rattle.slots.specs.Slots.{vacantSlot}
 ------------------------------------------------------------------------
 -- Words
 
--- value, low and high time, older and newer neighbour
+-- H1.7: value, low and high time, older and newer neighbour
 abbrev pub slotIn : List ℕ → Slot
 slotIn l = record { value = record { count = getD l 0 0 }; low = getD l 1 0; high = getD l 2 0; older = getD l 3 0; newer = getD l 4 0 }
 
@@ -39,7 +39,7 @@ withNewer s x = record { value = s .value; low = s .low; high = s .high; older =
 abbrev pub aloneSlot : Slot → Slot
 aloneSlot s = withOlder (withNewer s absent) absent
 
--- the version that a put publishes above slot i
+-- H5.7: the version that a put publishes above slot i
 abbrev pub publishedSlot : Reading → ℕ → Slot
 publishedSlot x i = record { value = x; low = absent; high = absent; older = i; newer = absent }
 
@@ -53,18 +53,19 @@ slotAtIn l i = getD l i vacantSlot
 abbrev pub changeIn : List Slot → ℕ → (Slot → Slot) → List Slot
 changeIn l i f = set l i (f (slotAtIn l i))
 
--- Stamp (document 01's term) the register whose newest version is in slot i, at clock k: "if its newest version has no low, set that low
--- and the next older version's high to the clock"
+-- H1.13: stamp the register whose newest version is in slot i, at clock k. If that version has no low, its low and the high of its older
+-- neighbour become k.
 unfoldable pub stampedIn : List Slot → ℕ → ℕ → List Slot
 stampedIn l i k =
     cond (eqb (slotAtIn l i .low) absent)
     (changeIn (changeIn l i (λ v. withLow v k)) (slotAtIn l i .older) (λ v. withHigh v k)) l
 
--- "link it as newest with the value and no low": slot f above slot i
+-- H5.7: slot f gets the version of a put and stands above slot i
 unfoldable pub linkedIn : List Slot → ℕ → ℕ → Reading → List Slot
 linkedIn l i f x = set (changeIn l i (λ v. withNewer v f)) f (publishedSlot x i)
 
--- Unlink slot i: its neighbours become each other's, and it has none. A version without an older neighbour leaves nothing to change there.
+-- H5.25, H5.26: unlink slot i: its neighbours become each other's, and it has none. A version without an older neighbour leaves nothing to
+-- change there.
 unfoldable pub unlinkedIn : List Slot → ℕ → List Slot
 unlinkedIn l i =
     let o = slotAtIn l i .older in

@@ -1,4 +1,4 @@
--- A local pool (document 01's term): "a count and at most 64 ranges".
+-- A local pool, H1.19: a count and at most 64 ranges.
 use mathlib.Core.Bool.{cond}
 use mathlib.Core.List.{List, [], _∷_}
 use Prim.Native.Nat.{ℕ, zero, suc, _+_}
@@ -7,7 +7,7 @@ use lib.ListN.{getD, set}
 use Rattle.model.specs.Store.{Range}
 use Rattle.worker.specs.declared.Pool.{Pool}
 
--- the pool with one range more; unchanged where it is full
+-- H5.12: the pool with one range more; unchanged where it is full
 abbrev pub appended : Pool → ℕ → ℕ → ℕ → Pool
 appended q slot low high =
     let n : Pool =

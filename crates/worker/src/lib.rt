@@ -8,7 +8,7 @@ ghost use Rattle.worker.specs.Pool.{appended, rangesIn};
 ghost use Rattle.worker.specs.About.{naming, aboutOf};
 use values::Reading;
 
-// "A local pool is a count and at most 64 ranges": the slot, the low and the high of each.
+// H1.19: a local pool, of at most 64 ranges: how many, and the slot, the low and the high of each.
 pub struct Pool {
     pub slots: [u16; 64],
     pub lows: [u32; 64],
@@ -91,7 +91,7 @@ pub struct Worker {
 }
 
 impl Worker {
-    // "The starting record of a worker is one fixed value: idle, no time, empty pool."
+    // H1.16: idle, without a time, with an empty pool.
     pub fn start() -> Worker
         ensures { λ r. ⌜ r ≡ workerRep startWorker ⌝ }
     {
