@@ -143,6 +143,15 @@ impl fmt::Display for Order {
     }
 }
 
+impl Order {
+    /// What breaks the order as it stands: an operation that stands there too often or not at all,
+    /// one that stands before an earlier one, or a value that is not shown.
+    pub fn violation(&self) -> Option<Violation> {
+        let found = [check_once(self), check_between(self), check_values(self)];
+        found.into_iter().filter_map(Result::err).min_by_key(|found| found.record)
+    }
+}
+
 /// Which part of demand 3 is broken.
 #[derive(Clone, Copy, Debug, PartialEq, Eq)]
 pub enum Claim {
@@ -191,8 +200,8 @@ pub fn examine(file: &[u8], answers: &[Answer]) -> (Order, Option<Violation>) {
     let followed = follower.follow(file, answers);
     let mut order = follower.order;
     replay(&mut order);
-    let found = [followed, check_once(&order), check_between(&order), check_values(&order)];
-    let violation = found.into_iter().filter_map(Result::err).min_by_key(|found| found.record);
+    let found = followed.err().into_iter().chain(order.violation());
+    let violation = found.min_by_key(|found| found.record);
     (order, violation)
 }
 
@@ -582,10 +591,7 @@ fn replay(order: &mut Order) {
         let copy = &mut copies[usize::from(operation.worker)];
         match operation.action {
             Action::Put { register, value } => registers[usize::from(register)] = value,
-            Action::Open => match copy {
-                Some(copy) => copy.copy_from_slice(&registers),
-                None => *copy = Some(registers.clone()),
-            },
+            Action::Open => *copy = Some(registers.clone()),
             Action::Close => *copy = None,
             Action::Collect => {}
             Action::Get { register } => operation.shown = Some(registers[usize::from(register)]),

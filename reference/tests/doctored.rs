@@ -1,0 +1,248 @@
+//! The checker of demand 3 on doctored logs: right ones with one answer changed or more, each made
+//! so that one test of the checker alone refuses it; and doctored orders, where no log can be.
+
+mod common;
+
+use common::{examined, records};
+use reference::order::{self, Claim, Order, Outcome, Violation};
+use reference::{log, Answer, Hub};
+
+/// What the checker says to a script with some of the hub's answers replaced.
+fn refused(script: &str, replaced: &[(usize, &str)]) -> Violation {
+    examined(script, replaced).1.expect("a violation")
+}
+
+/// Is it refused at this record, for this?
+fn refused_at(record: usize, claim: Claim, script: &str, replaced: &[(usize, &str)]) -> Violation {
+    let violation = refused(script, replaced);
+    assert_eq!((violation.record, violation.claim), (record, claim), "{replaced:?}: {violation}");
+    violation
+}
+
+#[test]
+fn a_put_whose_version_is_freed_unstamped_stands_nowhere() {
+    let script = "setup 2 1 4 1\n put 0 0 7\n step 0\n collect 1\n step 1 x5\n step 0 x2";
+    // Slot 1 has the put's version, the newest, without a low. Nobody needs it.
+    let violation = refused_at(10, Claim::Once, script, &[(7, "freed 1")]);
+    assert!(violation.sentence.contains("stands 0 times"), "{violation}");
+    // With its version stamped first the put has its effect, and nothing is broken.
+    let stamped = "setup 2 1 4 1\n put 0 0 7\n step 0 x2\n collect 1\n step 1 x5\n step 0";
+    assert_eq!(examined(stamped, &[(8, "freed 1")]).1, None);
+}
+
+#[test]
+fn the_newest_version_under_a_snapshot_is_needed() {
+    let script =
+        "setup 2 1 4 1\n put 0 0 7\n step 0 x3\n open 1\n step 1 x2\n collect 0\n step 0 x5";
+    // Slot 1 has the newest version, from 1 on; slot 0 the one before, up to 1.
+    let violation = refused_at(12, Claim::NeededFreed, script, &[(12, "freed 1")]);
+    assert!(violation.sentence.contains("range 1 on"), "{violation}");
+    assert!(violation.sentence.contains("worker 1's snapshot at 1"), "{violation}");
+    assert_eq!(examined(script, &[(12, "freed 0")]).1, None);
+}
+
+/// From the announcement to the close, whoever frees.
+#[test]
+fn a_snapshot_needs_from_its_announcement_to_its_close() {
+    let script = "setup 2 1 4 1\n put 0 0 7\n step 0 x3\n open 1\n step 1\n collect 0\n step 0 x5";
+    refused_at(11, Claim::NeededFreed, script, &[(11, "freed 1")]);
+    let own = "setup 1 1 4 1\n open 0\n step 0 x2\n put 0 0 7\n step 0 x7\n collect 0\n step 0 x4";
+    refused_at(16, Claim::NeededFreed, own, &[(16, "freed 0")]);
+    let closed = format!("{script}\n step 1\n close 1\n step 1\n collect 0\n step 0 x3");
+    assert_eq!(examined(&closed, &[(19, "freed 1")]).1, None);
+}
+
+#[test]
+fn a_read_after_a_close_shows_nothing() {
+    let script = "setup 1 1 2 1\n open 0\n step 0 x2\n close 0\n step 0\n read 0 0\n step 0 x2";
+    let violation = refused_at(8, Claim::Value, script, &[(6, "ok"), (7, "going"), (8, "value 0")]);
+    assert!(violation.sentence.contains("where nothing is shown"), "{violation}");
+    let never = "setup 1 1 2 1\n read 0 0\n step 0 x2";
+    refused_at(3, Claim::Value, never, &[(1, "ok"), (2, "going"), (3, "value 0")]);
+}
+
+#[test]
+fn an_open_takes_a_new_copy() {
+    // Worker 0 opens, puts 7, and is let open once more without a close.
+    let script = "setup 1 1 4 1\n open 0\n step 0 x2\n put 0 0 7\n step 0 x7\n open 0\n step 0 x2
+        read 0 0\n step 0 x2";
+    let accepted = [(12, "ok"), (13, "going"), (14, "at 2"), (15, "ok"), (16, "going")];
+    let answers = |value| accepted.into_iter().chain([(17, value)]).collect::<Vec<_>>();
+    let (order, violation) = examined(script, &answers("value 7"));
+    assert_eq!((order.operations[3].shown, violation), (Some(7), None));
+    refused_at(17, Claim::Value, script, &answers("value 0"));
+    // The same with a close between, as the hub has it.
+    let script = "setup 1 1 4 1\n open 0\n step 0 x2\n put 0 0 7\n step 0 x7\n close 0\n step 0
+        open 0\n step 0 x2\n read 0 0\n step 0 x2";
+    assert_eq!(examined(script, &[]).1, None);
+    refused_at(19, Claim::Value, script, &[(19, "value 0")]);
+}
+
+#[test]
+fn a_put_finds_a_free_slot() {
+    // N = V, and N = V + 1 with the one slot taken.
+    refused_at(2, Claim::Fit, "setup 1 1 1 1\n put 0 0 7\n step 0", &[(2, "going")]);
+    let taken = "setup 2 1 2 1\n put 0 0 7\n step 0\n put 1 0 8\n step 1";
+    refused_at(4, Claim::Fit, taken, &[(4, "going")]);
+    // A refused put takes none.
+    let refused = "setup 2 1 2 1\n put 0 0 7\n step 0\n put 1 0 8\n step 1";
+    assert_eq!(examined(refused, &[(2, "no 14"), (4, "going")]).1, None);
+}
+
+#[test]
+fn the_last_clock_is_not_announced() {
+    refused_at(2, Claim::Fit, "setup 1 1 1 4294967295\n open 0\n step 0", &[(2, "going")]);
+}
+
+#[test]
+fn setups_outside_their_ranges_are_not_followed() {
+    for sizes in ["0 1 1", "1 0 1", "1 2 1"] {
+        refused_at(0, Claim::Fit, &format!("setup {sizes} 1"), &[(0, "ok")]);
+    }
+}
+
+#[test]
+fn only_workers_and_registers_that_exist_begin() {
+    for command in ["put 2 0 7", "open 2", "read 2 0", "close 2", "get 2 0", "collect 2", "step 2"]
+    {
+        let script = format!("setup 2 3 4 1\n {command}");
+        refused_at(1, Claim::Fit, &script, &[(1, "ok")]);
+    }
+    for command in ["put 0 3 7", "read 0 3", "get 0 3"] {
+        let script = format!("setup 2 3 4 1\n {command}");
+        refused_at(1, Claim::Fit, &script, &[(1, "ok")]);
+    }
+    // Nor before a setup.
+    refused_at(0, Claim::Fit, "get 0 0", &[(0, "ok")]);
+}
+
+/// Every answer that a log may have, by its word and the number after it.
+const ANSWERS: [&str; 9] =
+    ["ok", "going", "done", "freed 0", "at 1", "value 0", "no 11", "no 14", "no 15"];
+
+#[test]
+fn each_step_has_its_answers() {
+    // A script that ends just before the step, and the answers that this step may have; `no 11`
+    // means that it was not taken.
+    let put = "setup 2 1 4 1\n put 0 0 7";
+    let freeing = format!("{put}\n step 0 x3\n collect 0\n step 0");
+    let cases: [(String, &[&str]); 13] = [
+        ("setup 2 1 4 1".into(), &["no 11"]),
+        (put.into(), &["going", "no 11", "no 14"]),
+        (format!("{put}\n step 0"), &["going", "no 11"]),
+        (format!("{put}\n step 0 x2"), &["going", "done", "no 11"]),
+        (
+            format!("{put}\n step 0 x3\n put 0 0 8\n step 0 x3"),
+            &["going", "done", "freed 0", "no 11"],
+        ),
+        ("setup 2 1 4 1\n open 0".into(), &["going", "no 11", "no 15"]),
+        ("setup 2 1 4 1\n open 0\n step 0".into(), &["at 1", "no 11"]),
+        ("setup 2 1 4 1\n open 0\n step 0 x2\n read 0 0".into(), &["going", "no 11"]),
+        (
+            "setup 2 1 4 1\n open 0\n step 0 x2\n read 0 0\n step 0".into(),
+            &["going", "value 0", "no 11"],
+        ),
+        ("setup 2 1 4 1\n open 0\n step 0 x2\n close 0".into(), &["done", "no 11"]),
+        ("setup 2 1 4 1\n get 0 0".into(), &["value 0", "no 11"]),
+        (format!("{put}\n step 0 x3\n collect 0"), &["going", "done", "freed 0", "no 11"]),
+        (freeing, &["going", "done", "freed 0", "no 11"]),
+    ];
+    for (script, allowed) in cases {
+        let script = format!("{script}\n step 0");
+        let record = records(&script).len() / 16 - 1;
+        for words in ANSWERS {
+            let found = examined(&script, &[(record, words)]).1;
+            match found {
+                None => assert!(allowed.contains(&words), "{script}: {words} is accepted"),
+                Some(found) => {
+                    assert!(!allowed.contains(&words), "{script}: {words}: {found}");
+                    assert_eq!((found.record, found.claim), (record, Claim::Fit), "{words}");
+                }
+            }
+        }
+    }
+}
+
+#[test]
+fn the_lowest_record_is_told() {
+    // A wrong value at 2, a step that nobody can take at 4.
+    let script = "setup 1 1 1 1\n get 0 0\n step 0\n get 0 0\n step 0";
+    refused_at(2, Claim::Value, script, &[(2, "value 1"), (4, "done")]);
+    // A put that stands nowhere ends at 11, between two gets.
+    let script = "setup 3 1 4 1\n put 0 0 7\n step 0\n collect 1\n step 1 x4\n get 2 0\n step 2
+        step 0 x2\n get 2 0\n step 2";
+    let freed = (7, "freed 1");
+    refused_at(11, Claim::Once, script, &[freed, (9, "value 0"), (13, "value 1")]);
+    refused_at(9, Claim::Value, script, &[freed, (9, "value 1"), (13, "value 0")]);
+}
+
+/// A put, a get after it, a refused put, and an open that has only begun.
+fn all_outcomes() -> Order {
+    let file = records(
+        "setup 2 1 2 1\n put 0 0 7\n step 0 x3\n get 1 0\n step 1\n put 0 0 8\n step 0\n open 0",
+    );
+    order::check(&file, &log::answers(&mut Hub::new(), &file)).expect("in order")
+}
+
+/// What breaks an order with another sequence.
+fn with(sequence: &[usize]) -> Option<(usize, Claim)> {
+    let mut order = all_outcomes();
+    order.sequence = sequence.to_vec();
+    order.violation().map(|violation| (violation.record, violation.claim))
+}
+
+#[test]
+fn every_operation_stands_as_often_as_its_outcome_says() {
+    let order = all_outcomes();
+    let outcomes: Vec<_> = order.operations.iter().map(|o| o.outcome).collect();
+    assert!(matches!(
+        outcomes[..],
+        [
+            Outcome::Finished { .. },
+            Outcome::Finished { .. },
+            Outcome::Refused { .. },
+            Outcome::Unfinished
+        ]
+    ));
+    assert_eq!(order.sequence, [0, 1]);
+    assert_eq!(with(&[0, 1]), None);
+    // Finished and missing, finished and twice, refused, unfinished without its effect.
+    assert_eq!(with(&[1]), Some((4, Claim::Once)));
+    assert_eq!(with(&[0]), Some((6, Claim::Once)));
+    assert_eq!(with(&[0, 0, 1]), Some((4, Claim::Once)));
+    assert_eq!(with(&[0, 1, 2]), Some((8, Claim::Once)));
+    assert_eq!(with(&[0, 1, 3]), Some((9, Claim::Once)));
+}
+
+/// A log cannot break this: an effect is always found between begin and end.
+#[test]
+fn an_operation_that_ended_stands_before_one_that_begins_later() {
+    assert_eq!(with(&[1, 0]), Some((5, Claim::Between)));
+    // A get from 1 to 3, a collect from 2 to 11 and a get from 4 to 5: only the gets have an order.
+    let overlapping = "setup 3 1 1 1\n get 0 0\n collect 1\n step 0\n get 2 0\n step 2\n step 1 x6";
+    let mut order = examined(overlapping, &[]).0;
+    assert_eq!(order.sequence, [0, 2, 1]);
+    for sequence in [[0, 2, 1], [0, 1, 2], [1, 0, 2]] {
+        order.sequence = sequence.to_vec();
+        assert_eq!(order.violation(), None, "{sequence:?}");
+    }
+    for sequence in [[2, 0, 1], [2, 1, 0], [1, 2, 0]] {
+        order.sequence = sequence.to_vec();
+        let violation = order.violation().expect("a violation");
+        assert_eq!((violation.record, violation.claim), (4, Claim::Between), "{sequence:?}");
+    }
+}
+
+#[test]
+fn values_are_compared_with_what_is_shown() {
+    let mut order = all_outcomes();
+    order.operations[1].shown = Some(8);
+    assert_eq!(order.violation().map(|found| found.claim), Some(Claim::Value));
+    order.operations[1].shown = None;
+    assert_eq!(order.violation().map(|found| found.claim), Some(Claim::Value));
+    let Outcome::Finished { ref mut answer, .. } = order.operations[1].outcome else {
+        panic!("finished")
+    };
+    *answer = Answer::Done;
+    assert_eq!(order.violation().map(|found| found.claim), Some(Claim::Value));
+}
