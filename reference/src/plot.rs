@@ -29,10 +29,12 @@ struct Curve {
     value: fn(&(Counts, usize)) -> usize,
 }
 
+/// In the order in which they are drawn. They run together where no snapshot is old: the first is
+/// the widest, so that it is seen on both sides of those over it.
 const CURVES: [Curve; 4] = [
     Curve {
         name: "everything newer than the oldest snapshot (the old rule)",
-        stroke: "stroke=\"#d55e00\" stroke-width=\"2.5\"",
+        stroke: "stroke=\"#f0a35e\" stroke-width=\"7\"",
         value: |(counts, _)| counts.newer_than_oldest,
     },
     Curve {

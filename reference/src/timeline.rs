@@ -133,14 +133,19 @@ impl<'a> Timeline<'a> {
         labels.max().unwrap_or(0).max(page).clamp(MIN_COLUMN, MAX_COLUMN)
     }
 
-    /// Wide enough for the records and for every worker's last label.
+    /// Its lanes are wide enough for the records and for every worker's last label.
     fn page_width(&self) -> usize {
         let operations = self.order.operations.iter().zip(&self.next);
         let last = operations.filter(|(_, next)| next.is_none());
         let labels =
             last.map(|(operation, _)| self.left(operation.begin) + labels_width(operation));
-        let records = self.left(self.records) + MARGIN;
-        labels.max().unwrap_or(0).max(records).max(MIN_WIDTH)
+        let lanes = labels.max().unwrap_or(0).max(self.left(self.records));
+        MIN_WIDTH.max(lanes + MARGIN)
+    }
+
+    /// The right edge of the lanes.
+    fn right(&self) -> usize {
+        self.width - MARGIN
     }
 
     /// The left edge of a record's column.
@@ -163,13 +168,13 @@ impl<'a> Timeline<'a> {
             Some(violation) => ("not accepted", "wrong", violation.to_string()),
         };
         text(f, "heading", MARGIN, 25, &format!("The order of demand 3: {verdict}"))?;
-        text(f, class, MARGIN, 45, &shortened(&line, self.width - 2 * MARGIN))
+        text(f, class, MARGIN, 45, &shortened(&line, self.right() - MARGIN))
     }
 
     /// Lanes with their workers, and the numbers of the records below them.
     fn write_lanes(&self, f: &mut Formatter) -> fmt::Result {
         for worker in 0..self.order.workers {
-            rect(f, "lane", LEFT, lane(worker), self.width - LEFT - MARGIN, LANE - GAP, 3)?;
+            rect(f, "lane", LEFT, lane(worker), self.right() - LEFT, LANE - GAP, 3)?;
             text(f, "worker", MARGIN, bar(worker) + 14, &format!("worker {worker}"))?;
         }
         let base = self.base();
@@ -241,12 +246,12 @@ impl<'a> Timeline<'a> {
             }
             Outcome::Refused { record, .. } => rect(f, "bar refused", x, y, width(record), BAR, 4)?,
             Outcome::Unfinished => {
-                let (end, base) = (self.left(self.records) + MARGIN / 2, y + BAR);
+                let (end, base) = (self.left(self.records), y + BAR);
                 let line = format!("M{end} {y}H{x}V{base}H{end}");
                 path(f, &format!("bar {kind} unfinished"), &line)?;
             }
         }
-        let room = next.map_or(self.width, |next| self.left(next)) - x - GAP;
+        let room = next.map_or(self.right(), |next| self.left(next)) - x - GAP;
         text(f, "label", x, y - 7, &shortened(&label(operation), room))?;
         match answer(operation) {
             (_, words) if words.is_empty() => Ok(()),

@@ -114,11 +114,50 @@ fn bars_and_places_stand_at_their_records() {
         svg.contains(&format!(r#"<text class="place" x="{middle}" y="164">1</text>"#)),
         "{svg}"
     );
-    // The collect goes on at the end.
+    // The collect is open at its end.
     assert!(
-        svg.contains(r#"<path class="bar collect unfinished" d="M262 82H210V102H262"/>"#),
+        svg.contains(r#"<path class="bar collect unfinished" d="M254 82H210V102H254"/>"#),
         "{svg}"
     );
+}
+
+/// The numbers in a tag after each of these, as in `x="7"` or `H7`.
+fn numbers(tag: &str, before: &str) -> Vec<usize> {
+    let after = tag.split(before).skip(1);
+    let digits = |rest: &str| rest.chars().take_while(char::is_ascii_digit).collect::<String>();
+    after.filter_map(|rest| digits(rest).parse().ok()).collect()
+}
+
+/// The right edges of the elements of a class, but for most of the legend.
+fn right_edges(svg: &str, class: &str) -> Vec<usize> {
+    let drawn = svg.split("class=\"legend\"").next().unwrap_or(svg);
+    let tags = drawn.split('<').filter(|tag| count(tag, class) > 0);
+    let right = |tag: &str| match numbers(tag, " width=\"")[..] {
+        [width] => numbers(tag, " x=\"")[0] + width,
+        _ => [numbers(tag, "\"M"), numbers(tag, "H")].concat().into_iter().max().unwrap_or(0),
+    };
+    tags.map(right).collect()
+}
+
+#[test]
+fn nothing_runs_past_its_lane() {
+    let unfinished = "setup 2 1 9 1\n open 1\n step 1\n put 0 0 7\n step 0 x40\n put 0 0 8";
+    let mut svgs = vec![timeline(unfinished, &[]), timeline(&sample("order.txt"), &[])];
+    for (kind, _) in Kind::ALL {
+        let file = script(kind, 3, 150);
+        let order = order::check(&file, &log::answers(&mut Hub::new(), &file)).unwrap();
+        svgs.push(Timeline::new(&order, None).to_string());
+    }
+    let mut bars = 0;
+    for svg in svgs {
+        let Some(&lane) = right_edges(&svg, "lane").first() else { continue };
+        for class in ["bar", "snapshot", "effect"] {
+            let edges = right_edges(&svg, class);
+            bars += edges.len();
+            assert!(edges.iter().all(|&edge| edge <= lane), "{class}: {edges:?} past {lane}");
+        }
+    }
+    assert!(bars > 500, "{bars}");
 }
 
 #[test]
