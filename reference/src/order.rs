@@ -479,8 +479,8 @@ impl Follower {
         for other in 0..self.workers.len() {
             let Worker { operation, announced, .. } = self.workers[other];
             let opening = operation.filter(|&operation| {
-                let Operation { action, effect, .. } = self.order.operations[operation];
-                action == Action::Open && effect.is_none() && announced == Some(time)
+                let Operation { action, .. } = self.order.operations[operation];
+                action == Action::Open && announced == Some(time)
             });
             if let Some(operation) = opening {
                 self.effect(operation);

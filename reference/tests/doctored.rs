@@ -7,14 +7,9 @@ use common::{examined, records};
 use reference::order::{self, Claim, Order, Outcome, Violation};
 use reference::{log, Answer, Hub};
 
-/// What the checker says to a script with some of the hub's answers replaced.
-fn refused(script: &str, replaced: &[(usize, &str)]) -> Violation {
-    examined(script, replaced).1.expect("a violation")
-}
-
-/// Is it refused at this record, for this?
+/// A script with some of the hub's answers replaced is refused at this record, for this.
 fn refused_at(record: usize, claim: Claim, script: &str, replaced: &[(usize, &str)]) -> Violation {
-    let violation = refused(script, replaced);
+    let violation = examined(script, replaced).1.expect("a violation");
     assert_eq!((violation.record, violation.claim), (record, claim), "{replaced:?}: {violation}");
     violation
 }
@@ -95,6 +90,18 @@ fn the_last_clock_is_not_announced() {
 }
 
 #[test]
+fn there_are_as_many_answers_as_records() {
+    let file = records("setup 1 1 2 1\n get 0 0\n step 0\n bytes 07");
+    let mut answers = log::answers(&mut Hub::new(), &file);
+    assert!(order::check(&file, &answers).is_ok());
+    let missing = order::check(&file, &answers[..3]).unwrap_err();
+    assert_eq!((missing.record, missing.claim), (3, Claim::Fit));
+    answers.push(answers[3]);
+    let extra = order::check(&file, &answers).unwrap_err();
+    assert_eq!((extra.record, extra.claim), (4, Claim::Fit));
+}
+
+#[test]
 fn setups_outside_their_ranges_are_not_followed() {
     for sizes in ["0 1 1", "1 0 1", "1 2 1"] {
         refused_at(0, Claim::Fit, &format!("setup {sizes} 1"), &[(0, "ok")]);
@@ -116,46 +123,34 @@ fn only_workers_and_registers_that_exist_begin() {
     refused_at(0, Claim::Fit, "get 0 0", &[(0, "ok")]);
 }
 
-/// Every answer that a log may have, by its word and the number after it.
-const ANSWERS: [&str; 9] =
-    ["ok", "going", "done", "freed 0", "at 1", "value 0", "no 11", "no 14", "no 15"];
+/// Every answer that a step may have.
+const ANSWERS: [&str; 8] = ["ok", "going", "done", "freed 0", "at 1", "value 0", "no 14", "no 15"];
 
 #[test]
 fn each_step_has_its_answers() {
-    // A script that ends just before the step, and the answers that this step may have; `no 11`
-    // means that it was not taken.
-    let put = "setup 2 1 4 1\n put 0 0 7";
-    let freeing = format!("{put}\n step 0 x3\n collect 0\n step 0");
-    let cases: [(String, &[&str]); 13] = [
-        ("setup 2 1 4 1".into(), &["no 11"]),
-        (put.into(), &["going", "no 11", "no 14"]),
-        (format!("{put}\n step 0"), &["going", "no 11"]),
-        (format!("{put}\n step 0 x2"), &["going", "done", "no 11"]),
-        (
-            format!("{put}\n step 0 x3\n put 0 0 8\n step 0 x3"),
-            &["going", "done", "freed 0", "no 11"],
-        ),
-        ("setup 2 1 4 1\n open 0".into(), &["going", "no 11", "no 15"]),
-        ("setup 2 1 4 1\n open 0\n step 0".into(), &["at 1", "no 11"]),
-        ("setup 2 1 4 1\n open 0\n step 0 x2\n read 0 0".into(), &["going", "no 11"]),
-        (
-            "setup 2 1 4 1\n open 0\n step 0 x2\n read 0 0\n step 0".into(),
-            &["going", "value 0", "no 11"],
-        ),
-        ("setup 2 1 4 1\n open 0\n step 0 x2\n close 0".into(), &["done", "no 11"]),
-        ("setup 2 1 4 1\n get 0 0".into(), &["value 0", "no 11"]),
-        (format!("{put}\n step 0 x3\n collect 0"), &["going", "done", "freed 0", "no 11"]),
-        (freeing, &["going", "done", "freed 0", "no 11"]),
+    // What was done before the step of worker 0, and which answers the step may have.
+    let cases: [(&str, &[&str]); 12] = [
+        ("", &[]),
+        ("put 0 0 7", &["going", "no 14"]),
+        ("put 0 0 7\n step 0", &["going"]),
+        ("put 0 0 7\n step 0 x2", &["going", "done"]),
+        ("put 0 0 7\n step 0 x3\n put 0 0 8\n step 0 x3", &["going", "done", "freed 0"]),
+        ("put 0 0 7\n step 0 x3\n collect 0", &["going", "done", "freed 0"]),
+        ("open 0", &["going", "no 15"]),
+        ("open 0\n step 0", &["at 1"]),
+        ("open 0\n step 0 x2\n read 0 0", &["going"]),
+        ("open 0\n step 0 x2\n read 0 0\n step 0", &["going", "value 0"]),
+        ("open 0\n step 0 x2\n close 0", &["done"]),
+        ("get 0 0", &["value 0"]),
     ];
-    for (script, allowed) in cases {
-        let script = format!("{script}\n step 0");
+    for (before, allowed) in cases {
+        let script = format!("setup 2 1 4 1\n {before}\n step 0");
         let record = records(&script).len() / 16 - 1;
         for words in ANSWERS {
-            let found = examined(&script, &[(record, words)]).1;
-            match found {
-                None => assert!(allowed.contains(&words), "{script}: {words} is accepted"),
+            match examined(&script, &[(record, words)]).1 {
+                None => assert!(allowed.contains(&words), "{before}: {words} is accepted"),
                 Some(found) => {
-                    assert!(!allowed.contains(&words), "{script}: {words}: {found}");
+                    assert!(!allowed.contains(&words), "{before}: {words}: {found}");
                     assert_eq!((found.record, found.claim), (record, Claim::Fit), "{words}");
                 }
             }
