@@ -1,19 +1,24 @@
-//! Which answers, refusals and branches of the steps a run reached.
+//! Which answers, refusals, branches of the steps and sizes of hubs a run reached.
 
 use crate::answer::{Answer, Refusal};
+use crate::store::Store;
 use std::fmt;
 
-/// Told of each branch that a step takes. The empty observer `()` compiles to nothing.
+/// Told of each setup and of each branch that a step takes. The empty observer `()` compiles to nothing.
 pub trait Observer {
     /// Does the observer look at all? Branches that need work to tell apart are found only then.
     const ON: bool;
     fn branch(&mut self, branch: Branch);
+    /// The store that a setup has made.
+    fn set_up(&mut self, store: &Store);
 }
 
 impl Observer for () {
     const ON: bool = false;
     #[inline(always)]
     fn branch(&mut self, _: Branch) {}
+    #[inline(always)]
+    fn set_up(&mut self, _: &Store) {}
 }
 
 macro_rules! branches {
@@ -81,6 +86,27 @@ branches! {
     Close "close withdraws"
 }
 
+/// Sizes of hubs: what they are called, and which P, V and N are meant.
+type Sizes = (&'static str, fn(usize, usize, usize) -> bool);
+
+const SIZES: [Sizes; 13] = [
+    ("P 1", |p, _, _| p == 1),
+    ("P 2 to 15", |p, _, _| (2..16).contains(&p)),
+    ("P 16", |p, _, _| p == 16),
+    ("V 1", |_, v, _| v == 1),
+    ("V 2 to 16", |_, v, _| (2..17).contains(&v)),
+    ("V 17 to 255", |_, v, _| (17..256).contains(&v)),
+    ("V 256", |_, v, _| v == 256),
+    ("N = V", |_, v, n| n == v),
+    ("N up to 136", |_, _, n| n < 137),
+    ("N 137 to 2047", |_, _, n| (137..2048).contains(&n)),
+    ("N 2048", |_, _, n| n == 2048),
+    ("V 17 to 255 with N 137 to 2047", |_, v, n| {
+        (17..256).contains(&v) && (137..2048).contains(&n)
+    }),
+    ("P below 16 with N from 1024 on", |p, _, n| p < 16 && n >= 1024),
+];
+
 /// Counts of everything a run reached.
 #[derive(Clone, Debug)]
 pub struct Coverage {
@@ -90,11 +116,18 @@ pub struct Coverage {
     pub refusals: [u64; 16],
     /// By branch.
     pub branches: [u64; Branch::ALL.len()],
+    /// By sizes, as in `SIZES`: setups that were accepted.
+    pub sizes: [u64; SIZES.len()],
 }
 
 impl Default for Coverage {
     fn default() -> Self {
-        Coverage { answers: [0; 6], refusals: [0; 16], branches: [0; Branch::ALL.len()] }
+        Coverage {
+            answers: [0; 6],
+            refusals: [0; 16],
+            branches: [0; Branch::ALL.len()],
+            sizes: [0; SIZES.len()],
+        }
     }
 }
 
@@ -102,6 +135,12 @@ impl Observer for Coverage {
     const ON: bool = true;
     fn branch(&mut self, branch: Branch) {
         self.branches[branch as usize] += 1;
+    }
+    fn set_up(&mut self, store: &Store) {
+        let (p, v, n) = (store.workers.len(), store.newest.len(), store.slots.len());
+        for (count, (_, meant)) in self.sizes.iter_mut().zip(SIZES) {
+            *count += u64::from(meant(p, v, n));
+        }
     }
 }
 
@@ -133,6 +172,7 @@ impl Coverage {
         each(&mut self.answers, &other.answers);
         each(&mut self.refusals, &other.refusals);
         each(&mut self.branches, &other.branches);
+        each(&mut self.sizes, &other.sizes);
     }
 
     /// Every count with its name. Refusal 7 is the row writer's and has no part in a log.
@@ -146,7 +186,8 @@ impl Coverage {
         });
         let branches = Branch::ALL.iter().zip(self.branches);
         let branches = branches.map(|((_, text), n)| (text.to_string(), n));
-        answers.chain(refusals).chain(branches).collect()
+        let sizes = SIZES.iter().zip(self.sizes).map(|((name, _), n)| (name.to_string(), n));
+        answers.chain(refusals).chain(branches).chain(sizes).collect()
     }
 
     /// What was never reached.

@@ -85,10 +85,14 @@ pub enum Kind {
     Batches,
     /// Workers that stop in the middle of a put or flush for long.
     Stalled,
+    /// Hubs of any sizes.
+    Sizes,
+    /// Many registers, and slots that run out all the same.
+    Full,
 }
 
 impl Kind {
-    pub const ALL: [(Kind, &'static str); 13] = [
+    pub const ALL: [(Kind, &'static str); 15] = [
         (Kind::Uniform, "uniform"),
         (Kind::Mixed, "mixed"),
         (Kind::Slots, "slots"),
@@ -102,6 +106,8 @@ impl Kind {
         (Kind::Large, "large"),
         (Kind::Batches, "batches"),
         (Kind::Stalled, "stalled"),
+        (Kind::Sizes, "sizes"),
+        (Kind::Full, "full"),
     ];
 
     /// The kind with this name.
@@ -162,6 +168,7 @@ const MIXED: Profile = Profile {
 impl Profile {
     fn of(kind: Kind) -> Profile {
         let last = u64::from(LAST_CLOCK);
+        let most_registers = u64::from(MAX_REGISTERS);
         match kind {
             Kind::Uniform | Kind::Mixed | Kind::Tails => MIXED,
             Kind::Slots => Profile {
@@ -228,6 +235,21 @@ impl Profile {
                 stall: 120,
                 stall_read: 120,
                 stillness: 150,
+                ..MIXED
+            },
+            Kind::Sizes => Profile {
+                registers: (1, most_registers),
+                spare: (0, u64::from(MAX_SLOTS) - most_registers),
+                invalid: 5,
+                burst: 12,
+                ..MIXED
+            },
+            Kind::Full => Profile {
+                registers: (17, most_registers - 1),
+                spare: (0, 80),
+                weights: Weights { put: 70, open: 8, read: 8, close: 6, get: 4, collect: 4 },
+                invalid: 5,
+                burst: 12,
                 ..MIXED
             },
         }

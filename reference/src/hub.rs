@@ -60,6 +60,7 @@ impl<F: Fault, O: Observer> Hub<F, O> {
             (None, Record::Setup { workers, registers, slots, clock }) => {
                 let store = Store::set_up(self.row_length, workers, registers, slots, clock);
                 store.map(|store| {
+                    self.observer.set_up(&store);
                     self.store = Some(store);
                     Answer::Ok
                 })

@@ -32,7 +32,11 @@ fn run(kind: Kind, seed: u64, count: usize) -> Result<(), String> {
 #[test]
 fn random_scripts_keep_the_invariant() {
     for (kind, name) in Kind::ALL {
-        let (seeds, count) = if kind == Kind::Large { (2, 8000) } else { (30, 1000) };
+        let (seeds, count) = match kind {
+            Kind::Large => (2, 8000),
+            Kind::Sizes => (10, 1000),
+            _ => (30, 1000),
+        };
         for seed in 0..seeds {
             if let Err(reason) = run(kind, 5000 + seed, count) {
                 panic!("{name} {seed}: {reason}");
