@@ -145,7 +145,14 @@ pub fn log_text(answers: &[Answer]) -> Vec<u8> {
     text
 }
 
-/// Fills the buffer from `from` on as far as one read goes; 0 at the end of the input.
+/// Why a run ends early.
+#[derive(Debug)]
+pub enum Failure {
+    Read(io::Error),
+    Write(io::Error),
+}
+
+/// Fills the buffer as far as one read goes; 0 at the end of the input.
 fn read_some(input: &mut impl Read, buffer: &mut [u8]) -> io::Result<usize> {
     loop {
         match input.read(buffer) {
@@ -156,19 +163,20 @@ fn read_some(input: &mut impl Read, buffer: &mut [u8]) -> io::Result<usize> {
 }
 
 /// Reads records in pieces of any size and writes the log; each piece's lines go out before the
-/// next is read. `each` sees every answer.
+/// next is read. `each` sees every answer. Only the end of the input makes a rest of 1 to 15 bytes
+/// a record: where a read fails it is none.
 pub fn run<F: Fault, O: Observer>(
     hub: &mut Hub<F, O>,
     input: &mut impl Read,
     output: &mut impl Write,
     mut each: impl FnMut(&mut Hub<F, O>, Answer),
-) -> io::Result<()> {
+) -> Result<(), Failure> {
     let mut buffer = vec![0; PIECE];
     let mut text = Vec::with_capacity(PIECE);
     let mut number = Decimal::default();
     let mut held = 0;
     loop {
-        let got = read_some(input, &mut buffer[held..])?;
+        let got = read_some(input, &mut buffer[held..]).map_err(Failure::Read)?;
         let filled = held + got;
         let mut records = buffer[..filled].chunks_exact(record::LENGTH);
         for bytes in &mut records {
@@ -183,8 +191,7 @@ pub fn run<F: Fault, O: Observer>(
             each(hub, answer);
             append_line(&mut text, &number, answer);
         }
-        output.write_all(&text)?;
-        output.flush()?;
+        output.write_all(&text).and_then(|()| output.flush()).map_err(Failure::Write)?;
         text.clear();
         if got == 0 {
             return Ok(());

@@ -4,7 +4,7 @@ mod common;
 
 use common::records;
 use reference::generate::{script, Kind, Random};
-use reference::log::{self, Decimal};
+use reference::log::{self, Decimal, Failure};
 use reference::{Answer, Hub, Refusal};
 use std::io::{self, Read};
 
@@ -57,6 +57,30 @@ fn pieces_of_any_size_give_one_log() {
     }
 }
 
+/// Ends in an error where others end.
+struct Broken<'a>(&'a [u8]);
+
+impl Read for Broken<'_> {
+    fn read(&mut self, buffer: &mut [u8]) -> io::Result<usize> {
+        match self.0.read(buffer)? {
+            0 => Err(io::ErrorKind::ConnectionReset.into()),
+            length => Ok(length),
+        }
+    }
+}
+
+#[test]
+fn a_read_that_fails_makes_no_record_of_a_rest() {
+    let file = records("setup 1 1 1 1\n get 0 0");
+    for length in 0..=file.len() {
+        let mut output = Vec::new();
+        let mut input = Broken(&file[..length]);
+        let result = log::run(&mut Hub::new(), &mut input, &mut output, |_, _| {});
+        assert!(matches!(result, Err(Failure::Read(_))), "{length}");
+        assert_eq!(String::from_utf8(output).unwrap(), ["", "0 ok\n", "0 ok\n1 ok\n"][length / 16]);
+    }
+}
+
 #[test]
 fn empty_file_prints_nothing() {
     assert_eq!(log_of(&[]), "");
@@ -75,7 +99,7 @@ fn a_rest_of_a_record_gets_6() {
 #[test]
 fn numbers_of_lines() {
     let mut number = Decimal::default();
-    for expected in 0..120_000 {
+    for expected in 0..1_100_000 {
         assert_eq!(number.digits(), expected.to_string().as_bytes());
         number.increment();
     }

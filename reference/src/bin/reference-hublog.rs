@@ -3,6 +3,7 @@
 
 use reference::coverage::Coverage;
 use reference::fault::Right;
+use reference::log::Failure;
 use reference::store::MAX_SLOTS;
 use reference::{log, Hub};
 use std::io::{self, ErrorKind};
@@ -27,13 +28,15 @@ fn main() -> ExitCode {
             return ExitCode::FAILURE;
         }
     };
-    match result {
+    let sentence = match result {
+        Ok(()) => return ExitCode::SUCCESS,
         // Whoever read the log has seen enough.
-        Err(error) if error.kind() == ErrorKind::BrokenPipe => ExitCode::SUCCESS,
-        Err(error) => {
-            eprintln!("reference-hublog: {error}");
-            ExitCode::FAILURE
+        Err(Failure::Write(error)) if error.kind() == ErrorKind::BrokenPipe => {
+            return ExitCode::SUCCESS
         }
-        Ok(()) => ExitCode::SUCCESS,
-    }
+        Err(Failure::Write(error)) => format!("cannot write standard output: {error}"),
+        Err(Failure::Read(error)) => format!("cannot read standard input: {error}"),
+    };
+    eprintln!("reference-hublog: {sentence}");
+    ExitCode::FAILURE
 }
