@@ -4,21 +4,37 @@ use reference::coverage::Coverage;
 use reference::fault::Right;
 use reference::store::MAX_SLOTS;
 use reference::{log, order, Hub};
+use std::ffi::OsString;
 use std::io::{Read, Write};
 use std::process::{Child, Command, Stdio};
 use std::thread;
 
+/// A program named by the environment.
+fn program(variable: &str) -> OsString {
+    std::env::var_os(variable).unwrap_or_else(|| {
+        panic!(
+            "{variable} is not set: in the top folder prove and build both programs with \
+             `rt check hublog && rt check eachlog`, and run `HUBLOG=$PWD/target/bin/hublog \
+             EACHLOG=$PWD/target/bin/eachlog cargo test --offline --manifest-path tests/Cargo.toml`"
+        )
+    })
+}
+
+fn started(command: &mut Command) -> Child {
+    let child = command.spawn();
+    child.unwrap_or_else(|error| panic!("{command:?}: {error}; is the path a whole one?"))
+}
+
 /// The program under test: the environment's `HUBLOG`.
 pub fn hublog() -> Command {
-    let path = std::env::var_os("HUBLOG").expect("HUBLOG names the program under test");
-    let mut command = Command::new(path);
+    let mut command = Command::new(program("HUBLOG"));
     command.stdin(Stdio::piped()).stdout(Stdio::piped());
     command
 }
 
 /// Starts it.
 pub fn start() -> Child {
-    hublog().spawn().expect("hublog starts")
+    started(&mut hublog())
 }
 
 /// What it prints for a file that is written to it in pieces of these sizes, the last one repeated.
@@ -28,12 +44,10 @@ pub fn printed(file: &[u8], pieces: &[usize]) -> Vec<u8> {
 
 /// What `eachlog`, the environment's `EACHLOG`, prints for a file with these arguments.
 pub fn each_printed(file: &[u8], arguments: &[usize]) -> Vec<u8> {
-    let path =
-        std::env::var_os("EACHLOG").expect("EACHLOG names the program for one record a call");
-    let mut command = Command::new(path);
+    let mut command = Command::new(program("EACHLOG"));
     command.args(arguments.iter().map(usize::to_string));
     command.stdin(Stdio::piped()).stdout(Stdio::piped());
-    printed_by(command.spawn().expect("eachlog starts"), file, &[])
+    printed_by(started(&mut command), file, &[])
 }
 
 fn printed_by(mut child: Child, file: &[u8], pieces: &[usize]) -> Vec<u8> {

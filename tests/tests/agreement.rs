@@ -101,7 +101,7 @@ fn together(scripts: Vec<(Kind, &'static str, u64, usize)>) -> Coverage {
 #[test]
 fn random_scripts_of_all_kinds() {
     let mut scripts = Vec::new();
-    for seed in 0..160 {
+    for seed in 0..140 {
         for (kind, name) in Kind::ALL {
             scripts.push((kind, name, seed, 1000));
         }
@@ -115,6 +115,12 @@ fn random_scripts_of_all_kinds() {
 #[test]
 fn long_scripts_of_the_largest_hub() {
     together((1000..1012).map(|seed| (Kind::Large, "large", seed, 40_000)).collect());
+}
+
+/// The numbers of the lines have up to seven digits.
+#[test]
+fn more_than_a_million_lines() {
+    agree("mixed 7", &script(Kind::Mixed, 7, 1_100_000));
 }
 
 #[test]
