@@ -1,10 +1,10 @@
 -- What a text that is written into lent memory leaves behind: it is written in parts, and is known under other names.
 use mathlib.Core.Path.{_≡_, sym, ap, subst, _∙_}
 use mathlib.Core.List.{List, _++_, append-assoc}
-use Prim.Native.Nat.{ℕ, _+_, _≤_}
+use Prim.Native.Nat.{ℕ, _+_, _-_, _≤_}
 use native.Mathlib.Omega.{arith}
-use lib.ListN.{length, take, drop, length-append, length-drop}
-use lib.Seq.{take-all, take-at, drop-append-add, drop-drop, length-take-le}
+use lib.ListN.{length, take, drop, length-append, length-take, length-drop, take-append-drop}
+use lib.Seq.{take-all, take-at, take-add, drop-append-add, drop-drop, length-take-le}
 use Rattle.lists.specs.Over.{overAt}
 use Rattle.model.specs.Log.{decimal, words}
 use Rattle.values.specs.declared.Answer.{Answer}
@@ -24,6 +24,54 @@ overAt-append p q d i h =
     let g : drop (k + length q) (head ++ drop k d) ≡ drop (k + length q) d =
     ap (λ (n : ℕ). drop (n + length q) (head ++ drop k d)) (sym e) ∙ drop-append-add head (drop k d) (length q) ∙ drop-drop (length q) k d in
     rw (g, take-at head (drop k d) k e, f, append-assoc (take i d) p q)
+
+-- the memory reaches to the end of a text in it
+over-reach : (p d : List ℕ) (i : ℕ) → i ≤ length d → i + length p ≤ length (overAt i p d)
+unfolding overAt
+over-reach p d i h =
+    let rest = drop (i + length p) d in
+    omega (arith, length-append (take i d ++ p) rest, length-append (take i d) p, length-take-le i d h)
+
+-- a text covers one that stands at the same place and is no longer
+overAt-again : (p q d : List ℕ) (i : ℕ) → i ≤ length d → length p ≤ length q → overAt i q (overAt i p d) ≡ overAt i q d
+unfolding overAt
+overAt-again p q d i h g =
+    let k = i + length p in
+    let r = length q - length p in
+    let head = take i d ++ p in
+    let e : length (take i d) ≡ i = length-take-le i d h in
+    let n : length head + r ≡ i + length q = omega (arith, length-append (take i d) p, e) in
+    let m : k + r ≡ i + length q = omega arith in
+    let a : drop (i + length q) (head ++ drop k d) ≡ drop (i + length q) d =
+    ap (λ (j : ℕ). drop j (head ++ drop k d)) (sym n) ∙ drop-append-add head (drop k d) r ∙ drop-drop r k d ∙ ap (λ (j : ℕ). drop j d) m in
+    let b : take i (head ++ drop k d) ≡ take i d =
+    ap (take i) (append-assoc (take i d) p (drop k d)) ∙ take-at (take i d) (p ++ drop k d) i e in
+    rw (a, b)
+
+-- the first m entries of a list from entry s on, and then those from entry t on, which may be among them
+pub append-halves : (l : List ℕ) (s t m : ℕ) {d e f : List ℕ} {i j k : ℕ} → i ≤ length d → s ≤ t → t ≤ s + m → t ≤ length l
+    → Appended (take m (drop s l)) i d e j → Appended (drop t l) (i + (t - s)) e f k → Appended (drop s l) i d f k
+append-halves l s t m {d} {e} {f} {i} {j} {k} h st tm tl a b =
+    let n = t - s in
+    let u = take n (drop s l) in
+    let q = drop t l in
+    let r = take (m - n) q in
+    let sn : s + n ≡ t = omega arith in
+    let mn : m ≡ n + (m - n) = omega arith in
+    let rest : drop n (drop s l) ≡ q = drop-drop n s l ∙ ap (λ (x : ℕ). drop x l) sn in
+    let first : take m (drop s l) ≡ u ++ r =
+    ap (λ (x : ℕ). take x (drop s l)) mn ∙ take-add n (m - n) (drop s l) ∙ ap (λ (x : List ℕ). u ++ take (m - n) x) rest in
+    let whole : u ++ q ≡ drop s l = ap (λ (x : List ℕ). u ++ x) (sym rest) ∙ take-append-drop n (drop s l) in
+    let long : length u ≡ n = length-take-le n (drop s l) (omega (arith, length-drop s l)) in
+    let before : overAt i (u ++ r) d ≡ overAt (i + n) r (overAt i u d) =
+    sym (ap (λ (x : ℕ). overAt (i + x) r (overAt i u d)) (sym long) ∙ overAt-append u r d i h) in
+    record {
+      memory =
+          b .memory ∙ ap (overAt (i + n) q) (a .memory ∙ ap (λ (x : List ℕ). overAt i x d) first ∙ before)
+          ∙ overAt-again r q (overAt i u d) (i + n) (omega (arith, over-reach u d i h, long)) (omega (arith, length-take (m - n) q))
+          ∙ ap (λ (x : ℕ). overAt (i + x) q (overAt i u d)) (sym long) ∙ overAt-append u q d i h ∙ ap (λ (x : List ℕ). overAt i x d) whole;
+      next = omega (arith, b .next, length-drop s l, length-drop t l);
+    }
 
 -- two texts, one after the other
 pub append-then : {p q d e f : List ℕ} {i j k : ℕ} → i ≤ length d → Appended p i d e j → Appended q j e f k → Appended (p ++ q) i d f k

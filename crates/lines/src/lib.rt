@@ -1,7 +1,7 @@
 // The log's lines (document 01, "The log").
 ghost use mathlib.Core.Path.{_≡_};
 ghost use mathlib.Core.List.{_++_};
-ghost use Prim.Native.Nat.{ℕ, _+_, _≤_, min};
+ghost use Prim.Native.Nat.{ℕ, _+_, _*_, _≤_, min};
 ghost use lib.ListN.{length, drop, replicate};
 ghost use Rattle.model.specs.Log.{decimal, words};
 ghost use Rattle.values.specs.Meaning.{answerOf};
@@ -60,14 +60,48 @@ fn count_up(places: &mut [u8; 20], start: usize) -> usize
     i
 }
 
-// Writes the digits from place `start` on at index `at` of out; answers the index after them.
-fn put_digits(out: &mut [u8], at: usize, places: &[u8; 20], start: usize) -> usize
+// Writes the digits from place `start` on at index `at` of out, one after the other; answers the index after them.
+fn put_all(out: &mut [u8], at: usize, places: &[u8; 20], start: usize) -> usize
     requires { ⌜ (start ≤ 20) × (at + 20 ≤ length (now out)) ⌝ }
     ensures { λ r. ⌜ Appended (drop start (now (places .entry))) at (now (out .entry)) (now (out .exit)) r ⌝ }
     ensures { λ r. ⌜ r ≤ at + 20 ⌝ }
 {
     let all = &places[..];
     put_text(out, at, &all[start..])
+}
+
+// The same for m to 2m digits: the first m of them, then the last m. Where the compiler knows m, each is one move.
+fn put_ends(out: &mut [u8], at: usize, places: &[u8; 20], start: usize, m: usize) -> usize
+    requires { ⌜ (start + m ≤ 20) × (20 ≤ start + 2 * m) × (at + 20 ≤ length (now out)) ⌝ }
+    ensures { λ r. ⌜ Appended (drop start (now (places .entry))) at (now (out .entry)) (now (out .exit)) r ⌝ }
+    ensures { λ r. ⌜ r ≤ at + 20 ⌝ }
+{
+    let all = &places[..];
+    let end = start + m;
+    let last = 20 - m;
+    put_text(out, at, &all[start..end]);
+    put_text(out, at + (last - start), &all[last..20])
+}
+
+// Writes the digits from place `start` on at index `at` of out; answers the index after them.
+fn put_digits(out: &mut [u8], at: usize, places: &[u8; 20], start: usize) -> usize
+    requires { ⌜ (start ≤ 20) × (at + 20 ≤ length (now out)) ⌝ }
+    ensures { λ r. ⌜ Appended (drop start (now (places .entry))) at (now (out .entry)) (now (out .exit)) r ⌝ }
+    ensures { λ r. ⌜ r ≤ at + 20 ⌝ }
+{
+    if start < 4 {
+        return put_all(out, at, places, start);
+    }
+    if start <= 12 {
+        return put_ends(out, at, places, start, 8);
+    }
+    if start <= 16 {
+        return put_ends(out, at, places, start, 4);
+    }
+    if start <= 18 {
+        return put_ends(out, at, places, start, 2);
+    }
+    put_all(out, at, places, start)
 }
 
 // Writes a number in decimal at index `at` of out; answers the index after it.

@@ -1,12 +1,12 @@
--- `put_digits` meets its contract: the text is a part of the places, up to their end.
+-- `put_all` meets its contract: the text is a part of the places, up to their end.
 use Prim.Native.Nat.{_-_}
 use lib.ListN.{length}
 use native.Mathlib.Omega.{arith}
 use Rattle.lines.proofs.Appending.{append-rest}
 use Rattle.lines.proofs.Longest.{after-rest}
 use borrow.Author.Needs.{needs}
-use Rattle.lines.proofs.put_digits.Statement.{statement}
-use Rattle.lines.proofs.put_digits.Tie as tie
+use Rattle.lines.proofs.put_all.Statement.{statement}
+use Rattle.lines.proofs.put_all.Tie as tie
 
 sub-put-text : tie.Need-sub-put-text
 sub-put-text c = search needs
@@ -29,8 +29,8 @@ returns c =
     let w = append-rest (a .places .now) (a .start) (length (a .places .now) - a .start) (omega arith) (c .before .before .put-text .ensures) in
     (w, omega (arith, after-rest (a .places .now) (a .start) w))
 
-pub put-digits-spec : {M : Type 1} → statement M
-put-digits-spec =
+pub put-all-spec : {M : Type 1} → statement M
+put-all-spec =
     tie.close
     (tie.spec
     sub-put-text
