@@ -184,14 +184,14 @@ impl Pool {
         ensures { λ r. ⌜ (self .len < 64 → rangesIn r ≡ rangesIn self ++ (record { slot = slot; low = low; high = high } ∷ [])) ⌝ }
     {
         let at = self.len;
-        if 64 <= at {
-            return self;
-        }
         let mut next = self;
-        next.slots[at] = slot;
-        next.lows[at] = low;
-        next.highs[at] = high;
-        next.len = at + 1;
+        if at < 64 {
+            next.slots[at] = slot;
+            next.lows[at] = low;
+            next.highs[at] = high;
+            next.len = at + 1;
+            return next;
+        }
         next
     }
 }
