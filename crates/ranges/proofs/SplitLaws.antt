@@ -5,16 +5,14 @@ use mathlib.Core.List.{List, [], _∷_, _++_}
 use Prim.Native.Nat.{ℕ, suc, _≤_}
 use native.Mathlib.Omega.{arith}
 use lib.ListN.{length, take}
-use lib.Seq.{length-take-le}
 use Rattle.lists.specs.Over.{over}
 use Rattle.lists.proofs.Over.{take-over}
 use Rattle.model.specs.Store.{Range}
 use Rattle.model.specs.Ranges.{needed, filter, neededOf, needlessOf}
-use Rattle.model.specs.Figure.{sort, Rising}
-use Rattle.model.proofs.Figure.{sort-rising, needed-sort, filter-alike}
+use Rattle.model.specs.Figure.{announcedOf, sortAnnouncements, Rising}
+use Rattle.model.proofs.Figure.{sort-rising, needed-sorted, filter-alike}
 use Rattle.ranges.specs.Words.{rangesAt}
 use Rattle.ranges.proofs.WordLaws.{length-rangesAt}
-use Rattle.times.proofs.TimeLaws.{length-sort}
 
 -- a range at the end of either side of a choice
 cond-snoc : (b : Bool) (k : List Range) (x ρ : Range) → cond b (x ∷ (k ++ (ρ ∷ []))) (k ++ (ρ ∷ [])) ≡ cond b (x ∷ k) k ++ (ρ ∷ [])
@@ -41,20 +39,35 @@ length-filter p (x ∷ l) =
 pub needless-few : (ts s : List ℕ) (n : ℕ) → length (needlessOf ts (rangesAt s 0 n)) ≤ n
 needless-few ts s n = rw (length-rangesAt s 0 n) at (length-filter (λ ρ. not (needed ts ρ)) (rangesAt s 0 n))
 
--- out holds the first t times, sorted
-module _ (ts : List ℕ) (t : ℕ) (out₀ out : List ℕ) (n : t ≤ length ts) (e : out ≡ over (sort (take t ts)) out₀) where
-  sorted-front : take t out ≡ sort (take t ts)
-  sorted-front = ap (take t) e ∙ take-over (sort (take t ts)) out₀ t (length-sort (take t ts) ∙ length-take-le t ts n)
+pub needless-most : (ts s : List ℕ) (n : ℕ) {r : ℕ} → r ≡ length (needlessOf ts (rangesAt s 0 n)) → r ≤ n
+needless-most ts s n e = omega (arith, e, needless-few ts s n)
 
-  pub sorted-rising : Rising (take t out)
-  sorted-rising = subst Rising (sym sorted-front) (sort-rising (take t ts))
+-- without a time nothing is needed
+pub needed-none : (l : List Range) → neededOf [] l ≡ []
+unfolding filter needed
+needed-none [] = refl
+needed-none (ρ ∷ l) = needed-none l
+
+pub needless-all : (l : List Range) → needlessOf [] l ≡ l
+unfolding filter needed
+needless-all [] = refl
+needless-all (ρ ∷ l) = ap (λ (q : List Range). ρ ∷ q) (needless-all l)
+
+-- out holds those of the first t times that are announced, k of them, sorted
+module _ (ts : List ℕ) (t k : ℕ) (out₀ out : List ℕ) (n : k ≡ length (sortAnnouncements (take t ts)))
+    (e : out ≡ over (sortAnnouncements (take t ts)) out₀) where
+  sorted-front : take k out ≡ sortAnnouncements (take t ts)
+  sorted-front = ap (take k) e ∙ take-over (sortAnnouncements (take t ts)) out₀ k (sym n)
+
+  pub sorted-rising : Rising (take k out)
+  sorted-rising = subst Rising (sym sorted-front) (sort-rising (announcedOf (take t ts)))
 
   -- the same ranges are needed
-  sorted-needed : (ρ : Range) → needed (take t out) ρ ≡ needed (take t ts) ρ
-  sorted-needed ρ = ap (λ (l : List ℕ). needed l ρ) sorted-front ∙ needed-sort ρ (take t ts)
+  sorted-needed : (ρ : Range) → needed (take k out) ρ ≡ needed (take t ts) ρ
+  sorted-needed ρ = ap (λ (l : List ℕ). needed l ρ) sorted-front ∙ needed-sorted ρ (take t ts)
 
-  pub neededOf-sorted : (l : List Range) → neededOf (take t out) l ≡ neededOf (take t ts) l
-  neededOf-sorted l = filter-alike (needed (take t out)) (needed (take t ts)) sorted-needed l
+  pub neededOf-sorted : (l : List Range) → neededOf (take k out) l ≡ neededOf (take t ts) l
+  neededOf-sorted l = filter-alike (needed (take k out)) (needed (take t ts)) sorted-needed l
 
-  pub needlessOf-sorted : (l : List Range) → needlessOf (take t out) l ≡ needlessOf (take t ts) l
-  needlessOf-sorted l = filter-alike (λ ρ. not (needed (take t out) ρ)) (λ ρ. not (needed (take t ts) ρ)) (λ ρ. ap not (sorted-needed ρ)) l
+  pub needlessOf-sorted : (l : List Range) → needlessOf (take k out) l ≡ needlessOf (take t ts) l
+  needlessOf-sorted l = filter-alike (λ ρ. not (needed (take k out) ρ)) (λ ρ. not (needed (take t ts) ρ)) (λ ρ. ap not (sorted-needed ρ)) l
