@@ -1,14 +1,22 @@
--- Laws of the numbers, the unused bytes and the operation of a record: a number is put together from two parts, one byte more is
--- tested, and a number that is none of four in a row is past them. By induction on the count of bytes, and by `omega`.
-use mathlib.Core.Path.{_≡_, sym}
-use mathlib.Core.Bool.{_&&_, and-true, and-assoc}
+-- Laws of the numbers, the unused bytes and the operation of a record: a number is put together from two parts, bytes are zero where their
+-- number is, and a number that is none of four in a row is past them. By induction on the count of bytes, and by `omega`.
+use mathlib.Core.Path.{_≡_, refl, sym, ap, _∙_}
+use mathlib.Core.Bool.{Bool, _&&_, and-assoc}
 use mathlib.Core.List.{List}
 use Prim.Native.Nat.{ℕ, zero, suc, _+_, _*_, _^_, _≤_}
 use native.Mathlib.Nat.{add-zero, zero-add, suc-add, add-assoc, mul-add, mul-assoc, pow-succ', one-mul}
 use native.Mathlib.Omega.{arith}
-use lib.Dec.{eqb}
+use borrow.Author.Tests.{ne-eqb}
+use lib.Dec.{eqb, eqb·suc-zero}
 use lib.ListN.{getD}
 use Rattle.model.specs.Record.{number, zeros}
+
+-- a number is zero where its first byte and the rest are
+sum-zero : (x y : ℕ) → eqb (x + 256 * y) 0 ≡ eqb x 0 && eqb y 0
+sum-zero zero zero = refl
+sum-zero zero (suc y) = ne-eqb (0 + 256 * suc y) 0 (λ e. absurd (omega (arith, e))) ∙ sym (eqb·suc-zero y)
+sum-zero (suc x) y =
+    ne-eqb (suc x + 256 * y) 0 (λ e. absurd (omega (arith, e))) ∙ ap (λ (t : Bool). t && eqb y 0) (sym (eqb·suc-zero x))
 
 module _ (b : List ℕ) where
   -- the number in m + n bytes from those in the first m and in the next n,
@@ -22,13 +30,19 @@ module _ (b : List ℕ) where
   pub number-joined : (i m n : ℕ) {x y : ℕ} → x ≡ number b i m → y ≡ number b (i + m) n → x + 256 ^ m * y ≡ number b i (m + n)
   number-joined i m n e f = rw (e, f) (number-parts i m n)
 
-  -- one byte more
-  pub zeros-more : (i k : ℕ) → zeros b i k && eqb (getD b (i + k) 0) 0 ≡ zeros b i (k + 1)
+  -- bytes are zero where their number is,
+  pub number-zero : (i n : ℕ) → eqb (number b i n) 0 ≡ zeros b i n
   unfolding zeros
-  zeros-more i zero = rw add-zero (sym (and-true _))
-  zeros-more i (suc k) =
-      let s : i + suc k ≡ suc i + k = omega arith in
-      rw (suc-add k 1, ← zeros-more (suc i) k, s, and-assoc)
+  number-zero i zero = refl
+  number-zero i (suc n) = sum-zero (getD b i 0) (number b (suc i) n) ∙ ap (λ (t : Bool). eqb (getD b i 0) 0 && t) (number-zero (suc i) n)
+
+  -- and m + n bytes where the first m and the next n are
+  pub zeros-parts : (i m n : ℕ) → zeros b i m && zeros b (i + m) n ≡ zeros b i (m + n)
+  unfolding zeros
+  zeros-parts i zero n = rw (add-zero, zero-add)
+  zeros-parts i (suc m) n =
+      let s : i + suc m ≡ suc i + m = omega arith in
+      rw (suc-add m n, ← zeros-parts (suc i) m n, s, and-assoc)
 
 -- a number from k on that is none of the first four is past them
 pub past-four : {n : ℕ} (k : ℕ) → k ≤ n → (n ≡ k → ⊥) → (n ≡ k + 1 → ⊥) → (n ≡ k + 2 → ⊥) → (n ≡ k + 3 → ⊥) → k + 4 ≤ n

@@ -4,7 +4,7 @@ ghost use mathlib.Core.Bool.{cond};
 ghost use Prim.Native.Nat.{_+_, _*_, _≤_, _<_};
 ghost use lib.Dec.{ltb};
 ghost use lib.ListN.{length, getD};
-ghost use Rattle.model.specs.Record.{number};
+ghost use Rattle.model.specs.Record.{number, zeros};
 ghost use Rattle.model.specs.Record as Model;
 ghost use Rattle.record.specs.Meaning.{operationOf, decodedOf};
 ghost use Rattle.record.specs.Parts.{checkedOf};
@@ -79,16 +79,41 @@ fn eight(b: &[u8], i: usize) -> u64
     wide64(four(b, i)) + 4294967296 * wide64(four(b, i + 4))
 }
 
-// Whether the n bytes from place i on are zero.
-fn zeros(b: &[u8], i: usize, n: usize) -> bool
-    requires { ⌜ i + n ≤ length (now b) ⌝ }
-    ensures { λ r. ⌜ r ≡ Model.zeros (now (b .entry)) i n ⌝ }
+// Whether the two, four or eight bytes from place i on are zero: their number is.
+fn no_two(b: &[u8], i: usize) -> bool
+    requires { ⌜ i + 2 ≤ length (now b) ⌝ }
+    ensures { λ r. ⌜ r ≡ zeros (now (b .entry)) i 2 ⌝ }
 {
-    let mut all = true;
-    for k in 0..n {
-        all = all & (b[i + k] == 0);
-    }
-    all
+    two(b, i) == 0
+}
+
+fn no_four(b: &[u8], i: usize) -> bool
+    requires { ⌜ i + 4 ≤ length (now b) ⌝ }
+    ensures { λ r. ⌜ r ≡ zeros (now (b .entry)) i 4 ⌝ }
+{
+    four(b, i) == 0
+}
+
+fn no_eight(b: &[u8], i: usize) -> bool
+    requires { ⌜ i + 8 ≤ length (now b) ⌝ }
+    ensures { λ r. ⌜ r ≡ zeros (now (b .entry)) i 8 ⌝ }
+{
+    eight(b, i) == 0
+}
+
+// Whether the bytes 4 to 15 are zero, and whether the bytes 2 to 15 are.
+fn none_from_4(b: &[u8]) -> bool
+    requires { ⌜ 16 ≤ length (now b) ⌝ }
+    ensures { λ r. ⌜ r ≡ zeros (now (b .entry)) 4 12 ⌝ }
+{
+    no_four(b, 4) & no_eight(b, 8)
+}
+
+fn none_from_2(b: &[u8]) -> bool
+    requires { ⌜ 16 ≤ length (now b) ⌝ }
+    ensures { λ r. ⌜ r ≡ zeros (now (b .entry)) 2 14 ⌝ }
+{
+    no_two(b, 2) & none_from_4(b)
 }
 
 // Operation 0.
@@ -96,7 +121,7 @@ fn set_up(rec: &[u8]) -> Decoded
     requires { ⌜ 16 ≤ length (now rec) ⌝ }
     ensures { λ r. ⌜ decodedOf r ≡ checkedOf (now (rec .entry)) 0 ⌝ }
 {
-    if zeros(rec, 6, 2) & zeros(rec, 12, 4) {
+    if no_two(rec, 6) & no_four(rec, 12) {
         return Decoded::Asks(Command::SetUp {
             p: one(rec, 1),
             v: two(rec, 2),
@@ -107,18 +132,16 @@ fn set_up(rec: &[u8]) -> Decoded
     Decoded::Refuses(2)
 }
 
-// The begin of an operation that leaves n bytes from place i on unused.
-fn begin(rec: &[u8], i: usize, n: usize, operation: Operation) -> Decoded
-    requires { ⌜ (2 ≤ length (now rec)) × (i + n ≤ length (now rec)) ⌝ }
+// The begin of an operation; `zero` says that the bytes which it does not use are zero.
+fn begin(rec: &[u8], zero: bool, operation: Operation) -> Decoded
+    requires { ⌜ 2 ≤ length (now rec) ⌝ }
     ensures { λ r. ⌜
         decodedOf r
-        ≡ cond (Model.zeros (now (rec .entry)) i n)
-        (Model.Asks (Model.Begin (number (now (rec .entry)) 1 1) (operationOf operation)))
-        (Model.Refuses 2)
+        ≡ cond zero (Model.Asks (Model.Begin (number (now (rec .entry)) 1 1) (operationOf operation))) (Model.Refuses 2)
         ⌝ }
 {
     let worker = one(rec, 1);
-    if zeros(rec, i, n) {
+    if zero {
         return Decoded::Asks(Command::Begin { worker, operation });
     }
     Decoded::Refuses(2)
@@ -130,7 +153,7 @@ fn step(rec: &[u8]) -> Decoded
     ensures { λ r. ⌜ decodedOf r ≡ checkedOf (now (rec .entry)) 7 ⌝ }
 {
     let worker = one(rec, 1);
-    if zeros(rec, 2, 14) {
+    if none_from_2(rec) {
         return Decoded::Asks(Command::Step { worker });
     }
     Decoded::Refuses(2)
@@ -154,19 +177,19 @@ fn asked(rec: &[u8]) -> Decoded
             let reading = Reading {
                 count: eight(rec, 8),
             };
-            begin(rec, 4, 4, Operation::Put { register, reading })
+            begin(rec, no_four(rec, 4), Operation::Put { register, reading })
         }
-        2 => begin(rec, 2, 14, Operation::Open),
+        2 => begin(rec, none_from_2(rec), Operation::Open),
         3 => {
             let register = two(rec, 2);
-            begin(rec, 4, 12, Operation::Read { register })
+            begin(rec, none_from_4(rec), Operation::Read { register })
         }
-        4 => begin(rec, 2, 14, Operation::Close),
+        4 => begin(rec, none_from_2(rec), Operation::Close),
         5 => {
             let register = two(rec, 2);
-            begin(rec, 4, 12, Operation::Get { register })
+            begin(rec, none_from_4(rec), Operation::Get { register })
         }
-        6 => begin(rec, 2, 14, Operation::Collect),
+        6 => begin(rec, none_from_2(rec), Operation::Collect),
         7 => step(rec),
         _ => Decoded::Refuses(1),
     }

@@ -1,10 +1,10 @@
 -- `asked` meets its contract: each arm rewrites with its operation, and the last has an operation above 7.
 use Prim.Native.Nat.{_≤_, _<_, zero-le}
 use lib.ListN.{getD}
-use borrow.Author.Needs.{needs}
 use borrow.Author.Tests.{lt-ltb}
 use Rattle.model.specs.Record.{commandOf, unusedZero}
 use Rattle.record.proofs.Numbers.{past-four}
+use borrow.Author.Needs.{needs}
 use Rattle.record.proofs.asked.Statement.{statement}
 use Rattle.record.proofs.asked.Tie as tie
 
@@ -20,8 +20,14 @@ two-requires c κs = search needs
 eight-requires : tie.Need-eight-requires
 eight-requires c κs = search needs
 
+no-four-requires : tie.Need-no-four-requires
+no-four-requires c κs = search needs
+
 begin-requires : tie.Need-begin-requires
 begin-requires c κs = search needs
+
+none-from-2-requires : tie.Need-none-from-2-requires
+none-from-2-requires c κs = search needs
 
 begin-requires-2 : tie.Need-begin-requires-2
 begin-requires-2 c κs = search needs
@@ -29,8 +35,14 @@ begin-requires-2 c κs = search needs
 two-requires-2 : tie.Need-two-requires-2
 two-requires-2 c κs = search needs
 
+none-from-4-requires : tie.Need-none-from-4-requires
+none-from-4-requires c κs = search needs
+
 begin-requires-3 : tie.Need-begin-requires-3
 begin-requires-3 c κs = search needs
+
+none-from-2-requires-2 : tie.Need-none-from-2-requires-2
+none-from-2-requires-2 c κs = search needs
 
 begin-requires-4 : tie.Need-begin-requires-4
 begin-requires-4 c κs = search needs
@@ -38,8 +50,14 @@ begin-requires-4 c κs = search needs
 two-requires-3 : tie.Need-two-requires-3
 two-requires-3 c κs = search needs
 
+none-from-4-requires-2 : tie.Need-none-from-4-requires-2
+none-from-4-requires-2 c κs = search needs
+
 begin-requires-5 : tie.Need-begin-requires-5
 begin-requires-5 c κs = search needs
+
+none-from-2-requires-3 : tie.Need-none-from-2-requires-3
+none-from-2-requires-3 c κs = search needs
 
 begin-requires-6 : tie.Need-begin-requires-6
 begin-requires-6 c κs = search needs
@@ -52,27 +70,31 @@ returns c = rw (c .before .match .keys1) (c .set-up .ensures)
 
 returns-2 : tie.Need-returns-2
 unfolding commandOf unusedZero
-returns-2 c = rw (c .before .before .before .match .keys2, ← c .before .before .two .ensures, ← c .before .eight .ensures) (c .begin .ensures)
+returns-2 c =
+    let r = c .before .before .before in
+    rw (r .before .match .keys2, ← r .two .ensures, ← c .before .before .eight .ensures, ← c .before .no-four .ensures) (c .begin .ensures)
 
 returns-3 : tie.Need-returns-3
 unfolding commandOf unusedZero
-returns-3 c = rw (c .before .match .keys3) (c .begin2 .ensures)
+returns-3 c = rw (c .before .before .match .keys3, ← c .before .none-from-2 .ensures) (c .begin2 .ensures)
 
 returns-4 : tie.Need-returns-4
 unfolding commandOf unusedZero
-returns-4 c = rw (c .before .before .match .keys4, ← c .before .two2 .ensures) (c .begin3 .ensures)
+returns-4 c =
+    rw (c .before .before .before .match .keys4, ← c .before .before .two2 .ensures, ← c .before .none-from-4 .ensures) (c .begin3 .ensures)
 
 returns-5 : tie.Need-returns-5
 unfolding commandOf unusedZero
-returns-5 c = rw (c .before .match .keys5) (c .begin4 .ensures)
+returns-5 c = rw (c .before .before .match .keys5, ← c .before .none-from-22 .ensures) (c .begin4 .ensures)
 
 returns-6 : tie.Need-returns-6
 unfolding commandOf unusedZero
-returns-6 c = rw (c .before .before .match .keys6, ← c .before .two3 .ensures) (c .begin5 .ensures)
+returns-6 c =
+    rw (c .before .before .before .match .keys6, ← c .before .before .two3 .ensures, ← c .before .none-from-42 .ensures) (c .begin5 .ensures)
 
 returns-7 : tie.Need-returns-7
 unfolding commandOf unusedZero
-returns-7 c = rw (c .before .match .keys7) (c .begin6 .ensures)
+returns-7 c = rw (c .before .before .match .keys7, ← c .before .none-from-23 .ensures) (c .begin6 .ensures)
 
 returns-8 : tie.Need-returns-8
 returns-8 c = rw (c .before .match .keys8) (c .step .ensures)
@@ -93,13 +115,19 @@ asked-spec =
     set-up-requires
     two-requires
     eight-requires
+    no-four-requires
     begin-requires
+    none-from-2-requires
     begin-requires-2
     two-requires-2
+    none-from-4-requires
     begin-requires-3
+    none-from-2-requires-2
     begin-requires-4
     two-requires-3
+    none-from-4-requires-2
     begin-requires-5
+    none-from-2-requires-3
     begin-requires-6
     step-requires
     returns

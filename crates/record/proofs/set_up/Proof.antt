@@ -4,11 +4,11 @@ use Rattle.model.specs.Record.{commandOf, unusedZero}
 use Rattle.record.proofs.set_up.Statement.{statement}
 use Rattle.record.proofs.set_up.Tie as tie
 
-zeros-requires : tie.Need-zeros-requires
-zeros-requires c κs = search needs
+no-two-requires : tie.Need-no-two-requires
+no-two-requires c κs = search needs
 
-zeros-requires-2 : tie.Need-zeros-requires-2
-zeros-requires-2 c κs = search needs
+no-four-requires : tie.Need-no-four-requires
+no-four-requires c κs = search needs
 
 one-requires : tie.Need-one-requires
 one-requires c κs = search needs
@@ -28,8 +28,8 @@ returns c =
     let o = c .before .before .before in
     let t = o .before in
     rw (
-      ← t .before .before .zeros .ensures,
-      ← t .before .zeros2 .ensures,
+      ← t .before .before .no-two .ensures,
+      ← t .before .no-four .ensures,
       t .if1 .taken,
       ← o .one .ensures,
       ← c .before .before .two .ensures,
@@ -39,14 +39,14 @@ returns c =
 
 returns-2 : tie.Need-returns-2
 unfolding commandOf unusedZero
-returns-2 c = rw (← c .before .before .zeros .ensures, ← c .before .zeros2 .ensures, c .if1 .left)
+returns-2 c = rw (← c .before .before .no-two .ensures, ← c .before .no-four .ensures, c .if1 .left)
 
 pub set-up-spec : {M : Type 1} → statement M
 set-up-spec =
     tie.close
     (tie.spec
-    zeros-requires
-    zeros-requires-2
+    no-two-requires
+    no-four-requires
     one-requires
     two-requires
     two-requires-2
