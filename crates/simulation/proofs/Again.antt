@@ -1,9 +1,13 @@
 -- A store written over memory lies in it, and the memory's arrays keep their lengths: each of the store's lists fits its array. So memory over
--- which the store after a setup or after one record more was written is memory that records left.
+-- which the store after a setup or after one record more was written is memory that records left, and memory that holds a hub of the model holds
+-- its next hub after a record that writes it.
 use mathlib.Core.Path.{_≡_, refl, sym, ap, _∙_, subst}
+use mathlib.Core.Bool.{_&&_}
+use mathlib.Core.Logic.{_⊎_, inl, inr, ⊎-elim}
 use mathlib.Core.List.{List, [], _∷_, _++_, map, reverse}
 use Prim.Native.Nat.{ℕ, suc, _*_, _≤_, _<_}
 use native.Mathlib.Omega.{arith}
+use lib.Dec.{leb}
 use lib.ListN.{length, getD, take, drop, replicate, length-append, length-drop, length-map, length-reverse, length-replicate}
 use lib.Seq.{length-take-le, take-at, drop-at}
 use Rattle.lists.specs.Over.{over}
@@ -12,10 +16,14 @@ use Rattle.model.specs.Store as Model
 use Rattle.model.specs.Store.{Store, blank, up, startWorker, workerAt}
 use Rattle.model.specs.Batch.{batchOf}
 use Rattle.model.specs.Rules.{inForce, under}
-use Rattle.model.specs.Answer.{Ok}
-use Rattle.model.specs.Apply.{fresh, apply, hubAfter}
-use Rattle.model.specs.Demand.{All}
+use Rattle.model.specs.Answer.{Ok, Applied}
+use Rattle.model.specs.Record.{SetUp, Begin, Step, Decoded, Asks, Refuses, decode}
+use Rattle.model.specs.Apply.{inRanges, fresh, setUp, obey, applyDecoded, apply, hubAfter}
+use Rattle.model.specs.Demand.{All, events, Exchange}
+use Rattle.model.proofs.Basic.{cond-both}
 use Rattle.model.proofs.Setup.{accepts}
+use Rattle.values.specs.declared.Answer.{Answer}
+use Rattle.values.specs.Meaning.{answerOf}
 use Rattle.worker.specs.Rep.{workerRep}
 use Rattle.slots.specs.Slots.{slotRep}
 use Rattle.ranges.specs.Words.{flat}
@@ -24,6 +32,8 @@ use Rattle.queue.specs.Rep.{joinedRanges}
 use Rattle.queue.proofs.MemoryLaws.{over-again}
 use Rattle.simulation.specs.Memory.{Memory, inHandWords, mergedOver, write, writeHub}
 use Rattle.simulation.specs.Left.{LeftByRecords, Left, Sized}
+use Rattle.simulation.specs.Holds.{Holds, memoryAfter, AsModel}
+use Rattle.simulation.specs.Public.{exchangeOf}
 use Rattle.simulation.proofs.Sound.{Sound, sound, left-next}
 use Rattle.simulation.proofs.Ready.{hand-short, length-joined}
 use Rattle.simulation.proofs.Laid.{memory-path}
@@ -123,30 +133,87 @@ module _ (s : Store) (S : Sound s) (m : Memory) (Z : Sized m) where
       }
 
 ------------------------------------------------------------------------
--- Memory that records left
+-- The hub that a record leaves
 
--- the model's hub h is set up, and records left its store in the memory m
-abbrev pub LeftAs : Model.Hub → Memory → Type 0
-LeftAs h m = (t : Store) × (h ≡ up t) × Left t m × Sized m
+-- records left its store
+abbrev pub LeftHub : Model.Hub → Type 0
+LeftHub h = (t : Store) × (h ≡ up t) × LeftByRecords t
 
-module _ (m m′ : Memory) (b : List ℕ) (Z : Sized m) where
-  -- over m the hub h with such a store was written
-  written : (h : Model.Hub) (t : Store) → h ≡ up t → LeftByRecords t → m′ ≡ writeHub h m → LeftAs h m′
-  written h t e L is =
-      subst (LeftAs h) (sym (is ∙ ap (λ (k : Model.Hub). writeHub k m) e))
-      (t, e, record { store = L; laid = written-lies t (sound L) m Z }, written-sized t (sound L) m Z)
+-- or it is not set up, and has this row
+abbrev pub BlankOrLeft : List Model.Slot → Model.Hub → Type 0
+BlankOrLeft row h = (h ≡ blank row) ⊎ LeftHub h
 
-  -- an accepted setup
-  pub setup-written : (row : List Model.Slot) → apply inForce (blank row) b .answer ≡ Ok
-      → m′ ≡ writeHub (apply inForce (blank row) b .hub) m → LeftAs (apply inForce (blank row) b .hub) m′
+-- an accepted setup leaves such a store
+pub setup-left : (row : List Model.Slot) (b : List ℕ) → apply inForce (blank row) b .answer ≡ Ok → LeftHub (apply inForce (blank row) b .hub)
+unfolding hubAfter
+setup-left row b ok =
+    let A = accepts inForce row b ok in (
+      fresh (batchOf (A .sizes .P)) (A .sizes) (A .row),
+      A .is,
+      record { row = row; setup = under inForce b; batch = refl; accepted = ok; records = []; left = A .is },
+    )
+
+-- every other record leaves the hub as it was
+abbrev SameOrOk : List Model.Slot → Applied → Type 0
+SameOrOk row a = (a .hub ≡ blank row) ⊎ (a .answer ≡ Ok)
+
+same-or-ok : (row : List Model.Slot) (d : Decoded) → SameOrOk row (applyDecoded inForce (blank row) d)
+unfolding applyDecoded obey setUp
+same-or-ok row (Asks (SetUp z)) = cond-both (SameOrOk row) (inRanges z && leb (z .N) (length row)) _ _ (λ e. inr refl) (λ e. inl refl)
+same-or-ok row (Asks (Begin w o)) = inl refl
+same-or-ok row (Asks (Step w)) = inl refl
+same-or-ok row (Refuses k) = inl refl
+
+blank-next : (row : List Model.Slot) (b : List ℕ) → BlankOrLeft row (apply inForce (blank row) b .hub)
+unfolding apply
+blank-next row b = ⊎-elim (λ e. inl e) (λ ok. inr (setup-left row b ok)) (same-or-ok row (decode b))
+
+pub hub-next : (row : List Model.Slot) (h : Model.Hub) (b : List ℕ) → BlankOrLeft row h → BlankOrLeft row (apply inForce h b .hub)
+hub-next row h b (inl e) = subst (λ (k : Model.Hub). BlankOrLeft row (apply inForce k b .hub)) (sym e) (blank-next row b)
+hub-next row h b (inr (s, e, L)) = inr (subst (λ (k : Model.Hub). LeftHub (apply inForce k b .hub)) (sym e) (left-next L b))
+
+------------------------------------------------------------------------
+-- The memory that a record leaves
+
+module _ (m m′ : Memory) (Z : Sized m) where
+  -- over m the hub h was written
+  written : (h : Model.Hub) → LeftHub h → m′ ≡ writeHub h m → Holds h m′ × Sized m′
+  written h (t, e, L) is =
+      subst (λ (k : Model.Hub). Holds k m′ × Sized m′) (sym e)
+      (subst (λ (x : Memory). Left t x × Sized x) (sym (is ∙ ap (λ (k : Model.Hub). writeHub k m) e))
+      (record { store = L; laid = written-lies t (sound L) m Z }, written-sized t (sound L) m Z))
+
+  -- it is not set up: the memory is as it was
+  unwritten : (row : List Model.Slot) (h : Model.Hub) → Holds (blank row) m → h ≡ blank row → m′ ≡ writeHub h m → Holds h m′ × Sized m′
+  unwritten row h H e is =
+      subst (λ (k : Model.Hub). Holds k m′ × Sized m′) (sym e)
+      (subst (λ (x : Memory). Holds (blank row) x × Sized x) (sym (is ∙ ap (λ (k : Model.Hub). writeHub k m) e)) (H, Z))
+
+  -- whatever hub the memory held
+  holds-written : (h : Model.Hub) (b : List ℕ) → Holds h m → m′ ≡ writeHub (apply inForce h b .hub) m
+      → Holds (apply inForce h b .hub) m′ × Sized m′
+  holds-written (blank row) b H is =
+      ⊎-elim (λ e. unwritten row (apply inForce (blank row) b .hub) H e is) (λ L. written (apply inForce (blank row) b .hub) L is) (blank-next row b)
+  holds-written (up s) b L is = written (apply inForce (up s) b .hub) (left-next (L .store) b) is
+
+  -- so what a record leaves and answers is as the model has it
+  pub as-model : (h : Model.Hub) (b : List ℕ) (y : Answer) → Holds h m
+      → m′ ≡ writeHub (apply inForce h b .hub) m → answerOf y ≡ apply inForce h b .answer → AsModel h m (exchangeOf b y ∷ []) m′
+  unfolding events hubAfter memoryAfter
+  as-model h b y L is a =
+      let H = holds-written h b L is in
+      record { answers = λ i. record { bytes = b; answer = a i } ∷ []; holds = H .0; memory = is; sized = λ z. H .1 }
+
+-- what is known of one record
+module _ {h : Model.Hub} {m m′ : Memory} {x : Exchange} (A : AsModel h m (x ∷ []) m′) where
+  pub one-answer : x .answer ≡ apply inForce h (x .bytes) .answer
+  unfolding events
+  one-answer = ap (λ (l : List Exchange). getD l 0 x .answer) (A .answers)
+
+  pub one-memory : m′ ≡ writeHub (apply inForce h (x .bytes) .hub) m
+  unfolding memoryAfter
+  one-memory = A .memory
+
+  pub one-holds : Holds (apply inForce h (x .bytes) .hub) m′
   unfolding hubAfter
-  setup-written row ok is =
-      let A = accepts inForce row b ok in
-      written (apply inForce (blank row) b .hub) (fresh (batchOf (A .sizes .P)) (A .sizes) (A .row)) (A .is)
-      (record { row = row; setup = under inForce b; batch = refl; accepted = ok; records = []; left = A .is }) is
-
-  -- one record more
-  pub record-written : (s : Store) → LeftByRecords s → m′ ≡ writeHub (apply inForce (up s) b .hub) m → LeftAs (apply inForce (up s) b .hub) m′
-  record-written s L is =
-      let N = left-next L b in
-      written (apply inForce (up s) b .hub) (N .0) (N .1) (N .2) is
+  one-holds = A .holds

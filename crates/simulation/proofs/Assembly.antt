@@ -8,7 +8,7 @@ use lib.ListN.{length}
 use Rattle.model.specs.Store as Model
 use Rattle.model.specs.Store.{Store, blank, up, workerAt}
 use Rattle.model.specs.Rules.{inForce}
-use Rattle.model.specs.Answer.{Ok, Applied}
+use Rattle.model.specs.Answer.{Applied}
 use Rattle.model.specs.Record.{decode}
 use Rattle.model.specs.Steps.{stepAt}
 use Rattle.model.specs.Apply.{apply}
@@ -24,6 +24,7 @@ use Rattle.gate.specs.Gate.{decodedIn}
 use Rattle.simulation.specs.Memory.{Memory, hubRep, write, writeHub}
 use Rattle.simulation.specs.Left.{LeftByRecords, Left, Sized, ready}
 use Rattle.simulation.specs.Shell.{Result, goIn, obeyIn, gateIn, doneAs, doneOf}
+use Rattle.simulation.specs.Holds.{Holds}
 use Rattle.simulation.specs.Public.{Does}
 use Rattle.simulation.specs.Demands.{Bytes}
 use Rattle.simulation.proofs.Sound.{Sound, sound, left-next}
@@ -34,8 +35,8 @@ use Rattle.simulation.proofs.Gates.{gateBy, Means, Stepping, gate-left}
 use Rattle.simulation.proofs.Refuse.{Follows, refused}
 use Rattle.simulation.proofs.Begin.{begun}
 use Rattle.simulation.proofs.Setup.{clock-fits, follows-blank}
-use Rattle.simulation.proofs.Ends.{setup-nine, ends-well}
-use Rattle.simulation.proofs.Again.{LeftAs, setup-written, record-written}
+use Rattle.simulation.proofs.Ends.{on-any}
+use Rattle.simulation.proofs.Again.{as-model}
 
 -- each step of the code is the model's step, in a store that records left
 abbrev pub StepsSimulate : Type 0
@@ -64,10 +65,6 @@ module _ (m : Memory) (b : List ℕ) (Z : Sized m) (bytes : Bytes b) (e : ready 
   done-blank =
       done-by m b (apply inForce (blank (map slotOf (m .slots))) b) _ (ap (λ (t : Bool). gateIn t m b) e)
       (follows-blank m Z (decode b) (clock-fits b bytes))
-
-  -- an accepted setup leaves its store in the memory
-  pub setup-left : answerOf (doneOf m b .answer) ≡ Ok → LeftAs (apply inForce (blank (map slotOf (m .slots))) b .hub) (doneOf m b .memory)
-  setup-left ok = setup-written m (doneOf m b .memory) b Z (map slotOf (m .slots)) (sym (done-blank .1) ∙ ok) (done-blank .0)
 
 ------------------------------------------------------------------------
 -- Memory that records left
@@ -128,17 +125,19 @@ module _ (steps : StepsSimulate) where
     pub done-left : DoneAs m b (apply inForce (up s) b)
     unfolding apply
     done-left = done-by m b a _ gate-is (by-gate _ (gate-left s S (decode b) (length (m .slots))))
+    -- on memory that holds a hub
 
-    -- and the memory that it leaves is left by records again
-    pub left-again : LeftAs (apply inForce (up s) b .hub) (doneOf m b .memory)
-    left-again = record-written m (doneOf m b .memory) b Z s (L .store) (done-left .0)
+  done-as : (h : Model.Hub) (m : Memory) (b : List ℕ) → Holds h m → Sized m → Bytes b → DoneAs m b (apply inForce h b)
+  done-as (blank row) m b (e, r) Z B = subst (λ (l : List Model.Slot). DoneAs m b (apply inForce (blank l) b)) (sym r) (done-blank m b Z B e)
+  done-as (up s) m b L Z B = done-left s m b L Z
 
   -- the public function's contract
   pub does : (m : Memory) (b : List ℕ) → Sized m → Bytes b → Does m b (doneOf m b .answer) (doneOf m b .memory)
+  unfolding doneOf
   does m b Z bytes =
       record {
-        left = λ s L. done-left s m b L Z;
-        blank = λ e. done-blank m b Z bytes e;
-        nine = λ e z d. setup-nine m b e z d;
-        ends = ends-well m b;
+        asModel = λ h H.
+            let D = done-as h m b H Z bytes in
+            as-model m (doneOf m b .memory) Z h b (doneOf m b .answer) H (D .0) (D .1);
+        onAny = on-any (ready m) m b;
       }

@@ -3,7 +3,7 @@
 use mathlib.Core.Path.{_≡_, refl, sym, ap, _∙_, subst}
 use mathlib.Core.Bool.{Bool, true, false, cond, _&&_, and-false}
 use mathlib.Core.Logic.{⊎-elim}
-use mathlib.Core.List.{List, map}
+use mathlib.Core.List.{List, [], _∷_, map}
 use mathlib.Core.Option.{Option, none, some}
 use Prim.Native.Nat.{ℕ, zero, suc, _≤_, _<_}
 use native.Mathlib.Omega.{arith}
@@ -28,13 +28,15 @@ use Rattle.ready.specs.Ready.{sizesFit, readyOf}
 use Rattle.simulation.specs.Memory.{Memory, cut, write, writeHub}
 use Rattle.simulation.specs.Left.{LeftByRecords, Left, Sized, ready}
 use Rattle.simulation.specs.Shell.{doneOf}
-use Rattle.simulation.specs.Public.{takesStepIn, idledIn, EndsBy, Does}
+use Rattle.simulation.specs.Holds.{Holds, AsModel}
+use Rattle.simulation.specs.Public.{takesStepIn, idledIn, EndsBy, OnAny, exchangeOf, Does}
 use Rattle.simulation.specs.Demands.{Bytes}
 use Rattle.simulation.proofs.Laws.{over-take, over-drop, both-parts, map-take}
 use Rattle.simulation.proofs.Sound.{sound, left-next}
 use Rattle.simulation.proofs.Laid.{memory-path}
 use Rattle.simulation.proofs.Gates.{both}
 use Rattle.simulation.proofs.Fresh.{first-length}
+use Rattle.simulation.proofs.Again.{as-model, one-answer, one-memory}
 use Rattle.simulation.proofs.Main.{does}
 
 ------------------------------------------------------------------------
@@ -167,12 +169,12 @@ module _ (m m′ : Memory) (rest : drop 2048 (m′ .slots) ≡ drop 2048 (m .slo
   written (blank row) f e = whole m refl e
   written (up s) f e = whole (write s m) (write-rest s f m) (e ∙ sym (write-cut s f m))
 
-  takes-cut : (d : Decoded) → takesStepIn (cut m) d ≡ takesStepIn m d
+  takes-cut : (t : Bool) (d : Decoded) → takesStepIn t (cut m) d ≡ takesStepIn t m d
   unfolding takesStepIn
-  takes-cut (Asks (SetUp z)) = refl
-  takes-cut (Asks (Begin w o)) = refl
-  takes-cut (Asks (Step w)) = rw (ready-cut m)
-  takes-cut (Refuses k) = refl
+  takes-cut t (Asks (SetUp z)) = refl
+  takes-cut t (Asks (Begin w o)) = refl
+  takes-cut t (Asks (Step w)) = refl
+  takes-cut t (Refuses k) = refl
 
   idled-cut : (d : Decoded) → idledIn (cut m) d ≡ cut (idledIn m d)
   unfolding idledIn
@@ -188,31 +190,45 @@ module _ (m m′ : Memory) (rest : drop 2048 (m′ .slots) ≡ drop 2048 (m .slo
   idled-rest (Asks (Step w)) = refl
   idled-rest (Refuses k) = refl
 
-  ends-cut : (d : Decoded) (y : Option ℕ) → EndsBy (cut m) d y (cut m′) → EndsBy m d y m′
-  ends-cut d none t = tt
-  ends-cut d (some k) t =
-      let same = takes-cut d in
-      record { number = rw (← same) (t .number); leaves = by (takesStepIn m d) (t .leaves ∙ rw same) }
+  ends-cut : (t : Bool) (d : Decoded) (y : Option ℕ) → EndsBy t (cut m) d y (cut m′) → EndsBy t m d y m′
+  ends-cut t d none E = tt
+  ends-cut t d (some k) E =
+      let same = takes-cut t d in
+      record { number = rw (← same) (E .number); leaves = by (takesStepIn t m d) (E .leaves ∙ rw same) }
     where
       by : (b : Bool) → cut m′ ≡ cond b (idledIn (cut m) d) (cut m) → m′ ≡ cond b (idledIn m d) m
       by true e = whole (idledIn m d) (idled-rest d) (e ∙ idled-cut d)
       by false e = whole m refl e
 
+  any-cut : (t : Bool) (b : List ℕ) (y : Answer) → OnAny t (cut m) b y (cut m′) → OnAny t m b y m′
+  any-cut t b y D =
+      record {
+        ends = ends-cut t (decode b) (said (answerOf y) .refusal) (D .ends);
+        reading = λ k d. (D .reading k d .0, whole m refl (D .reading k d .1));
+        nine = D .nine;
+      }
+
+  -- what the model makes of the record, with the first 2048 slots and with the whole row
+  module _ (b : List ℕ) (y : Answer) (D : Does (cut m) b y (cut m′)) (Z : Sized m) where
+    as-model-cut : (h : Model.Hub) → Holds h m → AsModel h m (exchangeOf b y ∷ []) m′
+    as-model-cut (up s) L =
+        let A = D .asModel (up s) (left-cut m L) in
+        let N = left-next (L .store) b in
+        let f : FewIn (apply inForce (up s) b .hub) = subst FewIn (sym (N .1)) (left-few (N .2)) in
+        as-model m m′ Z (up s) b y L (written (apply inForce (up s) b .hub) f (one-memory A)) (one-answer A)
+    as-model-cut (blank l) H =
+        let A = D .asModel (blank (row′ (cut m) (m .slots))) (ready-cut m ∙ H .0, refl) in
+        let L = apply-cut (cut m) (m .slots) b in
+        let a : Applied = apply inForce (blank (row (cut m) (m .slots))) b in
+        subst (λ (q : List Model.Slot). Holds (blank q) m → AsModel (blank q) m (exchangeOf b y ∷ []) m′) (sym (H .1))
+        (λ K. as-model m m′ Z (blank (row (cut m) (m .slots))) b y K (written (a .hub) (L .few) (one-memory A ∙ L .memory)) (one-answer A ∙ L .answer)) H
+
 -- the contract with the first 2048 slots is the contract with the whole row, where the rest of the row is as it was
-pub does-cut : (m m′ : Memory) (b : List ℕ) (y : Answer) → Does (cut m) b y (cut m′) → drop 2048 (m′ .slots) ≡ drop 2048 (m .slots) → Does m b y m′
-does-cut m m′ b y D rest =
+does-cut : (m m′ : Memory) (b : List ℕ) (y : Answer) → Sized m → Does (cut m) b y (cut m′) → drop 2048 (m′ .slots) ≡ drop 2048 (m .slots) → Does m b y m′
+does-cut m m′ b y Z D rest =
     record {
-      left = λ s L.
-          let d = D .left s (left-cut m L) in
-          let N = left-next (L .store) b in
-          let f : FewIn (apply inForce (up s) b .hub) = subst FewIn (sym (N .1)) (left-few (N .2)) in
-          (written m m′ rest (apply inForce (up s) b .hub) f (d .0), d .1);
-      blank = λ e.
-          let d = D .blank (ready-cut m ∙ e) in
-          let A = apply-cut (cut m) (m .slots) b in
-          (written m m′ rest (apply inForce (blank (map slotOf (m .slots))) b .hub) (A .few) (d .0 ∙ A .memory), d .1 ∙ A .answer);
-      nine = λ e. D .nine (ready-cut m ∙ e);
-      ends = ends-cut m m′ rest (decode b) (said (answerOf y) .refusal) (D .ends);
+      asModel = as-model-cut m m′ rest b y D Z;
+      onAny = subst (λ (t : Bool). OnAny t m b y m′) (ready-cut m) (any-cut m m′ rest (ready (cut m)) b y (D .onAny));
     }
 
 sized-cut : (m : Memory) → Sized m → Sized (cut m)
@@ -222,4 +238,4 @@ sized-cut m Z = record { workers = Z .workers; newest = Z .newest; free = Z .fre
 pub does-whole : (m m′ : Memory) (b : List ℕ) (y : Answer) → Sized m → Bytes b
     → y ≡ doneOf (cut m) b .answer → cut m′ ≡ doneOf (cut m) b .memory → drop 2048 (m′ .slots) ≡ drop 2048 (m .slots) → Does m b y m′
 does-whole m m′ b y Z bytes a l rest =
-    does-cut m m′ b y (rw (a, l) (does (cut m) b (sized-cut m Z) bytes)) rest
+    does-cut m m′ b y Z (rw (a, l) (does (cut m) b (sized-cut m Z) bytes)) rest

@@ -41,19 +41,18 @@ use Rattle.step.specs.Step.{Stepped, outcomeOf, readOrSplit, freeOrDone, stepOf
 use Rattle.step.specs.Step.{putPublishStep, putStampStep, openAnnounceStep, openPassStep, readEnterStep, readStandStep, getShowStep, closeWithdrawStep}
 use Rattle.flush.specs.Flush.{handedPool, putHandInStep}
 use Rattle.simulation.specs.Memory.{Memory}
-use Rattle.simulation.specs.Left.{ready}
 use Rattle.simulation.specs.Shell.{Result, withHub, takenIn, handedIn, tookIn, readIn, splitIn, freedIn, nextIn, finishIn, goIn}
-use Rattle.simulation.specs.Shell.{obeyIn, gateIn, doneAs, doneOf}
-use Rattle.simulation.specs.Public.{idleIn, takesStepIn, idledIn, EndsWell}
+use Rattle.simulation.specs.Shell.{answered, obeyIn, gateIn, doneAs}
+use Rattle.simulation.specs.Public.{idleIn, takesStepIn, idledIn, EndsBy, OnAny}
 use Rattle.simulation.proofs.Gates.{gateBy}
 
 ------------------------------------------------------------------------
 -- Memory that counts as set up
 
-pub setup-nine : (m : Memory) (b : List ℕ) → ready m ≡ true → (z : Sizes) → decode b ≡ Asks (SetUp z)
-    → answerOf (doneOf m b .answer) ≡ Model·Answer.No 9
-unfolding doneOf doneAs gateOf obeyIn
-setup-nine m b e z d =
+setup-nine : (up : Bool) (m : Memory) (b : List ℕ) → up ≡ true → (z : Sizes) → decode b ≡ Asks (SetUp z)
+    → answerOf (doneAs up m b .answer) ≡ Model·Answer.No 9
+unfolding doneAs gateOf obeyIn
+setup-nine up m b e z d =
     let said : Record.Decoded → Bool → Model·Answer.Answer =
     λ r t. answerOf (obeyIn m (gateBy (decodedRep r) t (length (m .slots)) (m .hub)) .answer) in
     λ i. said (d i) (e i)
@@ -129,12 +128,15 @@ gate-numbered (Asks (Record.Step w)) n up p v long d t =
 ------------------------------------------------------------------------
 -- A step of worker w
 
-module _ (m : Memory) (r : Record.Decoded) where
+module _ (up : Bool) (m : Memory) (r : Record.Decoded) where
   -- what the record leaves and is answered ends well
-  abbrev Ends : Result → Type 0
-  Ends z = EndsWell m r (z .answer) (z .memory)
+  abbrev EndsWell : Answer → Memory → Type 0
+  EndsWell y m′ = EndsBy up m r (Model·Answer.said (answerOf y) .refusal) m′
 
-  module _ (w : ℕ) (s : r ≡ Asks (Record.Step w)) (set-up : ready m ≡ true) (below : ltb w (m .hub .p) ≡ true) where
+  abbrev Ends : Result → Type 0
+  Ends z = EndsWell (z .answer) (z .memory)
+
+  module _ (w : ℕ) (s : r ≡ Asks (Record.Step w)) (set-up : up ≡ true) (below : ltb w (m .hub .p) ≡ true) where
     abbrev x : Worker
     x = workerIn (m .hub) w
 
@@ -152,7 +154,7 @@ module _ (m : Memory) (r : Record.Decoded) where
     refusedAt k = outcomeOf Idle (x .announced) (m .hub .clock) (m .hub .free) (No k)
 
     -- a step is taken where the worker is not idle
-    takes : (d : Doing) → x .doing ≡ d → takesStepIn m r ≡ not (aboutOf d .idle)
+    takes : (d : Doing) → x .doing ≡ d → takesStepIn up m r ≡ not (aboutOf d .idle)
     unfolding takesStepIn
     takes d e = rw (s, set-up, below, e)
 
@@ -166,7 +168,7 @@ module _ (m : Memory) (r : Record.Decoded) where
         record { number = rw (takes Idle e) (omega arith); leaves = rw (takes Idle e) kept }
 
     -- 14 and 15 set the worker idle
-    sets-idle : (k : ℕ) → takesStepIn m r ≡ true → 0 < occurrences k atStep → StillEnds (refusedAt k)
+    sets-idle : (k : ℕ) → takesStepIn up m r ≡ true → 0 < occurrences k atStep → StillEnds (refusedAt k)
     unfolding nextIn takenIn idledIn
     sets-idle k e n = record { number = rw e n; leaves = rw (e, s) }
 
@@ -175,7 +177,7 @@ module _ (m : Memory) (r : Record.Decoded) where
     unfolding handedIn putHandInStep
     hand-in-ends c =
         let q : Pool = handedPool (x .pool) c (slotAtIn (m .slots) c) in
-        cond-both (λ (y : Answer). EndsWell m r y (handedIn m w x c .memory)) (eqb (q .len) (batchOf (m .hub .p % 256))) Going Done (λ f. tt)
+        cond-both (λ (y : Answer). EndsWell y (handedIn m w x c .memory)) (eqb (q .len) (batchOf (m .hub .p % 256))) Going Done (λ f. tt)
         (λ f. tt)
 
     -- flush (2) and (3)
@@ -217,26 +219,42 @@ module _ (m : Memory) (r : Record.Decoded) where
 ------------------------------------------------------------------------
 -- A record
 
--- by the decision
-gate-ends : (m : Memory) (r : Record.Decoded) (d : Doing) → Steps r (ready m) (m .hub .p) d ≡ takesStepIn m r
-    → (g : Gate) → GateNumbered r (ready m) (m .hub .p) d g → Ends m r (obeyIn m g)
-unfolding obeyIn
-gate-ends m r d e (Refuse k) n = record { number = rw (sym e ∙ n .1) (n .0); leaves = rw (sym e ∙ n .1) }
-gate-ends m r d e (Make p v k t) n = tt
-gate-ends m r d e (Start w f) n = tt
-gate-ends m r d e (Go w) n = step-ends m r w (n .0) (n .1) (n .2) (workerIn (m .hub) w .doing) refl
+module _ (up : Bool) (m : Memory) where
+  -- by the decision
+  gate-ends : (r : Record.Decoded) (d : Doing) → Steps r up (m .hub .p) d ≡ takesStepIn up m r
+      → (g : Gate) → GateNumbered r up (m .hub .p) d g → Ends up m r (obeyIn m g)
+  unfolding obeyIn
+  gate-ends r d e (Refuse k) n = record { number = rw (sym e ∙ n .1) (n .0); leaves = rw (sym e ∙ n .1) }
+  gate-ends r d e (Make p v k t) n = tt
+  gate-ends r d e (Start w f) n = tt
+  gate-ends r d e (Go w) n = step-ends up m r w (n .0) (n .1) (n .2) (workerIn (m .hub) w .doing) refl
 
--- the worker whose place the decision looks at is the one that the record names
-looks-at : (m : Memory) (r : Record.Decoded) → Steps r (ready m) (m .hub .p) (workerIn (m .hub) (whoOf (decodedRep r)) .doing) ≡ takesStepIn m r
-unfolding takesStepIn whoOf
-looks-at m (Asks (SetUp z)) = refl
-looks-at m (Asks (Record.Begin w o)) = refl
-looks-at m (Asks (Record.Step w)) = refl
-looks-at m (Record.Refuses k) = refl
+  -- the worker whose place the decision looks at is the one that the record names
+  looks-at : (r : Record.Decoded) → Steps r up (m .hub .p) (workerIn (m .hub) (whoOf (decodedRep r)) .doing) ≡ takesStepIn up m r
+  unfolding takesStepIn whoOf
+  looks-at (Asks (SetUp z)) = refl
+  looks-at (Asks (Record.Begin w o)) = refl
+  looks-at (Asks (Record.Step w)) = refl
+  looks-at (Record.Refuses k) = refl
 
-pub ends-well : (m : Memory) (b : List ℕ) → EndsWell m (decode b) (doneOf m b .answer) (doneOf m b .memory)
-unfolding doneOf doneAs
-ends-well m b =
-    let x : Worker = workerIn (m .hub) (whoOf (decodedIn b)) in
-    gate-ends m (decode b) (x .doing) (looks-at m (decode b)) (gateIn (ready m) m b)
-    (gate-numbered (decode b) (read-numbered b) (ready m) (m .hub .p) (m .hub .v) (length (m .slots)) (x .doing) (x .announced))
+  module _ (b : List ℕ) where
+    ends-well : Ends up m (decode b) (doneAs up m b)
+    unfolding doneAs
+    ends-well =
+        let x : Worker = workerIn (m .hub) (whoOf (decodedIn b)) in
+        gate-ends (decode b) (x .doing) (looks-at (decode b)) (gateIn up m b)
+        (gate-numbered (decode b) (read-numbered b) up (m .hub .p) (m .hub .v) (length (m .slots)) (x .doing) (x .announced))
+
+    -- a record that is refused before it is a command
+    refused-read : (k : ℕ) → decode b ≡ Record.Refuses k → doneAs up m b ≡ answered m (No k)
+    unfolding doneAs gateOf obeyIn
+    refused-read k e = ap (λ (r : Record.Decoded). obeyIn m (gateBy (decodedRep r) up (length (m .slots)) (m .hub))) e
+
+    pub on-any : OnAny up m b (doneAs up m b .answer) (doneAs up m b .memory)
+    on-any =
+        record {
+          ends = ends-well;
+          reading = λ k e.
+              (ap (λ (r : Result). answerOf (r .answer)) (refused-read k e), ap (λ (r : Result). r .memory) (refused-read k e));
+          nine = setup-nine up m b;
+        }

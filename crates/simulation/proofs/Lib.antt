@@ -34,7 +34,9 @@ pub mod Ready
 pub mod Again
 pub mod Ends
 pub mod Assembly
-pub mod Demands
+pub mod Compose
 pub mod OneByOne
+pub mod Ranged
+pub mod Demands
 pub mod Main
 pub mod Cut

@@ -1,19 +1,23 @@
 -- The call for a whole buffer does what the calls for its records do. The flag that it keeps says after each record whether the memory counts as
 -- set up: memory that records left is left by records again, and memory that does not count as set up stays as it was, or a setup is accepted
--- and records left it.
+-- and records left it. So each record does what the contract of one record says, and all of them together what the model does.
 use mathlib.Core.Path.{_≡_, refl, sym, ap, _∙_, subst}
 use mathlib.Core.Bool.{Bool, true, false, _||_}
-use mathlib.Core.Logic.{inl, inr, ⊎-elim}
-use mathlib.Core.List.{List, [], _∷_}
+use mathlib.Core.Logic.{⊎-elim}
+use mathlib.Core.List.{List, [], _∷_, _++_, map, map-append}
 use Prim.Native.Nat.{ℕ, zero, suc, _+_, _*_, _≤_, _<_}
 use native.Mathlib.Omega.{arith}
 use native.Mathlib.Nat.{not-suc-le-zero, le-of-suc-le-suc}
 use lib.Seq.{getD-set-same, getD-set-other, getD-take, getD-drop}
 use lib.ListN.{length, getD, take, drop, set, length-set}
-use Rattle.model.specs.Store.{Hub}
+use Rattle.model.specs.Store as Model
+use Rattle.model.specs.Store.{Store, blank, up, upFrom}
+use Rattle.model.specs.Rules.{inForce}
 use Rattle.model.specs.Answer.{Ok}
 use Rattle.model.specs.Record as Record
-use Rattle.model.specs.Record.{Sizes, SetUp, Asks, decode}
+use Rattle.model.specs.Record.{SetUp, Asks}
+use Rattle.model.specs.Apply.{apply, hubAfter}
+use Rattle.model.specs.Demand.{Exchange}
 use Rattle.model.proofs.Basic.{eq-cases, lt-cases, cond-both}
 use Rattle.values.specs.Meaning.{answerOf}
 use Rattle.values.specs.declared.Answer.{Answer}
@@ -29,12 +33,14 @@ use Rattle.gate.specs.Gate.{decodedRep, decodedIn, sizesOk, gateOf, whoOf}
 use Rattle.simulation.specs.Memory.{Memory}
 use Rattle.simulation.specs.Left.{Sized, ready}
 use Rattle.simulation.specs.Shell.{obeyIn, gateIn, doneAs, doneOf}
-use Rattle.simulation.specs.Demands.{Bytes, Calls}
-use Rattle.simulation.specs.Buffer.{recordAt, makes, State, next, after, before}
-use Rattle.simulation.specs.Promise.{each, answerEach, eventAt, eventsFrom, Decided, OneByOne}
-use Rattle.simulation.proofs.Again.{LeftAs}
-use Rattle.simulation.proofs.Assembly.{StepsSimulate, setup-left, left-ready, left-again, does}
-use Rattle.simulation.proofs.Demands.{was-blank, demands}
+use Rattle.simulation.specs.Holds.{Holds, sent, AsModel}
+use Rattle.simulation.specs.Public.{exchangeOf, Does}
+use Rattle.simulation.specs.Buffer.{recordAt, makes, State, next, after, before, countOf, Applies}
+use Rattle.simulation.specs.Demands.{Bytes, stateAt, answerTo, Rows}
+use Rattle.simulation.proofs.Again.{LeftHub, setup-left, one-answer, one-holds}
+use Rattle.simulation.proofs.Sound.{left-next}
+use Rattle.simulation.proofs.Assembly.{StepsSimulate, left-ready, does}
+use Rattle.simulation.proofs.Compose.{nothing-sent, both-sent}
 
 ------------------------------------------------------------------------
 -- The bytes of a record
@@ -79,17 +85,60 @@ module _ (l : List ℕ) (f : ℕ → ℕ) where
       getD-set-other (fillTo l f n) n k (f n) 0 (λ e. absurd (omega (arith, e))) ∙ fill-other n k (omega arith)
 
 ------------------------------------------------------------------------
--- One record
+-- The two rows of answers, on any memory
 
--- on the memory that it leaves document 01 decides everything, and that memory counts as set up where it did before or a setup was accepted
-record Leaves (m : Memory) (b : List ℕ) : Type 0 where
-  decided : Decided (doneOf m b .memory)
-  sized : Sized (doneOf m b .memory)
-  flag : ready (doneOf m b .memory) ≡ (ready m || makes (gateIn (ready m) m b))
+module _ (m : Memory) (bytes kinds numbers : List ℕ) where
+  abbrev ran : ℕ → State
+  ran k = after (before m kinds numbers) bytes k
 
--- records left the memory
-leaves-as : (h : Hub) (m : Memory) (b : List ℕ) → LeftAs h (doneOf m b .memory) → (ready m || makes (gateIn (ready m) m b)) ≡ true → Leaves m b
-leaves-as h m b a e = record { decided = inl (a .0, a .2); sized = a .3; flag = left-ready (doneOf m b .memory) (a .2) (a .3) ∙ sym e }
+  -- what stands in the rows makes no difference to the records
+  rows-apart : (k : ℕ) → (ran k .up ≡ stateAt m bytes k .up) × (ran k .memory ≡ stateAt m bytes k .memory)
+  unfolding after next
+  rows-apart zero = (refl, refl)
+  rows-apart (suc k) =
+      let s = rows-apart k in
+      let b = recordAt bytes k in
+      (λ i. s .0 i || makes (gateIn (s .0 i) (s .1 i) b), λ i. doneAs (s .0 i) (s .1 i) b .memory)
+
+  answers-apart : (k : ℕ) → ran (suc k) .last ≡ answerTo m bytes k
+  unfolding after next
+  answers-apart k =
+      let s = rows-apart k in
+      λ i. doneAs (s .0 i) (s .1 i) (recordAt bytes k) .answer
+
+  kinds-filled : (n : ℕ) → ran n .kinds ≡ fillTo kinds (λ k. kindOf (ran (suc k) .last)) n
+  unfolding after next fillTo
+  kinds-filled zero = refl
+  kinds-filled (suc n) = ap (λ (l : List ℕ). set l n (kindOf (ran (suc n) .last))) (kinds-filled n)
+
+  numbers-filled : (n : ℕ) → ran n .numbers ≡ fillTo numbers (λ k. numberOf (ran (suc k) .last)) n
+  unfolding after next fillTo
+  numbers-filled zero = refl
+  numbers-filled (suc n) = ap (λ (l : List ℕ). set l n (numberOf (ran (suc n) .last))) (numbers-filled n)
+
+  -- what the call for a buffer leaves
+  pub left-in : (n : ℕ) (m′ : Memory) (kinds′ numbers′ : List ℕ) → Applies m bytes kinds numbers n m′ kinds′ numbers′
+      → (m′ ≡ stateAt m bytes n .memory) × Rows m bytes kinds numbers n kinds′ numbers′
+  left-in n m′ kinds′ numbers′ A =
+      let K : kinds′ ≡ fillTo kinds (λ k. kindOf (ran (suc k) .last)) n = A .ran .answerKinds ∙ kinds-filled n in
+      let N : numbers′ ≡ fillTo numbers (λ k. numberOf (ran (suc k) .last)) n = A .ran .answerNumbers ∙ numbers-filled n in (
+        A .ran .memory ∙ rows-apart n .1,
+        record {
+          answerKinds = λ k h.
+              ap (λ (l : List ℕ). getD l k 0) K
+              ∙ fill-at kinds (λ j. kindOf (ran (suc j) .last)) n k h (omega (arith, A .count))
+              ∙ ap kindOf (answers-apart k);
+          answerNumbers = λ k h.
+              ap (λ (l : List ℕ). getD l k 0) N
+              ∙ fill-at numbers (λ j. numberOf (ran (suc j) .last)) n k h (omega (arith, A .count))
+              ∙ ap numberOf (answers-apart k);
+          otherKinds = λ k h. ap (λ (l : List ℕ). getD l k 0) K ∙ fill-other kinds (λ j. kindOf (ran (suc j) .last)) n k h;
+          otherNumbers = λ k h. ap (λ (l : List ℕ). getD l k 0) N ∙ fill-other numbers (λ j. numberOf (ran (suc j) .last)) n k h;
+        },
+      )
+
+------------------------------------------------------------------------
+-- The flag
 
 -- where the memory does not count as set up, nothing begins and no step is taken
 blank-gate : (P : Gate → Type 0) → ((k : ℕ) → P (Refuse k)) → ((p v n k : ℕ) → P (Make p v n k))
@@ -101,130 +150,102 @@ blank-gate P f g (Asks (SetUp z)) p v long d t =
 blank-gate P f g (Asks (Record.Begin w o)) p v long d t = f 8
 blank-gate P f g (Asks (Record.Step w)) p v long d t = f 8
 
-module _ (m : Memory) (b : List ℕ) (Z : Sized m) (B : Bytes b) (e : ready m ≡ false) where
-  -- a refusal changes nothing
-  leaves-refused : (k : ℕ) → gateIn (ready m) m b ≡ Refuse k → Leaves m b
-  unfolding doneOf doneAs obeyIn
-  leaves-refused k g =
-      let same : doneOf m b .memory ≡ m = ap (λ (x : Gate). obeyIn m x .memory) g in
-      record {
-        decided = inr (ap ready same ∙ e);
-        sized = subst Sized (sym same) Z;
-        flag = ap ready same ∙ e ∙ sym (λ i. e i || makes (g i));
-      }
+-- a hub that records left counts as set up where memory holds it
+held-ready : (h : Model.Hub) (m : Memory) → Holds h m → Sized m → LeftHub h → ready m ≡ true
+held-ready h m H Z (t, e, L) = left-ready m (subst (λ (k : Model.Hub). Holds k m) e H) Z
 
-  -- an accepted setup
-  leaves-made : (p v n k : ℕ) → gateIn (ready m) m b ≡ Make p v n k → Leaves m b
-  unfolding doneOf doneAs obeyIn
-  leaves-made p v n k g =
-      leaves-as _ m b (setup-left m b Z B e (ap (λ (x : Gate). answerOf (obeyIn m x .answer)) g)) (λ i. e i || makes (g i))
+module _ (steps : StepsSimulate) (m : Memory) (b : List ℕ) (Z : Sized m) (B : Bytes b) where
+  -- what the flag is after the record
+  abbrev Flagged : Type 0
+  Flagged = ready (doneOf m b .memory) ≡ (ready m || makes (gateIn (ready m) m b))
 
-  leaves-blank : Leaves m b
-  leaves-blank =
+  abbrev did : (h : Model.Hub) → Holds h m → AsModel h m (exchangeOf b (doneOf m b .answer) ∷ []) (doneOf m b .memory)
+  did = does steps m b Z B .asModel
+
+  -- the next hub is set up
+  now-ready : (h : Model.Hub) → Holds h m → LeftHub (apply inForce h b .hub) → ready (doneOf m b .memory) ≡ true
+  now-ready h H L = held-ready (apply inForce h b .hub) (doneOf m b .memory) (one-holds (did h H)) (did h H .sized Z) L
+
+  module _ (row : List Model.Slot) (H : Holds (blank row) m) where
+    -- a refusal changes nothing
+    flag-refused : (k : ℕ) → gateIn (ready m) m b ≡ Refuse k → Flagged
+    unfolding doneOf doneAs obeyIn
+    flag-refused k g = ap (λ (x : Gate). ready (obeyIn m x .memory)) g ∙ H .0 ∙ sym (λ i. H .0 i || makes (g i))
+
+    -- an accepted setup
+    flag-made : (p v n k : ℕ) → gateIn (ready m) m b ≡ Make p v n k → Flagged
+    unfolding doneOf doneAs obeyIn
+    flag-made p v n k g =
+        let ok : apply inForce (blank row) b .answer ≡ Ok =
+        sym (one-answer (did (blank row) H)) ∙ ap (λ (x : Gate). answerOf (obeyIn m x .answer)) g in
+        now-ready (blank row) H (setup-left row b ok) ∙ sym (λ i. H .0 i || makes (g i))
+
+  flagged : (h : Model.Hub) → Holds h m → Flagged
+  flagged (up s) L =
+      now-ready (up s) L (left-next (L .store) b) ∙ sym (ap (λ (t : Bool). t || makes (gateIn (ready m) m b)) (left-ready m L Z))
+  flagged (blank row) H =
       let x : Worker = workerIn (m .hub) (whoOf (decodedIn b)) in
-      blank-gate (λ (g : Gate). gateIn (ready m) m b ≡ g → Leaves m b) leaves-refused leaves-made
-      (decode b) (m .hub .p) (m .hub .v) (length (m .slots)) (x .doing) (x .announced) (ap (λ (t : Bool). gateIn t m b) e)
+      blank-gate (λ (g : Gate). gateIn (ready m) m b ≡ g → Flagged) (flag-refused row H) (flag-made row H)
+      (Record.decode b) (m .hub .p) (m .hub .v) (length (m .slots)) (x .doing) (x .announced) (ap (λ (t : Bool). gateIn t m b) (H .0))
 
 ------------------------------------------------------------------------
--- The records of a buffer: the two rows are filled
+-- The records of a buffer on memory that holds a hub
 
-module _ (m : Memory) (bytes kinds numbers : List ℕ) where
-  abbrev run : ℕ → State
-  run k = after (before m kinds numbers) bytes k
+up-more : (a n c : ℕ) → c ≡ a + n → upFrom a (suc n) ≡ upFrom a n ++ (c ∷ [])
+unfolding upFrom
+up-more a zero c e = ap (λ (x : ℕ). x ∷ []) (omega (arith, e))
+up-more a (suc n) c e = ap (λ (l : List ℕ). a ∷ l) (up-more (a + 1) n c (omega (arith, e)))
 
-  abbrev said : ℕ → Answer
-  said k = doneAs (run k .up) (run k .memory) (recordAt bytes k) .answer
+module _ (steps : StepsSimulate) (m : Memory) (bytes : List ℕ) (h : Model.Hub) (H : Holds h m) (Z : Sized m) (B : Bytes bytes) where
+  -- record k and its answer
+  abbrev pub given : ℕ → Exchange
+  given k = exchangeOf (recordAt bytes k) (answerTo m bytes k)
 
-  kinds-filled : (n : ℕ) → run n .kinds ≡ fillTo kinds (λ k. kindOf (said k)) n
-  unfolding after next fillTo
-  kinds-filled zero = refl
-  kinds-filled (suc n) = ap (λ (l : List ℕ). set l n (kindOf (said n))) (kinds-filled n)
+  given-more : (n : ℕ) → map given (upFrom 0 (suc n)) ≡ map given (upFrom 0 n) ++ (given n ∷ [])
+  given-more n = ap (map given) (up-more 0 n n (omega arith)) ∙ map-append given (upFrom 0 n) (n ∷ [])
 
-  numbers-filled : (n : ℕ) → run n .numbers ≡ fillTo numbers (λ k. numberOf (said k)) n
-  unfolding after next fillTo
-  numbers-filled zero = refl
-  numbers-filled (suc n) = ap (λ (l : List ℕ). set l n (numberOf (said n))) (numbers-filled n)
+  -- the model's hub before record k
+  abbrev pub hubTo : ℕ → Model.Hub
+  hubTo k = hubAfter h (sent (map given (upFrom 0 k)))
 
-------------------------------------------------------------------------
--- Where the steps are the model's
+  -- so far all is as the model has it, and the flag says whether the memory counts as set up
+  record SoFar (k : ℕ) : Type 0 where
+    asModel : AsModel h m (map given (upFrom 0 k)) (stateAt m bytes k .memory)
+    flag : stateAt m bytes k .up ≡ ready (stateAt m bytes k .memory)
 
-module _ (steps : StepsSimulate) where
-  leaves : (m : Memory) (b : List ℕ) → Decided m → Sized m → Bytes b → Leaves m b
-  leaves m b (inl (s, L)) Z B =
-      leaves-as _ m b (left-again steps s m b L Z) (ap (λ (t : Bool). t || makes (gateIn (ready m) m b)) (left-ready m L Z))
-  leaves m b (inr e) Z B = leaves-blank m b Z B e
+  does-next : (k : ℕ) → SoFar k → Does (stateAt m bytes k .memory) (recordAt bytes k) (answerTo m bytes k) (stateAt m bytes (suc k) .memory)
+  unfolding after next doneOf
+  does-next k S =
+      let x : Memory = stateAt m bytes k .memory in
+      let b : List ℕ = recordAt bytes k in
+      subst (λ (u : Bool). Does x b (doneAs u x b .answer) (doneAs u x b .memory)) (sym (S .flag))
+      (does steps x b (S .asModel .sized Z) (record-bytes bytes k B))
 
-  -- the records one by one
-  module _ (m : Memory) (bytes : List ℕ) (d : Decided m) (Z : Sized m) (B : Bytes bytes) where
-    each-decided : (k : ℕ) → Decided (each m bytes k) × Sized (each m bytes k)
-    unfolding each
-    each-decided zero = (d, Z)
-    each-decided (suc k) =
-        let x = each-decided k in
-        let n = leaves (each m bytes k) (recordAt bytes k) (x .0) (x .1) (record-bytes bytes k B) in
-        (n .decided, n .sized)
+  flag-next : (k : ℕ) → SoFar k → stateAt m bytes (suc k) .up ≡ ready (stateAt m bytes (suc k) .memory)
+  unfolding after next doneOf
+  flag-next k S =
+      let x : Memory = stateAt m bytes k .memory in
+      let b : List ℕ = recordAt bytes k in
+      (λ i. S .flag i || makes (gateIn (S .flag i) x b))
+      ∙ sym (flagged steps x b (S .asModel .sized Z) (record-bytes bytes k B) (hubTo k) (S .asModel .holds))
+      ∙ sym (λ i. ready (doneAs (S .flag i) x b .memory))
 
-    each-leaves : (k : ℕ) → Leaves (each m bytes k) (recordAt bytes k)
-    each-leaves k = leaves (each m bytes k) (recordAt bytes k) (each-decided k .0) (each-decided k .1) (record-bytes bytes k B)
-
-    calls-from : (n k : ℕ) → Calls (each m bytes k) (eventsFrom m bytes k n)
-    unfolding Calls eventsFrom each
-    calls-from zero k = tt
-    calls-from (suc n) k = (
-      record-bytes bytes k B,
-      does steps (each m bytes k) (recordAt bytes k) (each-decided k .1) (record-bytes bytes k B),
-      each-decided (suc k) .1,
-      calls-from n (suc k),
-    )
-
-    -- the flag of the call for the whole buffer says whether the memory counts as set up
-    module _ (kinds numbers : List ℕ) where
-      abbrev ran : ℕ → State
-      ran = run m bytes kinds numbers
-
-      same : (k : ℕ) → (ran k .memory ≡ each m bytes k) × (ran k .up ≡ ready (each m bytes k))
-      unfolding after next doneAs doneOf each
-      same zero = (refl, refl)
-      same (suc k) =
-          let s = same k in
-          let b = recordAt bytes k in (
-            λ i. doneAs (s .1 i) (s .0 i) b .memory,
-            (λ i. s .1 i || makes (gateIn (s .1 i) (s .0 i) b)) ∙ sym (each-leaves k .flag),
-          )
-
-      said-each : (k : ℕ) → said m bytes kinds numbers k ≡ answerEach m bytes k
-      unfolding doneAs doneOf
-      said-each k =
-          let s = same k in
-          λ i. doneAs (s .1 i) (s .0 i) (recordAt bytes k) .answer
-
-  -- memory on which a setup is accepted did not count as set up
-  from-setup : (m : Memory) (b : List ℕ) → Sized m → Bytes b → (z : Sizes) → decode b ≡ Asks (SetUp z) → answerOf (doneOf m b .answer) ≡ Ok
-      → Decided m
-  from-setup m b Z B z d ok = inr (was-blank m (doneOf m b .memory) b (doneOf m b .answer) (does steps m b Z B) z d ok)
-
-  pub oneByOne : OneByOne
-  unfolding each eventsFrom
-  oneByOne =
+  so-far : (k : ℕ) → SoFar k
+  unfolding after upFrom
+  so-far zero = record { asModel = nothing-sent h m H; flag = refl }
+  so-far (suc k) =
+      let S = so-far k in
+      let x : Memory = stateAt m bytes k .memory in
+      let x′ : Memory = stateAt m bytes (suc k) .memory in
       record {
-        memory = λ m bytes kinds numbers n d Z B. same m bytes d Z B kinds numbers n .0;
-        answerKinds = λ m bytes kinds numbers n k d Z B h l.
-            ap (λ (x : List ℕ). getD x k 0) (kinds-filled m bytes kinds numbers n)
-            ∙ fill-at kinds (λ j. kindOf (said m bytes kinds numbers j)) n k h l
-            ∙ ap kindOf (said-each m bytes d Z B kinds numbers k);
-        answerNumbers = λ m bytes kinds numbers n k d Z B h l.
-            ap (λ (x : List ℕ). getD x k 0) (numbers-filled m bytes kinds numbers n)
-            ∙ fill-at numbers (λ j. numberOf (said m bytes kinds numbers j)) n k h l
-            ∙ ap numberOf (said-each m bytes d Z B kinds numbers k);
-        otherKinds = λ m bytes kinds numbers n k h.
-            ap (λ (x : List ℕ). getD x k 0) (kinds-filled m bytes kinds numbers n)
-            ∙ fill-other kinds (λ j. kindOf (said m bytes kinds numbers j)) n k h;
-        otherNumbers = λ m bytes kinds numbers n k h.
-            ap (λ (x : List ℕ). getD x k 0) (numbers-filled m bytes kinds numbers n)
-            ∙ fill-other numbers (λ j. numberOf (said m bytes kinds numbers j)) n k h;
-        calls = λ m bytes n d Z B. calls-from m bytes d Z B n 0;
-        fromSetup = from-setup;
-        demand3 = λ m bytes n Z B z d ok.
-            let D = from-setup m (recordAt bytes 0) Z (record-bytes bytes 0 B) z d ok in
-            demands .demand3 m (eventAt m bytes 0) (eventsFrom m bytes 1 n) Z (calls-from m bytes D Z B (suc n) 0) z d ok;
+        asModel =
+            subst (λ (l : List Exchange). AsModel h m l x′) (sym (given-more k))
+            (both-sent h m x x′ (map given (upFrom 0 k)) (given k ∷ []) (S .asModel) (does-next k S .asModel (hubTo k) (S .asModel .holds)));
+        flag = flag-next k S;
       }
+
+  pub does-each : (k : ℕ) → Does (stateAt m bytes k .memory) (recordAt bytes k) (answerTo m bytes k) (stateAt m bytes (suc k) .memory)
+  does-each k = does-next k (so-far k)
+
+  pub as-model-to : (k : ℕ) → AsModel h m (map given (upFrom 0 k)) (stateAt m bytes k .memory)
+  as-model-to k = so-far k .asModel

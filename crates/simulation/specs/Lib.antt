@@ -1,7 +1,7 @@
 pub mod Memory
 pub mod Left
+pub mod Holds
 pub mod Shell
 pub mod Public
-pub mod Demands
 pub mod Buffer
-pub mod Promise
+pub mod Demands

@@ -1,0 +1,138 @@
+-- The numbers in the answers are in the range of their types, on memory that holds a hub: a freed slot is below N, a time is before the last of
+-- the clock, and a refusal has one of its numbers. So the two numbers of an answer stand for that answer.
+use mathlib.Core.Path.{_≡_, refl, sym, subst}
+use mathlib.Core.Bool.{_&&_}
+use mathlib.Core.List.{List, [], _∷_}
+use Prim.Native.Nat.{ℕ, _<_}
+use native.Mathlib.Omega.{arith}
+use lib.Dec.{ltb, leb, eqb, lit<}
+use lib.ListN.{length, getD}
+use Rattle.model.specs.Store as Model
+use Rattle.model.specs.Store.{Store, Range, blank, up, lastClock, workerAt, slotAt}
+use Rattle.model.specs.Rules.{inForce}
+use Rattle.model.specs.Answer.{Answer, Ok, Going, Freed, At, Value, Done, No, Stepped, Applied}
+use Rattle.model.specs.Record.{SetUp, Begin, Step, Decoded, Asks, Refuses, commandOf, unusedZero, decode}
+use Rattle.model.specs.Steps.{answerFor, putPublish, putStamp, putHandIn, flushTake, flushSplit, flushRead, flushFree, openAnnounce, openPass, readEnter, readStand, getShow, closeWithdraw, timeStep, stepAt}
+use Rattle.model.specs.Apply.{inRanges, setUp, terms, registerBelow, isIdle, mayOpen, mayUseTime, begin, step, obey, applyDecoded, apply}
+use Rattle.model.proofs.Basic.{cond-both}
+use Rattle.values.specs.Meaning.{answerOf}
+use Rattle.values.specs.declared.Answer as Code
+use Rattle.values.specs.declared.Answer.the-variants as Is
+use Rattle.answers.specs.Numbers.{kindOf, numberOf, answerFrom, InRange}
+use Rattle.answers.proofs.Faithful.{faithful}
+use Rattle.simulation.specs.Memory.{Memory}
+use Rattle.simulation.specs.Holds.{Holds}
+use Rattle.simulation.proofs.Sound.{PlaceIn, Sound, sound}
+use borrow.Author.Tests.{ltb-true}
+
+-- of an answer of the model
+abbrev Ranged : Answer → Type 0
+Ranged Ok = Unit {0}
+Ranged Going = Unit {0}
+Ranged (Freed c) = c < 65536
+Ranged (At t) = t < 4294967296
+Ranged (Value x) = Unit {0}
+Ranged Done = Unit {0}
+Ranged (No k) = k < 256
+
+abbrev RangedBy : Applied → Type 0
+RangedBy a = Ranged (a .answer)
+
+------------------------------------------------------------------------
+-- A step in a sound store
+
+module _ (s : Store) (S : Sound s) (w : ℕ) (below : w < s .site .P) where
+  abbrev RangedStep : Stepped → Type 0
+  RangedStep x = Ranged (x .answer)
+
+  put-ranged : (r : ℕ) (x : Model.Reading) (l : List ℕ) → RangedStep (putPublish s w r x l)
+  unfolding putPublish
+  put-ranged r x [] = lit< tt
+  put-ranged r x (c ∷ l) = tt
+
+  free-ranged : (l : List Range) → PlaceIn s (workerAt s w .announced) (Model.FlushFree l) → RangedStep (flushFree s w l)
+  unfolding flushFree
+  free-ranged [] p = tt
+  free-ranged (ρ ∷ l) p = omega (arith, p .1 .0 .0, S .bounds .slots .1)
+
+  step-ranged : (d : Model.Doing) → PlaceIn s (workerAt s w .announced) d → RangedStep (stepAt s w d)
+  unfolding stepAt timeStep putStamp putHandIn flushTake flushSplit flushRead openAnnounce openPass readEnter readStand getShow closeWithdraw answerFor
+  step-ranged Model.Idle p = lit< tt
+  step-ranged (Model.PutPublish r x) p = put-ranged r x (s .free)
+  step-ranged (Model.PutStamp r c) p = tt
+  step-ranged (Model.PutHandIn r c) p = cond-both Ranged (eqb _ (s .site .B)) Going Done (λ e. tt) (λ e. tt)
+  step-ranged Model.FlushTake p = tt
+  step-ranged (Model.FlushRead m ts) p = cond-both RangedStep (ltb (length ts) (s .site .P)) _ _ (λ e. tt) (λ e. tt)
+  step-ranged (Model.FlushFree m) p = free-ranged m p
+  step-ranged (Model.OnTime Model.OpenAnnounce) p = cond-both RangedStep (eqb (s .clock) lastClock) _ _ (λ e. lit< tt) (λ e. tt)
+  step-ranged (Model.OnTime Model.OpenPass) p = omega (arith, p .1)
+  step-ranged (Model.OnTime Model.CloseWithdraw) p = tt
+  step-ranged (Model.ReadEnter g) p = tt
+  step-ranged (Model.ReadStand g c) p = cond-both RangedStep (leb (slotAt s c .low) (workerAt s w .announced)) _ _ (λ e. tt) (λ e. tt)
+  step-ranged (Model.GetShow r) p = tt
+
+------------------------------------------------------------------------
+-- A record
+
+-- 6, 1 and 2
+abbrev RangedRead : Decoded → Type 0
+RangedRead (Asks c) = Unit {0}
+RangedRead (Refuses k) = k < 256
+
+read-ranged : (b : List ℕ) → RangedRead (decode b)
+unfolding decode
+read-ranged b =
+    cond-both RangedRead (ltb (length b) 16) _ _ (λ e. lit< tt)
+    (λ e. cond-both RangedRead (ltb 7 (getD b 0 0)) _ _ (λ f. lit< tt)
+    (λ f. cond-both RangedRead (unusedZero b (commandOf b (getD b 0 0))) _ _ (λ g. tt) (λ g. lit< tt)))
+
+-- memory that holds a hub has a sound one
+abbrev SoundIn : Model.Hub → Type 0
+SoundIn (blank row) = Unit {0}
+SoundIn (up s) = Sound s
+
+decoded-ranged : (h : Model.Hub) → SoundIn h → (d : Decoded) → RangedRead d → RangedBy (applyDecoded inForce h d)
+unfolding applyDecoded obey setUp begin step
+decoded-ranged h S (Refuses k) r = r
+decoded-ranged (blank row) S (Asks (SetUp z)) r = cond-both RangedBy (inRanges z && leb (z .N) (length row)) _ _ (λ e. tt) (λ e. lit< tt)
+decoded-ranged (blank row) S (Asks (Begin w o)) r = lit< tt
+decoded-ranged (blank row) S (Asks (Step w)) r = lit< tt
+decoded-ranged (up s) S (Asks (SetUp z)) r = lit< tt
+decoded-ranged (up s) S (Asks (Begin w o)) r =
+    let x = terms o in
+    let has = ltb (workerAt s w .announced) Model.absent in
+    cond-both RangedBy (ltb w (s .site .P)) _ _
+    (λ e. cond-both RangedBy (registerBelow (s .site .V') (x .register)) _ _
+    (λ e. cond-both RangedBy (isIdle (workerAt s w .doing)) _ _
+    (λ e. cond-both RangedBy (mayOpen (x .time) has) _ _
+    (λ e. cond-both RangedBy (mayUseTime (x .time) has) _ _ (λ e. tt) (λ e. lit< tt))
+    (λ e. lit< tt))
+    (λ e. lit< tt))
+    (λ e. lit< tt))
+    (λ e. lit< tt)
+decoded-ranged (up s) S (Asks (Step w)) r =
+    cond-both RangedBy (ltb w (s .site .P)) _ _
+    (λ e. let below : w < s .site .P = ltb-true w (s .site .P) e in step-ranged s S w below (workerAt s w .doing) (S .places w below))
+    (λ e. lit< tt)
+
+held-sound : (h : Model.Hub) (m : Memory) → Holds h m → SoundIn h
+held-sound (blank row) m H = tt
+held-sound (up s) m L = sound (L .store)
+
+------------------------------------------------------------------------
+-- An answer of the code
+
+in-range : (y : Code.Answer) → Ranged (answerOf y) → InRange y
+in-range Is.Ok r = tt
+in-range Is.Going r = tt
+in-range (Is.Freed c) r = r
+in-range (Is.At t) r = r
+in-range (Is.Value x) r = tt
+in-range Is.Done r = tt
+in-range (Is.No k) r = r
+
+pub comes-back : (h : Model.Hub) (m : Memory) (b : List ℕ) (y : Code.Answer) → Holds h m → answerOf y ≡ apply inForce h b .answer
+    → answerFrom (kindOf y) (numberOf y) ≡ y
+unfolding apply
+comes-back h m b y H e =
+    faithful y (in-range y (subst Ranged (sym e) (decoded-ranged h (held-sound h m H) (decode b) (read-ranged b))))

@@ -1,0 +1,43 @@
+-- The hub of the model that memory holds, and records that do to memory what they do to that hub.
+use mathlib.Core.Path.{_≡_}
+use mathlib.Core.Bool.{false}
+use mathlib.Core.List.{List, [], _∷_, map}
+use Prim.Native.Nat.{ℕ}
+use Rattle.model.specs.Store.{Hub, blank, up}
+use Rattle.model.specs.Rules.{inForce, Ruled, allUnder}
+use Rattle.model.specs.Apply.{applyRuled, hubAfter}
+use Rattle.model.specs.Demand.{Event, events, Exchange, exchange}
+use Rattle.slots.specs.Slots.{slotOf}
+use Rattle.simulation.specs.Memory.{Memory, writeHub}
+use Rattle.simulation.specs.Left.{Left, Sized, ready}
+
+-- The memory m holds the hub h: records left its store there; or the memory does not count as set up, and its row is the one that is lent.
+abbrev pub Holds : Hub → Memory → Type 0
+Holds (blank row) m = (ready m ≡ false) × (row ≡ map slotOf (m .slots))
+Holds (up s) m = Left s m
+
+-- Memory on which document 01 decides everything. On memory that counts as set up and that no records left it leaves open what a record does
+-- beyond what `OnAny` says (specs/Public.antt); that the functions are proved says that a call ends inside its bounds there too.
+abbrev pub Decided : Memory → Type 0
+Decided m = (h : Hub) × Holds h m
+
+-- the records of what was sent and answered, under the rules in force
+abbrev pub sent : List Exchange → List Ruled
+sent es = allUnder inForce (map (λ e. e .bytes) es)
+
+-- the memory after a list of records that starts with hub h: each writes the hub that it leaves over the memory
+unfoldable pub memoryAfter : Hub → List Ruled → Memory → Memory
+memoryAfter h [] m = m
+memoryAfter h (b ∷ bs) m =
+    let k = applyRuled h b .hub in
+    memoryAfter k bs (writeHub k m)
+
+-- The memory m held the hub h, then es was sent and answered, and the memory m′ was left: all as the model has it.
+pub record AsModel (h : Hub) (m : Memory) (es : List Exchange) (m′ : Memory) : Type 0 where
+  -- the answers are the model's,
+  pub answers : es ≡ map exchange (events h (sent es))
+  -- the memory holds the model's hub,
+  pub holds : Holds (hubAfter h (sent es)) m′
+  -- and what no hub on the way names is as it was
+  pub memory : m′ ≡ memoryAfter h (sent es) m
+  pub sized : Sized m → Sized m′
