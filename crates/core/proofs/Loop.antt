@@ -52,7 +52,8 @@ use Rattle.freeing.specs.Freeing.{freedStep, freedRow, freedFree}
 use Rattle.simulation.specs.Memory.{Memory, memory}
 use Rattle.simulation.specs.Left.{ready}
 use Rattle.simulation.specs.Shell.{Result, withHub, withRow, queueIn, takenIn, handedIn, tookIn, readIn, splitIn, freedIn, offWorker, nextIn, finishIn, stepAtIn, goIn, setUpIn, obeyIn, gateIn, doneAs}
-use Rattle.simulation.specs.Buffer.{recordAt, makes, State, next, after, before, Ran}
+use Rattle.simulation.specs.Records.{recordAt}
+use Rattle.simulation.specs.Loop.{makes, State, next, after, before, Ran}
 use Rattle.core.proofs.Lengths.{length-freed}
 use Rattle.core.proofs.Named.{gate-at}
 use Rattle.core.proofs.Tested.{sizes-few}

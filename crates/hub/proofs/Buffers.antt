@@ -38,7 +38,7 @@ use Rattle.runs.specs.declared.Counted.{Counted}
 use Rattle.runs.proofs.Counted as L
 use Rattle.runs.proofs.Counted.Laws as L′
 use Rattle.hub.proofs.Lends.{Ends, call-on}
-use Rattle.hub.proofs.Passed.{Buffer, BufferLeft, buffer-vals, buffer-list, buffer-own, buffer-end, buffer-ends, AllDone, SameLong}
+use Rattle.hub.proofs.Passed.{Buffer, BufferLeft, buffer-vals, buffer-list, buffer-own, buffer-end, buffer-ends, AllDoes, SameLong}
 use Rattle.hub.proofs.Values.{hub-vals, left-vals}
 use Rattle.hub.proofs.apply_all as apply-all
 use Rattle.hub.proofs.apply_all.Symbol.{name as #hub·apply-all}
@@ -48,7 +48,7 @@ ApplyAll 𝓤 H A mem run = tripleOf 𝓤 H A apply-all.signature (apply-all.spe
 
 -- what is said of the slots before and after
 abbrev pub Through : Hub → List Slot → Buffer → Counted → List Slot → BufferLeft → Type 0
-Through h ys x r zs z = (rest-of 2048 zs ≡ rest-of 2048 ys) × AllDone h (take 2048 ys) x (r .count) (r .hub) (take 2048 zs) z
+Through h ys x r zs z = (rest-of 2048 zs ≡ rest-of 2048 ys) × AllDoes h (take 2048 ys) x (r .count) (r .hub) (take 2048 zs) z
 
 module _ {M : Type 1} (𝓤 : URA M) (H : Heap 𝓤) (A : Atoms 𝓤) (W : Given 𝓤 H A) (mem : Memory → SProp 𝓤) (run : Routine → Fun 𝓤)
     (n b o : ℕ) (ys : List Slot)

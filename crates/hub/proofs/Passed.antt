@@ -25,12 +25,14 @@ use Rattle.slots.specs.declared.Slot.{Slot}
 use Rattle.state.specs.declared.Hub.{Hub}
 use Rattle.simulation.specs.Memory.{Memory, memory}
 use Rattle.simulation.specs.Left.{Sized}
-use Rattle.simulation.specs.Buffer.{Applies}
 use Rattle.simulation.specs.Public.{Does}
-use Rattle.simulation.specs.Demands.{Bytes}
+use Rattle.simulation.specs.Loop.{RanAll}
+use Rattle.simulation.specs.Buffer.{Applies}
+use Rattle.simulation.proofs.Bytes.{Bytes}
+use Rattle.simulation.proofs.Main.{applies}
 use Rattle.simulation.proofs.Cut.{does-whole}
 use Rattle.runs.specs.Runs.{One}
-use Rattle.hub.proofs.Known.{Learns, array-long, bytes-small, no-thing, and-more}
+use Rattle.hub.proofs.Known.{Learns, array-long, bytes-small, untold, no-thing, and-more}
 
 -- ---- the five arrays
 abbrev Newest : RattleType
@@ -95,6 +97,26 @@ found h s a = memory h s (a .0 .now) (a .1 .0 .now) (a .1 .1 .0 .now) (a .1 .1 .
 abbrev leaves : Hub → List Slot → Lists → Memory
 leaves h s z = memory h s (z .0) (z .1 .0) (z .1 .1 .0) (z .1 .1 .1 .0) (z .1 .1 .1 .1 .0)
 
+-- what the arrays tell: each has the length of its type
+abbrev Long : Arrays → Type 0
+Long a =
+    (length (a .0 .now) ≡ 256) × ((length (a .1 .0 .now) ≡ 2048) × ((length (a .1 .1 .0 .now) ≡ 6144) × ((length (a .1 .1 .1 .0 .now) ≡ 2048)
+    × ((length (a .1 .1 .1 .1 .0 .now) ≡ 12288) × Unit {0}))))
+
+arrays-long : {M : Type 1} (𝓤 : URA M) (H : Heap 𝓤) (A : Atoms 𝓤) (W : Given 𝓤 H A) (ks : Lfts 5) (qs : Shares 5) (a : Arrays)
+    → Learns 𝓤 H A (Long a) (toks 𝓤 A 5 ks qs) (owns (array-types ks) a (array-vals a))
+arrays-long 𝓤 H A W ks qs a =
+    and-more 𝓤 H A W (array-long 𝓤 H A W (ks .0) (qs .0) (named 0) u16 256 (a .0))
+    (and-more 𝓤 H A W (array-long 𝓤 H A W (ks .1 .0) (qs .1 .0) (named 0) u16 2048 (a .1 .0))
+    (and-more 𝓤 H A W (array-long 𝓤 H A W (ks .1 .1 .0) (qs .1 .1 .0) (named 0) u32 6144 (a .1 .1 .0))
+    (and-more 𝓤 H A W (array-long 𝓤 H A W (ks .1 .1 .1 .0) (qs .1 .1 .1 .0) (named 0) u32 2048 (a .1 .1 .1 .0))
+    (and-more 𝓤 H A W (array-long 𝓤 H A W (ks .1 .1 .1 .1 .0) (qs .1 .1 .1 .1 .0) (named 0) u32 12288 (a .1 .1 .1 .1 .0))
+    (no-thing 𝓤 H A W)))))
+
+sized : (h : Hub) (s : List Slot) (a : Arrays) → length (h .workers) ≡ 16 → Long a → Sized (found h s a)
+sized h s a w long =
+    record { workers = w; newest = long .0; free = long .1 .0; queue = long .1 .1 .0; lens = long .1 .1 .1 .0; merged = long .1 .1 .1 .1 .0 }
+
 -- ---- a record: its bytes and the arrays
 abbrev pub Single : Type 0
 Single = RefT (List ℕ) × Arrays
@@ -131,38 +153,21 @@ OneDone h s x h′ s′ z y = One (found h s (x .1)) (x .0 .now) (leaves h′ s�
 abbrev pub SingleDoes : Hub → List Slot → Single → Hub → List Slot → SingleLeft → Answer → Type 0
 SingleDoes h s x h′ s′ z y = Does (found h s (x .1)) (x .0 .now) y (leaves h′ s′ (z .1))
 
--- what the lent things tell: the bytes are bytes, and each array has the length of its type
+-- what the lent things tell: the bytes are bytes, and so on
 abbrev pub Known : Single → Type 0
-Known x =
-    Bytes (x .0 .now) × ((length (x .1 .0 .now) ≡ 256) × ((length (x .1 .1 .0 .now) ≡ 2048) × ((length (x .1 .1 .1 .0 .now) ≡ 6144)
-    × ((length (x .1 .1 .1 .1 .0 .now) ≡ 2048) × ((length (x .1 .1 .1 .1 .1 .0 .now) ≡ 12288) × Unit {0})))))
+Known x = Bytes (x .0 .now) × Long (x .1)
 
 pub single-known : {M : Type 1} (𝓤 : URA M) (H : Heap 𝓤) (A : Atoms 𝓤) (W : Given 𝓤 H A) (ks : Lfts 6) (qs : Shares 6) (x : Single)
     → Learns 𝓤 H A (Known x) (toks 𝓤 A 6 ks qs) (single-own ks x)
 single-known 𝓤 H A W ks qs x =
-    and-more 𝓤 H A W (bytes-small 𝓤 H A W (ks .0) (qs .0) (named 0) (x .0))
-    (and-more 𝓤 H A W (array-long 𝓤 H A W (ks .1 .0) (qs .1 .0) (named 0) u16 256 (x .1 .0))
-    (and-more 𝓤 H A W (array-long 𝓤 H A W (ks .1 .1 .0) (qs .1 .1 .0) (named 0) u16 2048 (x .1 .1 .0))
-    (and-more 𝓤 H A W (array-long 𝓤 H A W (ks .1 .1 .1 .0) (qs .1 .1 .1 .0) (named 0) u32 6144 (x .1 .1 .1 .0))
-    (and-more 𝓤 H A W (array-long 𝓤 H A W (ks .1 .1 .1 .1 .0) (qs .1 .1 .1 .1 .0) (named 0) u32 2048 (x .1 .1 .1 .1 .0))
-    (and-more 𝓤 H A W (array-long 𝓤 H A W (ks .1 .1 .1 .1 .1 .0) (qs .1 .1 .1 .1 .1 .0) (named 0) u32 12288 (x .1 .1 .1 .1 .1 .0))
-    (no-thing 𝓤 H A W))))))
+    and-more 𝓤 H A W (bytes-small 𝓤 H A W (ks .0) (qs .0) (named 0) (x .0)) (arrays-long 𝓤 H A W (ks .1) (qs .1) (x .1))
 
 -- with a hub of sixteen workers, and the rest of the row as it was, what one record did on the first 2048 slots is what the contract says
 pub single-does : (h : Hub) (s : List Slot) (x : Single) (h′ : Hub) (s′ : List Slot) (z : SingleLeft) (y : Answer)
     → length (h .workers) ≡ 16 → Known x
     → (rest-of 2048 s′ ≡ rest-of 2048 s) × OneDone h (take 2048 s) x h′ (take 2048 s′) z y → SingleDoes h s x h′ s′ z y
 single-does h s x h′ s′ z y w k e =
-    let long = k .1 in
-    let sized : Sized (found h s (x .1)) = record {
-      workers = w;
-      newest = long .0;
-      free = long .1 .0;
-      queue = long .1 .1 .0;
-      lens = long .1 .1 .1 .0;
-      merged = long .1 .1 .1 .1 .0;
-    } in
-    does-whole (found h s (x .1)) (leaves h′ s′ (z .1)) (x .0 .now) y sized (k .0) (e .1 .answer) (e .1 .memory) (e .0)
+    does-whole (found h s (x .1)) (leaves h′ s′ (z .1)) (x .0 .now) y (sized h s (x .1) w (k .1)) (k .0) (e .1 .answer) (e .1 .memory) (e .0)
 
 -- ---- a buffer: its bytes, the rows of answers and the arrays
 abbrev pub Buffer : Type 0
@@ -198,7 +203,31 @@ buffer-end x z =
 -- what the records of the buffer did, of which there are n; the rows of answers keep their lengths
 abbrev pub AllDone : Hub → List Slot → Buffer → ℕ → Hub → List Slot → BufferLeft → Type 0
 AllDone h s x n h′ s′ z =
+    RanAll (found h s (x .1 .1 .1)) (x .0 .now) (x .1 .0 .now) (x .1 .1 .0 .now) n (leaves h′ s′ (z .1 .1 .1)) (z .1 .0) (z .1 .1 .0)
+
+-- the same as the public contract says it
+abbrev pub AllDoes : Hub → List Slot → Buffer → ℕ → Hub → List Slot → BufferLeft → Type 0
+AllDoes h s x n h′ s′ z =
     Applies (found h s (x .1 .1 .1)) (x .0 .now) (x .1 .0 .now) (x .1 .1 .0 .now) n (leaves h′ s′ (z .1 .1 .1)) (z .1 .0) (z .1 .1 .0)
+
+-- what the lent things tell; nothing of the rows
+abbrev pub KnownAll : Buffer → Type 0
+KnownAll x = Bytes (x .0 .now) × (Unit {0} × (Unit {0} × Long (x .1 .1 .1)))
+
+pub buffer-known : {M : Type 1} (𝓤 : URA M) (H : Heap 𝓤) (A : Atoms 𝓤) (W : Given 𝓤 H A) (ks : Lfts 8) (qs : Shares 8) (x : Buffer)
+    → Learns 𝓤 H A (KnownAll x) (toks 𝓤 A 8 ks qs) (buffer-own ks x)
+buffer-known 𝓤 H A W ks qs x =
+    and-more 𝓤 H A W (bytes-small 𝓤 H A W (ks .0) (qs .0) (named 0) (x .0))
+    (and-more 𝓤 H A W (untold 𝓤 H A W (ks .1 .0) (qs .1 .0) (MutSlice (named 0) (ks .1 .0) u8 .own (x .1 .0) (slice-vals (x .1 .0))))
+    (and-more 𝓤 H A W (untold 𝓤 H A W (ks .1 .1 .0) (qs .1 .1 .0) (MutSlice (named 0) (ks .1 .1 .0) u64 .own (x .1 .1 .0) (slice-vals (x .1 .1 .0))))
+    (arrays-long 𝓤 H A W (ks .1 .1 .1) (qs .1 .1 .1) (x .1 .1 .1))))
+
+-- with a hub of sixteen workers, what the records did is what the contract says
+pub all-does : (h : Hub) (s : List Slot) (x : Buffer) (n : ℕ) (h′ : Hub) (s′ : List Slot) (z : BufferLeft) → length (h .workers) ≡ 16 → KnownAll x
+    → AllDone h s x n h′ s′ z → AllDoes h s x n h′ s′ z
+all-does h s x n h′ s′ z w k =
+    applies (found h s (x .1 .1 .1)) (x .0 .now) (x .1 .0 .now) (x .1 .1 .0 .now) n (leaves h′ s′ (z .1 .1 .1)) (z .1 .0) (z .1 .1 .0)
+    (sized h s (x .1 .1 .1) w (k .1 .1 .1)) (k .0)
 
 abbrev pub SameLong : Buffer → BufferLeft → Type 0
 SameLong x z = (length (z .1 .0) ≡ length (x .1 .0 .now)) × (length (z .1 .1 .0) ≡ length (x .1 .1 .0 .now))

@@ -17,7 +17,7 @@ use Rattle.gate.specs.Gate.{decodedRep, gateOf, whoOf}
 use Rattle.simulation.specs.Memory.{Memory}
 use Rattle.simulation.specs.Left.{ready}
 use Rattle.simulation.specs.Shell.{Result, obeyIn, doneAs, doneOf}
-use Rattle.simulation.specs.Buffer.{after, next, Ran}
+use Rattle.simulation.specs.Loop.{after, next, Ran}
 use Rattle.runs.specs.Runs.{One}
 
 -- the number in n bytes below the sixteenth, and whether they are zero

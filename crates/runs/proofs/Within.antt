@@ -10,7 +10,7 @@ use Rattle.state.specs.declared.Hub.{Hub}
 use Rattle.slots.specs.declared.Slot.{Slot}
 use Rattle.versions.specs.Versions.{slotIn, rowOf}
 use Rattle.simulation.specs.Memory.{memory}
-use Rattle.simulation.specs.Buffer.{Ran}
+use Rattle.simulation.specs.Loop.{Ran}
 
 row-take : (n : ℕ) (row : List (List ℕ)) → rowOf (take n row) ≡ take n (rowOf row)
 row-take zero row = refl

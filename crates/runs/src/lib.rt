@@ -3,7 +3,7 @@ ghost use mathlib.Core.Path.{_≡_};
 ghost use Prim.Native.Nat.{_+_, _/_, _≤_, min};
 ghost use lib.ListN.{length, take};
 ghost use Rattle.versions.specs.Versions.{rowOf};
-ghost use Rattle.simulation.specs.Buffer.{Applies};
+ghost use Rattle.simulation.specs.Loop.{RanAll};
 ghost use Rattle.runs.specs.Runs.{One};
 use state::Hub;
 use values::Answer;
@@ -117,7 +117,7 @@ pub fn run_all(
 ) -> Counted
     requires { ⌜ n ≤ length (now row) ⌝ }
     ensures { λ r. ⌜
-        Applies
+        RanAll
         (record {
           hub = hub;
           slots = take n (rowOf (now (row .entry)));

@@ -190,7 +190,7 @@ module _ (m m′ : Memory) (Z : Sized m) where
       (subst (λ (x : Memory). Holds (blank row) x × Sized x) (sym (is ∙ ap (λ (k : Model.Hub). writeHub k m) e)) (H, Z))
 
   -- whatever hub the memory held
-  holds-written : (h : Model.Hub) (b : List ℕ) → Holds h m → m′ ≡ writeHub (apply inForce h b .hub) m
+  pub holds-written : (h : Model.Hub) (b : List ℕ) → Holds h m → m′ ≡ writeHub (apply inForce h b .hub) m
       → Holds (apply inForce h b .hub) m′ × Sized m′
   holds-written (blank row) b H is =
       ⊎-elim (λ e. unwritten row (apply inForce (blank row) b .hub) H e is) (λ L. written (apply inForce (blank row) b .hub) L is) (blank-next row b)
@@ -201,8 +201,7 @@ module _ (m m′ : Memory) (Z : Sized m) where
       → m′ ≡ writeHub (apply inForce h b .hub) m → answerOf y ≡ apply inForce h b .answer → AsModel h m (exchangeOf b y ∷ []) m′
   unfolding events hubAfter memoryAfter
   as-model h b y L is a =
-      let H = holds-written h b L is in
-      record { answers = λ i. record { bytes = b; answer = a i } ∷ []; holds = H .0; memory = is; sized = λ z. H .1 }
+      record { answers = λ i. record { bytes = b; answer = a i } ∷ []; holds = holds-written h b L is .0; memory = is }
 
 -- what is known of one record
 module _ {h : Model.Hub} {m m′ : Memory} {x : Exchange} (A : AsModel h m (x ∷ []) m′) where

@@ -26,7 +26,7 @@ use Rattle.simulation.specs.Left.{LeftByRecords, Left, Sized, ready}
 use Rattle.simulation.specs.Shell.{Result, goIn, obeyIn, gateIn, doneAs, doneOf}
 use Rattle.simulation.specs.Holds.{Holds}
 use Rattle.simulation.specs.Public.{Does}
-use Rattle.simulation.specs.Demands.{Bytes}
+use Rattle.simulation.proofs.Bytes.{Bytes}
 use Rattle.simulation.proofs.Sound.{Sound, sound, left-next}
 use Rattle.simulation.proofs.Ready.{ready-left}
 use Rattle.simulation.proofs.Simulates.{Simulates, stepIn}

@@ -1,7 +1,7 @@
 -- Records that do what the model does, list after list: what holds of one list and of the next holds of both together, and the hub and the
 -- records decide all of it. From this comes demand 3 of every part of a list that starts behind an accepted setup.
 use mathlib.Core.Path.{_≡_, refl, sym, ap, _∙_, subst}
-use mathlib.Core.Logic.{inl, inr, ⊎-elim}
+use mathlib.Core.Logic.{inl, inr}
 use mathlib.Core.List.{List, [], _∷_, _++_, map, map-append}
 use Prim.Native.Nat.{ℕ}
 use native.Mathlib.Omega.{arith}
@@ -16,7 +16,7 @@ use Rattle.model.proofs.Main.{demand}
 use Rattle.simulation.specs.Memory.{Memory, writeHub}
 use Rattle.simulation.specs.Left.{LeftByRecords}
 use Rattle.simulation.specs.Holds.{Holds, sent, memoryAfter, AsModel}
-use Rattle.simulation.specs.Demands.{bytesOf, CodeDemand3}
+use Rattle.simulation.specs.Demands.{CodeDemand3}
 use Rattle.simulation.proofs.Again.{BlankOrLeft, hub-next}
 
 ------------------------------------------------------------------------
@@ -39,6 +39,9 @@ unfolding hubAfter memoryAfter
 memory-append h [] n m = refl
 memory-append h (b ∷ l) n m = memory-append (applyRuled h b .hub) l n (writeHub (applyRuled h b .hub) m)
 
+abbrev bytesOf : List Exchange → List (List ℕ)
+bytesOf es = map (λ e. e .bytes) es
+
 sent-append : (es fs : List Exchange) → sent (es ++ fs) ≡ sent es ++ sent fs
 sent-append es fs = ap (allUnder inForce) (map-append (λ (e : Exchange). e .bytes) es fs) ∙ map-append (under inForce) (bytesOf es) (bytesOf fs)
 
@@ -47,7 +50,7 @@ sent-append es fs = ap (allUnder inForce) (map-append (λ (e : Exchange). e .byt
 
 pub nothing-sent : (h : Hub) (m : Memory) → Holds h m → AsModel h m [] m
 unfolding events hubAfter memoryAfter
-nothing-sent h m H = record { answers = refl; holds = H; memory = refl; sized = λ z. z }
+nothing-sent h m H = record { answers = refl; holds = H; memory = refl }
 
 pub both-sent : (h : Hub) (m m₁ m₂ : Memory) (es fs : List Exchange) → AsModel h m es m₁ → AsModel (hubAfter h (sent es)) m₁ fs m₂
     → AsModel h m (es ++ fs) m₂
@@ -64,17 +67,15 @@ both-sent h m m₁ m₂ es fs A B =
           B .memory
           ∙ ap (memoryAfter k (sent fs)) (A .memory)
           ∙ sym (ap (λ (l : List Ruled). memoryAfter h l m) together ∙ memory-append h (sent es) (sent fs) m);
-      sized = λ z. B .sized (A .sized z);
     }
 
 -- the hub, the memory and the records decide what is answered and left
-pub same-sent : (h : Hub) (m m₁ m₂ : Memory) (es fs : List Exchange) → AsModel h m es m₁ → AsModel h m fs m₂ → bytesOf es ≡ bytesOf fs
+pub same-sent : (h : Hub) (m m₁ m₂ : Memory) (es fs : List Exchange) → AsModel h m es m₁ → AsModel h m fs m₂ → sent es ≡ sent fs
     → (es ≡ fs) × (m₁ ≡ m₂)
-same-sent h m m₁ m₂ es fs A B e =
-    let same : sent es ≡ sent fs = ap (allUnder inForce) e in (
-      A .answers ∙ ap (λ (l : List Ruled). map exchange (events h l)) same ∙ sym (B .answers),
-      A .memory ∙ ap (λ (l : List Ruled). memoryAfter h l m) same ∙ sym (B .memory),
-    )
+same-sent h m m₁ m₂ es fs A B same = (
+  A .answers ∙ ap (λ (l : List Ruled). map exchange (events h l)) same ∙ sym (B .answers),
+  A .memory ∙ ap (λ (l : List Ruled). memoryAfter h l m) same ∙ sym (B .memory),
+)
 
 ------------------------------------------------------------------------
 -- Behind an accepted setup

@@ -30,7 +30,7 @@ use Rattle.simulation.specs.Left.{LeftByRecords, Left, Sized, ready}
 use Rattle.simulation.specs.Shell.{doneOf}
 use Rattle.simulation.specs.Holds.{Holds, AsModel}
 use Rattle.simulation.specs.Public.{takesStepIn, idledIn, EndsBy, OnAny, exchangeOf, Does}
-use Rattle.simulation.specs.Demands.{Bytes}
+use Rattle.simulation.proofs.Bytes.{Bytes}
 use Rattle.simulation.proofs.Laws.{over-take, over-drop, both-parts, map-take}
 use Rattle.simulation.proofs.Sound.{sound, left-next}
 use Rattle.simulation.proofs.Laid.{memory-path}
@@ -210,6 +210,13 @@ module _ (m m′ : Memory) (rest : drop 2048 (m′ .slots) ≡ drop 2048 (m .slo
 
   -- what the model makes of the record, with the first 2048 slots and with the whole row
   module _ (b : List ℕ) (y : Answer) (D : Does (cut m) b y (cut m′)) (Z : Sized m) where
+    blank-as-model-cut : ready m ≡ false → AsModel (blank (map slotOf (m .slots))) m (exchangeOf b y ∷ []) m′
+    blank-as-model-cut e =
+        let h : Model.Hub = blank (row (cut m) (m .slots)) in
+        let A = D .asModel (blank (row′ (cut m) (m .slots))) (ready-cut m ∙ e, refl) in
+        let L = apply-cut (cut m) (m .slots) b in
+        as-model m m′ Z h b y (e, refl) (written (apply inForce h b .hub) (L .few) (one-memory A ∙ L .memory)) (one-answer A ∙ L .answer)
+
     as-model-cut : (h : Model.Hub) → Holds h m → AsModel h m (exchangeOf b y ∷ []) m′
     as-model-cut (up s) L =
         let A = D .asModel (up s) (left-cut m L) in
@@ -217,14 +224,11 @@ module _ (m m′ : Memory) (rest : drop 2048 (m′ .slots) ≡ drop 2048 (m .slo
         let f : FewIn (apply inForce (up s) b .hub) = subst FewIn (sym (N .1)) (left-few (N .2)) in
         as-model m m′ Z (up s) b y L (written (apply inForce (up s) b .hub) f (one-memory A)) (one-answer A)
     as-model-cut (blank l) H =
-        let A = D .asModel (blank (row′ (cut m) (m .slots))) (ready-cut m ∙ H .0, refl) in
-        let L = apply-cut (cut m) (m .slots) b in
-        let a : Applied = apply inForce (blank (row (cut m) (m .slots))) b in
-        subst (λ (q : List Model.Slot). Holds (blank q) m → AsModel (blank q) m (exchangeOf b y ∷ []) m′) (sym (H .1))
-        (λ K. as-model m m′ Z (blank (row (cut m) (m .slots))) b y K (written (a .hub) (L .few) (one-memory A ∙ L .memory)) (one-answer A ∙ L .answer)) H
+        subst (λ (q : List Model.Slot). AsModel (blank q) m (exchangeOf b y ∷ []) m′) (sym (H .1)) (blank-as-model-cut (H .0))
 
 -- the contract with the first 2048 slots is the contract with the whole row, where the rest of the row is as it was
-does-cut : (m m′ : Memory) (b : List ℕ) (y : Answer) → Sized m → Does (cut m) b y (cut m′) → drop 2048 (m′ .slots) ≡ drop 2048 (m .slots) → Does m b y m′
+does-cut : (m m′ : Memory) (b : List ℕ) (y : Answer) → Sized m → Does (cut m) b y (cut m′) → drop 2048 (m′ .slots) ≡ drop 2048 (m .slots)
+    → Does m b y m′
 does-cut m m′ b y Z D rest =
     record {
       asModel = as-model-cut m m′ rest b y D Z;

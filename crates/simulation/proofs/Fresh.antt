@@ -29,12 +29,12 @@ use Rattle.simulation.proofs.Laid.{hub-path}
 ------------------------------------------------------------------------
 -- Numbers in order
 
-up-length : (a n : ℕ) → length (upFrom a n) ≡ n
+pub up-length : (a n : ℕ) → length (upFrom a n) ≡ n
 unfolding upFrom
 up-length a zero = refl
 up-length a (suc n) = ap suc (up-length (a + 1) n)
 
-up-last : (a n : ℕ) → upFrom a (suc n) ≡ upFrom a n ++ ((a + n) ∷ [])
+pub up-last : (a n : ℕ) → upFrom a (suc n) ≡ upFrom a n ++ ((a + n) ∷ [])
 unfolding upFrom
 up-last a zero = ap (λ (k : ℕ). k ∷ []) (let e : a ≡ a + 0 = omega arith in e)
 up-last a (suc n) =

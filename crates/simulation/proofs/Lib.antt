@@ -1,3 +1,4 @@
+pub mod Bytes
 pub mod Each
 pub mod Chains
 pub mod Laws
@@ -28,6 +29,7 @@ pub mod Gates
 pub mod Refuse
 pub mod Begin
 pub mod Fresh
+pub mod Below
 pub mod Setup
 pub mod Scans
 pub mod Ready
@@ -37,6 +39,8 @@ pub mod Assembly
 pub mod Compose
 pub mod OneByOne
 pub mod Ranged
+pub mod Applied
+pub mod Parts
 pub mod Demands
 pub mod Main
 pub mod Cut

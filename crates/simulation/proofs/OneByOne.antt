@@ -3,30 +3,24 @@
 -- and records left it. So each record does what the contract of one record says, and all of them together what the model does.
 use mathlib.Core.Path.{_≡_, refl, sym, ap, _∙_, subst}
 use mathlib.Core.Bool.{Bool, true, false, _||_}
-use mathlib.Core.Logic.{⊎-elim}
 use mathlib.Core.List.{List, [], _∷_, _++_, map, map-append}
-use Prim.Native.Nat.{ℕ, zero, suc, _+_, _*_, _≤_, _<_}
-use native.Mathlib.Omega.{arith}
-use native.Mathlib.Nat.{not-suc-le-zero, le-of-suc-le-suc}
-use lib.Seq.{getD-set-same, getD-set-other, getD-take, getD-drop}
-use lib.ListN.{length, getD, take, drop, set, length-set}
+use Prim.Native.Nat.{ℕ, zero, suc}
+use lib.ListN.{length}
 use Rattle.model.specs.Store as Model
-use Rattle.model.specs.Store.{Store, blank, up, upFrom}
+use Rattle.model.specs.Store.{blank, up, upFrom}
 use Rattle.model.specs.Rules.{inForce}
 use Rattle.model.specs.Answer.{Ok}
 use Rattle.model.specs.Record as Record
 use Rattle.model.specs.Record.{SetUp, Asks}
 use Rattle.model.specs.Apply.{apply, hubAfter}
 use Rattle.model.specs.Demand.{Exchange}
-use Rattle.model.proofs.Basic.{eq-cases, lt-cases, cond-both}
+use Rattle.model.proofs.Basic.{cond-both}
 use Rattle.values.specs.Meaning.{answerOf}
 use Rattle.values.specs.declared.Answer.{Answer}
-use Rattle.answers.specs.Numbers.{kindOf, numberOf}
 use Rattle.worker.specs.declared.Announced.{Announced}
 use Rattle.worker.specs.declared.Doing.{Doing}
 use Rattle.worker.specs.declared.Worker.{Worker}
 use Rattle.state.specs.State.{workerIn}
-use Rattle.arrays.specs.Arrays.{fillTo}
 use Rattle.gate.specs.declared.Gate.{Gate}
 use Rattle.gate.specs.declared.Gate.the-variants.{Refuse, Make}
 use Rattle.gate.specs.Gate.{decodedRep, decodedIn, sizesOk, gateOf, whoOf}
@@ -35,110 +29,25 @@ use Rattle.simulation.specs.Left.{Sized, ready}
 use Rattle.simulation.specs.Shell.{obeyIn, gateIn, doneAs, doneOf}
 use Rattle.simulation.specs.Holds.{Holds, sent, AsModel}
 use Rattle.simulation.specs.Public.{exchangeOf, Does}
-use Rattle.simulation.specs.Buffer.{recordAt, makes, State, next, after, before, countOf, Applies}
-use Rattle.simulation.specs.Demands.{Bytes, stateAt, answerTo, Rows}
-use Rattle.simulation.proofs.Again.{LeftHub, setup-left, one-answer, one-holds}
+use Rattle.simulation.specs.Records.{recordAt}
+use Rattle.simulation.specs.Loop.{makes, State, next, after, before}
+use Rattle.simulation.proofs.Bytes.{Bytes, record-bytes}
+use Rattle.simulation.proofs.Below.{map-last}
+use Rattle.simulation.proofs.Again.{LeftHub, setup-left, holds-written, one-answer, one-memory, one-holds}
 use Rattle.simulation.proofs.Sound.{left-next}
 use Rattle.simulation.proofs.Assembly.{StepsSimulate, left-ready, does}
 use Rattle.simulation.proofs.Compose.{nothing-sent, both-sent}
 
-------------------------------------------------------------------------
--- The bytes of a record
+-- before record k of the bytes, of which the first met the memory m: with no rows for the answers, which make no difference
+abbrev pub stateAt : Memory → List ℕ → ℕ → State
+stateAt m bytes k = after (before m [] []) bytes k
 
-take-past : (n : ℕ) (l : List ℕ) (i : ℕ) → n ≤ i → getD (take n l) i 0 ≡ 0
-take-past zero l i h = refl
-take-past (suc n) [] i h = refl
-take-past (suc n) (x ∷ l) zero h = absurd (not-suc-le-zero h)
-take-past (suc n) (x ∷ l) (suc i) h = take-past n l i (le-of-suc-le-suc h)
-
-record-bytes : (bytes : List ℕ) (k : ℕ) → Bytes bytes → Bytes (recordAt bytes k)
-record-bytes bytes k B i =
-    ⊎-elim
-    (λ u. subst (λ (x : ℕ). x < 256) (sym (getD-take 16 (drop (16 * k) bytes) i 0 (u .0) ∙ getD-drop (16 * k) bytes i 0)) (B (16 * k + i)))
-    (λ u. subst (λ (x : ℕ). x < 256) (sym (take-past 16 (drop (16 * k) bytes) i (u .0))) (omega arith))
-    (lt-cases i 16)
+-- the answer to record k
+abbrev pub answerTo : Memory → List ℕ → ℕ → Answer
+answerTo m bytes k = stateAt m bytes (suc k) .last
 
 ------------------------------------------------------------------------
--- A row whose entries are set one after the other
-
-module _ (l : List ℕ) (f : ℕ → ℕ) where
-  fill-length : (n : ℕ) → length (fillTo l f n) ≡ length l
-  unfolding fillTo
-  fill-length zero = refl
-  fill-length (suc n) = length-set (fillTo l f n) n (f n) ∙ fill-length n
-
-  fill-at : (n k : ℕ) → k < n → k < length l → getD (fillTo l f n) k 0 ≡ f k
-  unfolding fillTo
-  fill-at zero k h i = absurd (not-suc-le-zero h)
-  fill-at (suc n) k h i =
-      ⊎-elim
-      (λ u. ap (λ (j : ℕ). getD (set (fillTo l f n) n (f n)) j 0) (u .0)
-      ∙ getD-set-same (fillTo l f n) n (f n) 0 (omega (arith, fill-length n, u .0))
-      ∙ ap f (sym (u .0)))
-      (λ u. getD-set-other (fillTo l f n) n k (f n) 0 (u .0) ∙ fill-at n k (omega (arith, u .0)) i)
-      (eq-cases k n)
-
-  fill-other : (n k : ℕ) → n ≤ k → getD (fillTo l f n) k 0 ≡ getD l k 0
-  unfolding fillTo
-  fill-other zero k h = refl
-  fill-other (suc n) k h =
-      getD-set-other (fillTo l f n) n k (f n) 0 (λ e. absurd (omega (arith, e))) ∙ fill-other n k (omega arith)
-
-------------------------------------------------------------------------
--- The two rows of answers, on any memory
-
-module _ (m : Memory) (bytes kinds numbers : List ℕ) where
-  abbrev ran : ℕ → State
-  ran k = after (before m kinds numbers) bytes k
-
-  -- what stands in the rows makes no difference to the records
-  rows-apart : (k : ℕ) → (ran k .up ≡ stateAt m bytes k .up) × (ran k .memory ≡ stateAt m bytes k .memory)
-  unfolding after next
-  rows-apart zero = (refl, refl)
-  rows-apart (suc k) =
-      let s = rows-apart k in
-      let b = recordAt bytes k in
-      (λ i. s .0 i || makes (gateIn (s .0 i) (s .1 i) b), λ i. doneAs (s .0 i) (s .1 i) b .memory)
-
-  answers-apart : (k : ℕ) → ran (suc k) .last ≡ answerTo m bytes k
-  unfolding after next
-  answers-apart k =
-      let s = rows-apart k in
-      λ i. doneAs (s .0 i) (s .1 i) (recordAt bytes k) .answer
-
-  kinds-filled : (n : ℕ) → ran n .kinds ≡ fillTo kinds (λ k. kindOf (ran (suc k) .last)) n
-  unfolding after next fillTo
-  kinds-filled zero = refl
-  kinds-filled (suc n) = ap (λ (l : List ℕ). set l n (kindOf (ran (suc n) .last))) (kinds-filled n)
-
-  numbers-filled : (n : ℕ) → ran n .numbers ≡ fillTo numbers (λ k. numberOf (ran (suc k) .last)) n
-  unfolding after next fillTo
-  numbers-filled zero = refl
-  numbers-filled (suc n) = ap (λ (l : List ℕ). set l n (numberOf (ran (suc n) .last))) (numbers-filled n)
-
-  -- what the call for a buffer leaves
-  pub left-in : (n : ℕ) (m′ : Memory) (kinds′ numbers′ : List ℕ) → Applies m bytes kinds numbers n m′ kinds′ numbers′
-      → (m′ ≡ stateAt m bytes n .memory) × Rows m bytes kinds numbers n kinds′ numbers′
-  left-in n m′ kinds′ numbers′ A =
-      let K : kinds′ ≡ fillTo kinds (λ k. kindOf (ran (suc k) .last)) n = A .ran .answerKinds ∙ kinds-filled n in
-      let N : numbers′ ≡ fillTo numbers (λ k. numberOf (ran (suc k) .last)) n = A .ran .answerNumbers ∙ numbers-filled n in (
-        A .ran .memory ∙ rows-apart n .1,
-        record {
-          answerKinds = λ k h.
-              ap (λ (l : List ℕ). getD l k 0) K
-              ∙ fill-at kinds (λ j. kindOf (ran (suc j) .last)) n k h (omega (arith, A .count))
-              ∙ ap kindOf (answers-apart k);
-          answerNumbers = λ k h.
-              ap (λ (l : List ℕ). getD l k 0) N
-              ∙ fill-at numbers (λ j. numberOf (ran (suc j) .last)) n k h (omega (arith, A .count))
-              ∙ ap numberOf (answers-apart k);
-          otherKinds = λ k h. ap (λ (l : List ℕ). getD l k 0) K ∙ fill-other kinds (λ j. kindOf (ran (suc j) .last)) n k h;
-          otherNumbers = λ k h. ap (λ (l : List ℕ). getD l k 0) N ∙ fill-other numbers (λ j. numberOf (ran (suc j) .last)) n k h;
-        },
-      )
-
-------------------------------------------------------------------------
--- The flag
+-- The flag after one record
 
 -- where the memory does not count as set up, nothing begins and no step is taken
 blank-gate : (P : Gate → Type 0) → ((k : ℕ) → P (Refuse k)) → ((p v n k : ℕ) → P (Make p v n k))
@@ -164,7 +73,8 @@ module _ (steps : StepsSimulate) (m : Memory) (b : List ℕ) (Z : Sized m) (B : 
 
   -- the next hub is set up
   now-ready : (h : Model.Hub) → Holds h m → LeftHub (apply inForce h b .hub) → ready (doneOf m b .memory) ≡ true
-  now-ready h H L = held-ready (apply inForce h b .hub) (doneOf m b .memory) (one-holds (did h H)) (did h H .sized Z) L
+  now-ready h H L = held-ready (apply inForce h b .hub) (doneOf m b .memory) (one-holds (did h H))
+      (holds-written m (doneOf m b .memory) Z h b H (one-memory (did h H)) .1) L
 
   module _ (row : List Model.Slot) (H : Holds (blank row) m) where
     -- a refusal changes nothing
@@ -191,61 +101,60 @@ module _ (steps : StepsSimulate) (m : Memory) (b : List ℕ) (Z : Sized m) (B : 
 ------------------------------------------------------------------------
 -- The records of a buffer on memory that holds a hub
 
-up-more : (a n c : ℕ) → c ≡ a + n → upFrom a (suc n) ≡ upFrom a n ++ (c ∷ [])
-unfolding upFrom
-up-more a zero c e = ap (λ (x : ℕ). x ∷ []) (omega (arith, e))
-up-more a (suc n) c e = ap (λ (l : List ℕ). a ∷ l) (up-more (a + 1) n c (omega (arith, e)))
-
 module _ (steps : StepsSimulate) (m : Memory) (bytes : List ℕ) (h : Model.Hub) (H : Holds h m) (Z : Sized m) (B : Bytes bytes) where
   -- record k and its answer
   abbrev pub given : ℕ → Exchange
   given k = exchangeOf (recordAt bytes k) (answerTo m bytes k)
-
-  given-more : (n : ℕ) → map given (upFrom 0 (suc n)) ≡ map given (upFrom 0 n) ++ (given n ∷ [])
-  given-more n = ap (map given) (up-more 0 n n (omega arith)) ∙ map-append given (upFrom 0 n) (n ∷ [])
 
   -- the model's hub before record k
   abbrev pub hubTo : ℕ → Model.Hub
   hubTo k = hubAfter h (sent (map given (upFrom 0 k)))
 
   -- so far all is as the model has it, and the flag says whether the memory counts as set up
-  record SoFar (k : ℕ) : Type 0 where
-    asModel : AsModel h m (map given (upFrom 0 k)) (stateAt m bytes k .memory)
-    flag : stateAt m bytes k .up ≡ ready (stateAt m bytes k .memory)
+  pub record SoFar (k : ℕ) : Type 0 where
+    pub asModel : AsModel h m (map given (upFrom 0 k)) (stateAt m bytes k .memory)
+    pub sized : Sized (stateAt m bytes k .memory)
+    pub flag : stateAt m bytes k .up ≡ ready (stateAt m bytes k .memory)
 
-  does-next : (k : ℕ) → SoFar k → Does (stateAt m bytes k .memory) (recordAt bytes k) (answerTo m bytes k) (stateAt m bytes (suc k) .memory)
-  unfolding after next doneOf
-  does-next k S =
-      let x : Memory = stateAt m bytes k .memory in
-      let b : List ℕ = recordAt bytes k in
-      subst (λ (u : Bool). Does x b (doneAs u x b .answer) (doneAs u x b .memory)) (sym (S .flag))
-      (does steps x b (S .asModel .sized Z) (record-bytes bytes k B))
+  module _ (k : ℕ) (S : SoFar k) where
+    abbrev x : Memory
+    x = stateAt m bytes k .memory
 
-  flag-next : (k : ℕ) → SoFar k → stateAt m bytes (suc k) .up ≡ ready (stateAt m bytes (suc k) .memory)
-  unfolding after next doneOf
-  flag-next k S =
-      let x : Memory = stateAt m bytes k .memory in
-      let b : List ℕ = recordAt bytes k in
-      (λ i. S .flag i || makes (gateIn (S .flag i) x b))
-      ∙ sym (flagged steps x b (S .asModel .sized Z) (record-bytes bytes k B) (hubTo k) (S .asModel .holds))
-      ∙ sym (λ i. ready (doneAs (S .flag i) x b .memory))
+    abbrev b : List ℕ
+    b = recordAt bytes k
 
-  so-far : (k : ℕ) → SoFar k
+    does-next : Does x b (answerTo m bytes k) (stateAt m bytes (suc k) .memory)
+    unfolding after next doneOf
+    does-next =
+        subst (λ (u : Bool). Does x b (doneAs u x b .answer) (doneAs u x b .memory)) (sym (S .flag))
+        (does steps x b (S .sized) (record-bytes bytes k B))
+
+    next-as-model : AsModel (hubTo k) x (given k ∷ []) (stateAt m bytes (suc k) .memory)
+    next-as-model = does-next .asModel (hubTo k) (S .asModel .holds)
+
+    flag-next : stateAt m bytes (suc k) .up ≡ ready (stateAt m bytes (suc k) .memory)
+    unfolding after next doneOf
+    flag-next =
+        (λ i. S .flag i || makes (gateIn (S .flag i) x b))
+        ∙ sym (flagged steps x b (S .sized) (record-bytes bytes k B) (hubTo k) (S .asModel .holds))
+        ∙ sym (λ i. ready (doneAs (S .flag i) x b .memory))
+
+    one-more : SoFar (suc k)
+    one-more =
+        let x′ : Memory = stateAt m bytes (suc k) .memory in
+        record {
+          asModel =
+              subst (λ (l : List Exchange). AsModel h m l x′) (sym (map-last given k))
+              (both-sent h m x x′ (map given (upFrom 0 k)) (given k ∷ []) (S .asModel) next-as-model);
+          sized = holds-written x x′ (S .sized) (hubTo k) b (S .asModel .holds) (one-memory next-as-model) .1;
+          flag = flag-next;
+        }
+
+  pub so-far : (k : ℕ) → SoFar k
   unfolding after upFrom
-  so-far zero = record { asModel = nothing-sent h m H; flag = refl }
-  so-far (suc k) =
-      let S = so-far k in
-      let x : Memory = stateAt m bytes k .memory in
-      let x′ : Memory = stateAt m bytes (suc k) .memory in
-      record {
-        asModel =
-            subst (λ (l : List Exchange). AsModel h m l x′) (sym (given-more k))
-            (both-sent h m x x′ (map given (upFrom 0 k)) (given k ∷ []) (S .asModel) (does-next k S .asModel (hubTo k) (S .asModel .holds)));
-        flag = flag-next k S;
-      }
+  so-far zero = record { asModel = nothing-sent h m H; sized = Z; flag = refl }
+  so-far (suc k) = one-more k (so-far k)
 
+  -- each record does what the contract of one record says
   pub does-each : (k : ℕ) → Does (stateAt m bytes k .memory) (recordAt bytes k) (answerTo m bytes k) (stateAt m bytes (suc k) .memory)
   does-each k = does-next k (so-far k)
-
-  pub as-model-to : (k : ℕ) → AsModel h m (map given (upFrom 0 k)) (stateAt m bytes k .memory)
-  as-model-to k = so-far k .asModel

@@ -12,7 +12,8 @@ use Rattle.model.specs.Store.{Store, Range, blank, up, lastClock, workerAt, slo
 use Rattle.model.specs.Rules.{inForce}
 use Rattle.model.specs.Answer.{Answer, Ok, Going, Freed, At, Value, Done, No, Stepped, Applied}
 use Rattle.model.specs.Record.{SetUp, Begin, Step, Decoded, Asks, Refuses, commandOf, unusedZero, decode}
-use Rattle.model.specs.Steps.{answerFor, putPublish, putStamp, putHandIn, flushTake, flushSplit, flushRead, flushFree, openAnnounce, openPass, readEnter, readStand, getShow, closeWithdraw, timeStep, stepAt}
+use Rattle.model.specs.Steps.{putPublish, putStamp, putHandIn, flushTake, flushSplit, flushRead, flushFree}
+use Rattle.model.specs.Steps.{openAnnounce, openPass, answerFor, readEnter, readStand, getShow, closeWithdraw, timeStep, stepAt}
 use Rattle.model.specs.Apply.{inRanges, setUp, terms, registerBelow, isIdle, mayOpen, mayUseTime, begin, step, obey, applyDecoded, apply}
 use Rattle.model.proofs.Basic.{cond-both}
 use Rattle.values.specs.Meaning.{answerOf}

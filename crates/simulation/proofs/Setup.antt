@@ -25,7 +25,7 @@ use Rattle.gate.specs.Gate.{decodedRep, sizesOk, gateOf, whoOf}
 use Rattle.simulation.specs.Memory.{Memory}
 use Rattle.simulation.specs.Left.{Sized}
 use Rattle.simulation.specs.Shell.{setUpIn, obeyIn}
-use Rattle.simulation.specs.Demands.{Bytes}
+use Rattle.simulation.proofs.Bytes.{Bytes}
 use Rattle.simulation.proofs.Laid.{memory-path}
 use Rattle.simulation.proofs.Gates.{gateBy, both}
 use Rattle.simulation.proofs.Refuse.{Follows, refused}

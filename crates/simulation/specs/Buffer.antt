@@ -1,76 +1,57 @@
--- What the records of a buffer do, one after the other, and what the call for the whole buffer answers and leaves.
+-- The contract of the public functions that apply the records of a buffer.
 use mathlib.Core.Path.{_≡_}
-use mathlib.Core.Bool.{Bool, true, false, _||_}
-use mathlib.Core.List.{List}
-use Prim.Native.Nat.{ℕ, zero, suc, _+_, _*_, _/_, min}
-use lib.ListN.{length, take, drop, set}
+use mathlib.Core.Bool.{Bool, false, _||_}
+use mathlib.Core.List.{List, [], _∷_, map}
+use Prim.Native.Nat.{ℕ}
+use lib.ListN.{getD}
+use Rattle.lists.specs.Over.{over}
+use Rattle.model.specs.Store.{Hub, upFrom}
+use Rattle.model.specs.Record.{SetUp, Begin, Step, Decoded, Asks, Refuses, decode}
+use Rattle.model.specs.Answer.{said}
+use Rattle.model.specs.Demand.{Exchange}
+use Rattle.values.specs.Meaning.{answerOf}
 use Rattle.values.specs.declared.Answer.{Answer}
-use Rattle.values.specs.declared.Answer.the-variants.{Ok}
-use Rattle.answers.specs.Numbers.{kindOf, numberOf}
-use Rattle.gate.specs.declared.Gate.{Gate}
-use Rattle.gate.specs.declared.Gate.the-variants.{Refuse, Make, Start, Go}
+use Rattle.answers.specs.Numbers.{kindOf, numberOf, answerFrom}
 use Rattle.simulation.specs.Memory.{Memory}
 use Rattle.simulation.specs.Left.{ready}
-use Rattle.simulation.specs.Shell.{gateIn, doneAs}
+use Rattle.simulation.specs.Holds.{Holds, Decided, AsModel}
+use Rattle.simulation.specs.Public.{OnAny, exchangeOf}
+use Rattle.simulation.specs.Records.{recordAt, countOf}
+use Rattle.simulation.specs.Loop.{RanAll}
 
--- "The program takes the file sixteen bytes at a time": record k, or as much of it as is left
-abbrev pub recordAt : List ℕ → ℕ → List ℕ
-recordAt bytes k = take 16 (drop (16 * k) bytes)
+-- the answer that the two numbers at k stand for
+abbrev pub answerAt : List ℕ → List ℕ → ℕ → Answer
+answerAt kinds numbers k = answerFrom (getD kinds k 0) (getD numbers k 0)
 
--- "A rest of 1 to 15 bytes at the end of the file is one more record"
-abbrev pub recordsIn : List ℕ → ℕ
-recordsIn bytes = (length bytes + 15) / 16
+-- record k of the bytes, and its answer
+abbrev pub exchangeAt : List ℕ → List ℕ → List ℕ → ℕ → Exchange
+exchangeAt bytes kinds numbers k = exchangeOf (recordAt bytes k) (answerAt kinds numbers k)
 
--- a setup was accepted
-abbrev pub makes : Gate → Bool
-makes (Refuse k) = false
-makes (Make p v n k) = true
-makes (Start w d) = false
-makes (Go w) = false
+-- A record that reads as d sets the hub up: it is a setup, and `ok` says that it was answered so.
+unfoldable pub setsUp : Decoded → Bool → Bool
+setsUp (Asks (SetUp z)) ok = ok
+setsUp (Asks (Begin w o)) ok = false
+setsUp (Asks (Step w)) ok = false
+setsUp (Refuses k) ok = false
 
--- whether the memory counts as set up, the memory, the answers so far as two rows of numbers, the kind of answer k and its number, and the
--- last of them, `Ok` before the first
-pub record State : Type 0 where
-  pub up : Bool
-  pub memory : Memory
-  pub kinds : List ℕ
-  pub numbers : List ℕ
-  pub last : Answer
+-- Records one after the other on any memory, and their answers. Memory is tested before the first: `up` says whether it counted as set up then
+-- or a setup was accepted since.
+unfoldable pub EachOnAny : Bool → Memory → List (List ℕ) → List Answer → Memory → Type 0
+EachOnAny up m [] [] m′ = m′ ≡ m
+EachOnAny up m [] (y ∷ ys) m′ = ⊥
+EachOnAny up m (b ∷ bs) [] m′ = ⊥
+EachOnAny up m (b ∷ bs) (y ∷ ys) m′ =
+    (x : Memory) × OnAny up m b y x × EachOnAny (up || setsUp (decode b) (said (answerOf y) .ok)) x bs ys m′
 
--- record k has the bytes b
-unfoldable pub next : State → ℕ → List ℕ → State
-next s k b =
-    record {
-      up = s .up || makes (gateIn (s .up) (s .memory) b);
-      memory = doneAs (s .up) (s .memory) b .memory;
-      kinds = set (s .kinds) k (kindOf (doneAs (s .up) (s .memory) b .answer));
-      numbers = set (s .numbers) k (numberOf (doneAs (s .up) (s .memory) b .answer));
-      last = doneAs (s .up) (s .memory) b .answer;
-    }
-
--- after the first k records of the bytes
-unfoldable pub after : State → List ℕ → ℕ → State
-after s bytes zero = s
-after s bytes (suc k) = next (after s bytes k) k (recordAt bytes k)
-
--- before the first record: memory is tested once
-abbrev pub before : Memory → List ℕ → List ℕ → State
-before m kinds numbers = record { up = ready m; memory = m; kinds = kinds; numbers = numbers; last = Ok }
-
--- The first n records of the bytes met the memory m; the memory m′ was left, and the answers were written over the two rows, y the
--- last of them.
-pub record Ran (m : Memory) (bytes kinds numbers : List ℕ) (n : ℕ) (m′ : Memory) (kinds′ numbers′ : List ℕ) (y : Answer) : Type 0 where
-  pub memory : m′ ≡ after (before m kinds numbers) bytes n .memory
-  pub answerKinds : kinds′ ≡ after (before m kinds numbers) bytes n .kinds
-  pub answerNumbers : numbers′ ≡ after (before m kinds numbers) bytes n .numbers
-  pub last : y ≡ after (before m kinds numbers) bytes n .last
-
--- as many records as the bytes have and as there is room for answers
-abbrev pub countOf : List ℕ → List ℕ → List ℕ → ℕ
-countOf bytes kinds numbers = min (recordsIn bytes) (min (length kinds) (length numbers))
-
--- The contract of the call for a buffer: as many records as there are and as there is room for.
+-- The first n records of the bytes, any bytes, met the memory m; the answers were written over the two rows, and the memory m′ was left.
 pub record Applies (m : Memory) (bytes kinds numbers : List ℕ) (n : ℕ) (m′ : Memory) (kinds′ numbers′ : List ℕ) : Type 0 where
   pub count : n ≡ countOf bytes kinds numbers
-  pub last : Answer
-  pub ran : Ran m bytes kinds numbers n m′ kinds′ numbers′ last
+  pub answers : List Answer
+  pub answerKinds : kinds′ ≡ over (map kindOf answers) kinds
+  pub answerNumbers : numbers′ ≡ over (map numberOf answers) numbers
+  -- Memory that holds a hub of the model: what the model does is done, and the numbers of an answer stand for it. This is demand 2.
+  pub asModel : (h : Hub) → Holds h m → AsModel h m (map (exchangeAt bytes kinds′ numbers′) (upFrom 0 n)) m′
+  pub readBack : Decided m → map (answerAt kinds′ numbers′) (upFrom 0 n) ≡ answers
+  -- Any memory: demand 1, and what the loop does.
+  pub onAny : EachOnAny (ready m) m (map (recordAt bytes) (upFrom 0 n)) answers m′
+  pub ran : RanAll m bytes kinds numbers n m′ kinds′ numbers′

@@ -9,7 +9,7 @@ use Rattle.model.specs.Apply.{applyRuled, hubAfter}
 use Rattle.model.specs.Demand.{Event, events, Exchange, exchange}
 use Rattle.slots.specs.Slots.{slotOf}
 use Rattle.simulation.specs.Memory.{Memory, writeHub}
-use Rattle.simulation.specs.Left.{Left, Sized, ready}
+use Rattle.simulation.specs.Left.{Left, ready}
 
 -- The memory m holds the hub h: records left its store there; or the memory does not count as set up, and its row is the one that is lent.
 abbrev pub Holds : Hub → Memory → Type 0
@@ -40,4 +40,3 @@ pub record AsModel (h : Hub) (m : Memory) (es : List Exchange) (m′ : Memory) :
   pub holds : Holds (hubAfter h (sent es)) m′
   -- and what no hub on the way names is as it was
   pub memory : m′ ≡ memoryAfter h (sent es) m
-  pub sized : Sized m → Sized m′

@@ -1,7 +1,9 @@
 pub mod Memory
 pub mod Left
 pub mod Holds
-pub mod Shell
 pub mod Public
+pub mod Records
+pub mod Shell
+pub mod Loop
 pub mod Buffer
 pub mod Demands

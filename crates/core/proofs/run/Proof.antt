@@ -9,7 +9,7 @@ use Rattle.model.specs.Record as Model
 use Rattle.state.specs.declared.Hub.{Hub}
 use Rattle.state.specs.State.{withWorkersIn}
 use Rattle.simulation.specs.Shell.{offWorker}
-use Rattle.simulation.specs.Buffer.{after}
+use Rattle.simulation.specs.Loop.{after}
 use Rattle.lists.proofs.Mapped.{mapped, length-mapped}
 use Rattle.core.proofs.Moving.{move-one, move-none}
 use Rattle.core.proofs.Tested.{ready-few}

@@ -18,7 +18,8 @@ use ghost.Atoms.{Atoms}
 use contract.Lifetimes.{Lfts, Shares, toks}
 use contract.Monad.{Fun}
 use contract.Running.{givenOf, tables, tablesOf}
-use types.Kit.{Given, ‵, raw, _⊛_, ⋆, _$_, _∵_, !, qed, by, move, drop, split, join, fsplit, fjoin, suffices, frame, done}
+use types.Kit.{Given, ‵, raw, _⊛_, later, given, ⋆, _$_, _∵_, !, qed, by, move, drop, use2, learn, await, split, join, fsplit, fjoin}
+use types.Kit.{suffices, frame, done}
 use types.Part.{agg, whole, sub, look-in}
 use types.Run.{look, init, store, forget, stop, hop, fld, from, load, addr, and-then, no-more, of-opd, assigns, land, returns, enter}
 use types.Run.{alloc1, alloc0, params1}
@@ -51,9 +52,9 @@ use Rattle.hub.proofs.Rows.{through}
 use Rattle.hub.proofs.Lends.{big-lit}
 use Rattle.hub.proofs.Local.{lends-local, takes-back}
 use Rattle.hub.proofs.Words.{Words}
-use Rattle.hub.proofs.Values.{hub-vals, left-vals, typed-hub, typed-left}
+use Rattle.hub.proofs.Values.{hub-vals, left-vals, typed-hub, typed-left, hub-workers}
 use Rattle.hub.proofs.Passed.{Buffer, BufferLeft, buffer-types, buffer-vals, buffer-spells, buffer-tells, buffer-list, buffer-end}
-use Rattle.hub.proofs.Passed.{AllDone, SameLong}
+use Rattle.hub.proofs.Passed.{buffer-own, AllDone, AllDoes, KnownAll, buffer-known, all-does, SameLong}
 use Rattle.hub.proofs.Handed.{buffer-gave, buffer-go}
 use Rattle.hub.proofs.Moves.{word-vals, word-tells, word-makes, roomy, typed-row, Zeros, AtMost, LoadRow, StoreRow, call-zeros, call-at-most}
 use Rattle.hub.proofs.Moves.{call-load-row, call-store-row}
@@ -106,7 +107,15 @@ module _ {M : Type 1} (𝓤 : URA M) (H : Heap 𝓤) (A : Atoms 𝓤) (W : Given
   abbrev Did : Counted → BufferLeft → List Slot → List Slot → Type 0
   Did r z us vs = AllDone hub us x (r .count) (r .hub) vs z
 
-  exits : (zs : List Slot) (r : Counted) (z : BufferLeft) → (rest-of 2048 zs ≡ rest-of 2048 ys) × Did r z (take 2048 ys) (take 2048 zs) → length zs ≡ n
+  -- as the contract has it
+  abbrev Does : Counted → BufferLeft → List Slot → Type 0
+  Does r z zs = (rest-of 2048 zs ≡ rest-of 2048 ys) × AllDoes hub (take 2048 ys) x (r .count) (r .hub) (take 2048 zs) z
+
+  known-does : (zs : List Slot) (r : Counted) (z : BufferLeft) → KnownAll x
+      → (rest-of 2048 zs ≡ rest-of 2048 ys) × Did r z (take 2048 ys) (take 2048 zs) → Does r z zs
+  known-does zs r z known e = (e .0, all-does hub (take 2048 ys) x (r .count) (r .hub) (take 2048 zs) z (hub-workers hub gh) known (e .1))
+
+  exits : (zs : List Slot) (r : Counted) (z : BufferLeft) → Does r z zs → length zs ≡ n
       → SameLong x z → Is L.the-row r (left-vals r)
       → ent 𝓤 (⋆ 𝓤 H A (‵ (Slots κ n b o γ zs) ∷ ‵ (flft κ q) ∷ raw (toks 𝓤 A 8 ks qs) ∷ ‵ (buffer-end x z) ∷ [])) (Fin (only (left-vals r)))
   exits zs r z e l long g =
@@ -142,6 +151,9 @@ module _ {M : Type 1} (𝓤 : URA M) (H : Heap 𝓤) (A : Atoms 𝓤) (W : Given
         pass1 ! (init ! 56 refl (tt, tt)) $
         pass1 ! (init ! 54 refl (tt, tt)) $ pass1 ! (init ! 52 refl (tt, tt)) $ pass1 ! (init ! 50 refl (tt, tt)) $ pass0 ! $
         move ! (73 ∷ []) $ fsplit ! $ move ! (1 ∷ []) $ fsplit ! $ drop ! $ move ! (74 ∷ []) $ split ! $ move ! (3 ∷ 0 ∷ 1 ∷ 2 ∷ []) $
+        move ! (2 ∷ 3 ∷ []) $ use2 W (later (given (KnownAll x) (raw (toks 𝓤 A 8 ks qs) ⊛ ‵ (buffer-own ks x))))
+        (buffer-known 𝓤 H A W ks qs x .learned) $
+        await ! tt $ learn ! (λ known. split ! $ move ! (2 ∷ 3 ∷ []) $
         -- [the slots; their token; the other tokens; what else is lent; _35; …; _0]: local i stands at 74 - 2 i
         call-zeros ! mem run fm known-zeros ws is-zeros (λ j. no-more !) (λ gw. land ! (from ! (stop !)) (init ! 46 refl (typed-row 𝓤 H A W ws gw)) $
         assigns ! (of-opd ! (load ! (from ! (stop !)) (look ! 46 refl))) (from ! (stop !)) (init ! 52 refl (typed-row 𝓤 H A W ws gw)) $
@@ -223,8 +235,8 @@ module _ {M : Type 1} (𝓤 : URA M) (H : Heap 𝓤) (A : Atoms 𝓤) (W : Given
         move ! (26 ∷ 27 ∷ []) $ free1 ! $ move ! (24 ∷ 25 ∷ []) $ free1 ! $ move ! (22 ∷ 23 ∷ []) $ free1 ! $ move ! (20 ∷ 21 ∷ []) $ free1 ! $
         move ! (18 ∷ 19 ∷ []) $ free1 ! $ move ! (16 ∷ 17 ∷ []) $ free1 ! $ move ! (14 ∷ 15 ∷ []) $ free1 ! $ move ! (12 ∷ 13 ∷ []) $ free1 ! $
         move ! (10 ∷ 11 ∷ []) $ free1 ! $ move ! (8 ∷ 9 ∷ []) $ free1 ! $ move ! (6 ∷ 7 ∷ []) $ free1 ! $ move ! (4 ∷ 5 ∷ []) $ free1 ! $ free0 ! $
-        by ! (exits zs r z (through ys 2048 k is-k (Did r z) ws zs₁ zs₂ zs (gw .1 .0 .1) e₁ len₂ e₃ (e₂ .0)) len₃ (e₂ .1)
-        gr))))))))))))))))))))))))))))))))))))))))))))
+        by ! (exits zs r z (known-does zs r z known (through ys 2048 k is-k (Did r z) ws zs₁ zs₂ zs (gw .1 .0 .1) e₁ len₂ e₃ (e₂ .0))) len₃ (e₂ .1)
+        gr)))))))))))))))))))))))))))))))))))))))))))))
 
 module _ {M : Type 1} (𝓤 : URA M) (H : Heap 𝓤) (A : Atoms 𝓤) (W : Given 𝓤 H A) (mem : Memory → SProp 𝓤) (run : Routine → Fun 𝓤) (𝓣 : Tables 𝓤 H)
     (known-zeros : Triple 𝓤 (𝓣 .C #hub·zeros) (Zeros 𝓤 H A mem run)) (known-most : Triple 𝓤 (𝓣 .C #runs·at-most) (AtMost 𝓤 H A mem run))

@@ -57,7 +57,7 @@ use Rattle.hub.proofs.Lends.{big-lit}
 use Rattle.hub.proofs.Local.{lends-local, takes-back}
 use Rattle.hub.proofs.Values.{hub-vals, left-vals, owned-vals, typed-hub, typed-left, typed-owned}
 use Rattle.hub.proofs.Passed.{Buffer, BufferLeft, buffer-types, buffer-vals, buffer-spells, buffer-tells, buffer-list, buffer-end}
-use Rattle.hub.proofs.Passed.{AllDone, SameLong}
+use Rattle.hub.proofs.Passed.{AllDoes, SameLong}
 use Rattle.hub.proofs.SlotArray.{arr, slots-roomy, typed-slots, field-val, field-is}
 use Rattle.hub.proofs.Handed.{buffer-gave, buffer-go}
 use Rattle.hub.proofs.Buffers.{ApplyAll, Through, call-apply-all}
@@ -98,12 +98,12 @@ module _ {M : Type 1} (𝓤 : URA M) (H : Heap 𝓤) (A : Atoms 𝓤) (W : Given
   )
 
   -- 2048 slots are all that the door reads
-  all-of-them : (r : Counted) (zs : List Slot) (z : BufferLeft) → length zs ≡ 2048 → Through hub ys x r zs z → AllDone hub ys x (r .count) (r .hub) zs z
+  all-of-them : (r : Counted) (zs : List Slot) (z : BufferLeft) → length zs ≡ 2048 → Through hub ys x r zs z → AllDoes hub ys x (r .count) (r .hub) zs z
   all-of-them r zs z long e =
-      subst (λ (us : List Slot). AllDone hub us x (r .count) (r .hub) zs z) (take-all 2048 ys (omega (arith, gy .1 .0 .1)))
-      (subst (λ (us : List Slot). AllDone hub (take 2048 ys) x (r .count) (r .hub) us z) (take-all 2048 zs (omega arith)) (e .1))
+      subst (λ (us : List Slot). AllDoes hub us x (r .count) (r .hub) zs z) (take-all 2048 ys (omega (arith, gy .1 .0 .1)))
+      (subst (λ (us : List Slot). AllDoes hub (take 2048 ys) x (r .count) (r .hub) us z) (take-all 2048 zs (omega arith)) (e .1))
 
-  exits : (r : Counted) (zs : List Slot) (z : BufferLeft) → AllDone hub ys x (r .count) (r .hub) zs z → SameLong x z
+  exits : (r : Counted) (zs : List Slot) (z : BufferLeft) → AllDoes hub ys x (r .count) (r .hub) zs z → SameLong x z
       → Is O.the-row (back r zs) (owned-vals (back r zs))
       → ent 𝓤 (⋆ 𝓤 H A (raw (toks 𝓤 A 8 ks qs) ∷ ‵ (buffer-end x z) ∷ [])) (Fin (only (owned-vals (back r zs))))
   exits r zs z e long g =

@@ -1,0 +1,212 @@
+-- What the loop leaves of a buffer is what the contract of the public functions says: the answers in the two rows, each record on any memory, and
+-- on memory that holds a hub what the model does.
+use mathlib.Core.Path.{_≡_, refl, sym, ap, _∙_, subst}
+use mathlib.Core.Bool.{Bool, true, false, _||_}
+use mathlib.Core.List.{List, [], _∷_, map}
+use Prim.Native.Nat.{ℕ, zero, suc, _+_, _≤_, _<_}
+use native.Mathlib.Omega.{arith}
+use native.Mathlib.Numerals.{add-one}
+use lib.Dec.{ltb}
+use lib.ListN.{length, getD, set}
+use Rattle.lists.specs.Over.{over}
+use Rattle.lists.proofs.Over.{getD-over-in}
+use Rattle.model.specs.Store.{Hub, upFrom}
+use Rattle.model.specs.Answer.{said}
+use Rattle.model.specs.Record as Record
+use Rattle.model.specs.Record.{SetUp, Asks, decode}
+use Rattle.model.specs.Demand.{Exchange}
+use Rattle.model.proofs.Basic.{cond-both}
+use Rattle.values.specs.Meaning.{answerOf}
+use Rattle.values.specs.declared.Answer.{Answer}
+use Rattle.answers.specs.Numbers.{kindOf, numberOf, answerFrom}
+use Rattle.worker.specs.About.{aboutOf}
+use Rattle.worker.specs.declared.Announced.{Announced}
+use Rattle.worker.specs.declared.Doing.{Doing}
+use Rattle.worker.specs.declared.Worker.{Worker}
+use Rattle.state.specs.State.{workerIn}
+use Rattle.arrays.specs.Arrays.{fillTo}
+use Rattle.gate.specs.declared.Gate.{Gate}
+use Rattle.gate.specs.Gate.{operationRep, decodedRep, decodedIn, termsOf, registerOk, openOk, timeOk, beginGate, sizesOk, gateOf, whoOf}
+use Rattle.simulation.specs.Memory.{Memory}
+use Rattle.simulation.specs.Left.{Sized}
+use Rattle.simulation.specs.Shell.{obeyIn, gateIn, doneAs}
+use Rattle.simulation.specs.Holds.{Holds, Decided, AsModel}
+use Rattle.simulation.specs.Public.{OnAny, exchangeOf}
+use Rattle.simulation.specs.Records.{recordAt, countOf}
+use Rattle.simulation.specs.Loop.{makes, State, next, after, before, RanAll}
+use Rattle.simulation.specs.Buffer.{answerAt, exchangeAt, setsUp, EachOnAny, Applies}
+use Rattle.simulation.proofs.Bytes.{Bytes}
+use Rattle.simulation.proofs.Below.{map-long, same-below, at-below, fill-over}
+use Rattle.simulation.proofs.Again.{one-answer}
+use Rattle.simulation.proofs.Ends.{on-any}
+use Rattle.simulation.proofs.Ranged.{comes-back}
+use Rattle.simulation.proofs.Assembly.{StepsSimulate}
+use Rattle.simulation.proofs.OneByOne.{stateAt, answerTo, given, hubTo, so-far, does-each}
+
+------------------------------------------------------------------------
+-- The two rows
+
+module _ (m : Memory) (bytes kinds numbers : List ℕ) where
+  abbrev run : ℕ → State
+  run k = after (before m kinds numbers) bytes k
+
+  -- what stands in the rows makes no difference to the records
+  rows-apart : (k : ℕ) → (run k .up ≡ stateAt m bytes k .up) × (run k .memory ≡ stateAt m bytes k .memory)
+  unfolding after next
+  rows-apart zero = (refl, refl)
+  rows-apart (suc k) =
+      let s = rows-apart k in
+      let b = recordAt bytes k in
+      (λ i. s .0 i || makes (gateIn (s .0 i) (s .1 i) b), λ i. doneAs (s .0 i) (s .1 i) b .memory)
+
+  answers-apart : (k : ℕ) → run (suc k) .last ≡ answerTo m bytes k
+  unfolding after next
+  answers-apart k =
+      let s = rows-apart k in
+      λ i. doneAs (s .0 i) (s .1 i) (recordAt bytes k) .answer
+
+  kinds-filled : (n : ℕ) → run n .kinds ≡ fillTo kinds (λ k. kindOf (answerTo m bytes k)) n
+  unfolding after next fillTo
+  kinds-filled zero = refl
+  kinds-filled (suc n) = λ i. set (kinds-filled n i) n (kindOf (answers-apart n i))
+
+  numbers-filled : (n : ℕ) → run n .numbers ≡ fillTo numbers (λ k. numberOf (answerTo m bytes k)) n
+  unfolding after next fillTo
+  numbers-filled zero = refl
+  numbers-filled (suc n) = λ i. set (numbers-filled n i) n (numberOf (answers-apart n i))
+
+map-map : {A B C : Type 0} (g : B → C) (f : A → B) (l : List A) → map (λ x. g (f x)) l ≡ map g (map f l)
+map-map g f [] = refl
+map-map {C = C} g f (x ∷ l) = ap (λ (q : List C). g (f x) ∷ q) (map-map g f l)
+
+------------------------------------------------------------------------
+-- Each record on any memory
+
+-- the decision sets up just where a setup is answered `ok`
+module _ (m : Memory) where
+  abbrev SetsUp : Record.Decoded → Gate → Type 0
+  SetsUp r g = makes g ≡ setsUp r (said (answerOf (obeyIn m g .answer)) .ok)
+
+  begin-sets-up : (w : ℕ) (o : Record.Operation) (p v : ℕ) (d : Doing) (t : Announced)
+      → SetsUp (Asks (Record.Begin w o)) (beginGate p v w (operationRep o) d t)
+  unfolding beginGate setsUp
+  begin-sets-up w o p v d t =
+      let N : Gate → Type 0 = SetsUp (Asks (Record.Begin w o)) in
+      let x = termsOf (operationRep o) in
+      cond-both N (ltb w p) _ _
+      (λ e. cond-both N (registerOk (x .register) v) _ _
+      (λ e. cond-both N (aboutOf d .idle) _ _
+      (λ e. cond-both N (openOk (x .time) t) _ _ (λ e. cond-both N (timeOk (x .time) t) _ _ (λ e. refl) (λ e. refl)) (λ e. refl))
+      (λ e. refl))
+      (λ e. refl))
+      (λ e. refl)
+
+  gate-sets-up : (r : Record.Decoded) (up : Bool) (p v long : ℕ) (d : Doing) (t : Announced) → SetsUp r (gateOf (decodedRep r) up p v long d t)
+  unfolding gateOf setsUp obeyIn
+  gate-sets-up (Record.Refuses k) up p v long d t = refl
+  gate-sets-up (Asks (SetUp z)) up p v long d t =
+      let N : Gate → Type 0 = SetsUp (Asks (SetUp z)) in
+      cond-both N up _ _ (λ e. refl) (λ e. cond-both N (sizesOk (z .P) (z .V') (z .N) (z .clock) long) _ _ (λ e. refl) (λ e. refl))
+  gate-sets-up (Asks (Record.Begin w o)) up p v long d t =
+      cond-both (SetsUp (Asks (Record.Begin w o))) up _ _ (λ e. begin-sets-up w o p v d t) (λ e. refl)
+  gate-sets-up (Asks (Record.Step w)) up p v long d t =
+      let N : Gate → Type 0 = SetsUp (Asks (Record.Step w)) in
+      cond-both N up _ _ (λ e. cond-both N (ltb w p) _ _ (λ e. refl) (λ e. refl)) (λ e. refl)
+
+module _ (m : Memory) (bytes : List ℕ) where
+  flag-is : (k : ℕ)
+      → stateAt m bytes (suc k) .up ≡ (stateAt m bytes k .up || setsUp (decode (recordAt bytes k)) (said (answerOf (answerTo m bytes k)) .ok))
+  unfolding after next doneAs
+  flag-is k =
+      let s : State = stateAt m bytes k in
+      let x : Memory = s .memory in
+      let w : Worker = workerIn (x .hub) (whoOf (decodedIn (recordAt bytes k))) in
+      ap (λ (t : Bool). s .up || t)
+      (gate-sets-up x (decode (recordAt bytes k)) (s .up) (x .hub .p) (x .hub .v) (length (x .slots)) (w .doing) (w .announced))
+
+  any-at : (k : ℕ)
+      → OnAny (stateAt m bytes k .up) (stateAt m bytes k .memory) (recordAt bytes k) (answerTo m bytes k) (stateAt m bytes (suc k) .memory)
+  unfolding after next
+  any-at k = on-any (stateAt m bytes k .up) (stateAt m bytes k .memory) (recordAt bytes k)
+
+  each-from : (n k c : ℕ) → c ≡ k + n
+      → EachOnAny (stateAt m bytes k .up) (stateAt m bytes k .memory) (map (recordAt bytes) (upFrom k n)) (map (answerTo m bytes) (upFrom k n))
+      (stateAt m bytes c .memory)
+  unfolding EachOnAny upFrom
+  each-from zero k c e =
+      let same : c ≡ k = omega (arith, e) in
+      ap (λ (j : ℕ). stateAt m bytes j .memory) same
+  each-from (suc n) k c e = (
+    stateAt m bytes (suc k) .memory,
+    any-at k,
+    subst (λ (t : Bool). EachOnAny t (stateAt m bytes (suc k) .memory) (map (recordAt bytes) (upFrom (k + 1) n))
+        (map (answerTo m bytes) (upFrom (k + 1) n)) (stateAt m bytes c .memory)) (flag-is k)
+        (subst (λ (j : ℕ). EachOnAny (stateAt m bytes (suc k) .up) (stateAt m bytes (suc k) .memory) (map (recordAt bytes) (upFrom j n))
+        (map (answerTo m bytes) (upFrom j n)) (stateAt m bytes c .memory)) (sym (add-one k)) (each-from n (suc k) c (omega (arith, e)))),
+  )
+
+------------------------------------------------------------------------
+-- The contract
+
+module _ (steps : StepsSimulate) (m : Memory) (bytes kinds numbers : List ℕ) (n : ℕ) (m′ : Memory) (kinds′ numbers′ : List ℕ)
+    (Z : Sized m) (B : Bytes bytes) (R : RanAll m bytes kinds numbers n m′ kinds′ numbers′) where
+  abbrev ys : List Answer
+  ys = map (answerTo m bytes) (upFrom 0 n)
+
+  is-left : m′ ≡ stateAt m bytes n .memory
+  is-left = R .ran .memory ∙ rows-apart m bytes kinds numbers n .1
+
+  are-kinds : kinds′ ≡ over (map kindOf ys) kinds
+  are-kinds =
+      R .ran .answerKinds
+      ∙ kinds-filled m bytes kinds numbers n
+      ∙ fill-over kinds (λ k. kindOf (answerTo m bytes k)) n (omega (arith, R .count))
+      ∙ ap (λ (l : List ℕ). over l kinds) (map-map kindOf (answerTo m bytes) (upFrom 0 n))
+
+  are-numbers : numbers′ ≡ over (map numberOf ys) numbers
+  are-numbers =
+      R .ran .answerNumbers
+      ∙ numbers-filled m bytes kinds numbers n
+      ∙ fill-over numbers (λ k. numberOf (answerTo m bytes k)) n (omega (arith, R .count))
+      ∙ ap (λ (l : List ℕ). over l numbers) (map-map numberOf (answerTo m bytes) (upFrom 0 n))
+
+  -- at k of such a row
+  at-row : (f : Answer → ℕ) (l l′ : List ℕ) (k : ℕ) → k < n → l′ ≡ over (map f ys) l → getD l′ k 0 ≡ f (answerTo m bytes k)
+  at-row f l l′ k h e =
+      ap (λ (q : List ℕ). getD q k 0) (e ∙ ap (λ (q : List ℕ). over q l) (sym (map-map f (answerTo m bytes) (upFrom 0 n))))
+      ∙ getD-over-in (map (λ j. f (answerTo m bytes j)) (upFrom 0 n)) l k 0 (omega (arith, map-long (λ j. f (answerTo m bytes j)) n))
+      ∙ at-below (λ j. f (answerTo m bytes j)) 0 n k h
+
+  -- the answer that is read from the rows is the one that was given
+  read-back : (h : Hub) → Holds h m → (k : ℕ) → k < n → answerAt kinds′ numbers′ k ≡ answerTo m bytes k
+  read-back h H k below =
+      let x : Memory = stateAt m bytes k .memory in
+      let S = so-far steps m bytes h H Z B k in
+      let h′ : Hub = hubTo steps m bytes h H Z B k in
+      (λ i. answerFrom (at-row kindOf kinds kinds′ k below are-kinds i) (at-row numberOf numbers numbers′ k below are-numbers i))
+      ∙ comes-back h′ x (recordAt bytes k) (answerTo m bytes k) (S .asModel .holds)
+      (one-answer (does-each steps m bytes h H Z B k .asModel h′ (S .asModel .holds)))
+
+  all-as-model : (h : Hub) → Holds h m → AsModel h m (map (exchangeAt bytes kinds′ numbers′) (upFrom 0 n)) m′
+  all-as-model h H =
+      let same : map (exchangeAt bytes kinds′ numbers′) (upFrom 0 n) ≡ map (given steps m bytes h H Z B) (upFrom 0 n) =
+      same-below (exchangeAt bytes kinds′ numbers′) (given steps m bytes h H Z B) n
+      (λ k below. ap (exchangeOf (recordAt bytes k)) (read-back h H k below)) in
+      subst (λ (l : List Exchange). AsModel h m l m′) (sym same)
+      (subst (AsModel h m (map (given steps m bytes h H Z B) (upFrom 0 n))) (sym is-left) (so-far steps m bytes h H Z B n .asModel))
+
+  pub applies : Applies m bytes kinds numbers n m′ kinds′ numbers′
+  unfolding after
+  applies =
+      record {
+        count = R .count;
+        answers = ys;
+        answerKinds = are-kinds;
+        answerNumbers = are-numbers;
+        asModel = all-as-model;
+        readBack = λ D. same-below (answerAt kinds′ numbers′) (answerTo m bytes) n (read-back (D .0) (D .1));
+        onAny =
+            subst (EachOnAny (stateAt m bytes 0 .up) m (map (recordAt bytes) (upFrom 0 n)) ys) (sym is-left)
+            (each-from m bytes n 0 n (omega arith));
+        ran = R;
+      }

@@ -1,0 +1,62 @@
+-- The records of a buffer with room for all answers are the records of its bytes, and bytes in parts of whole records have the records of their
+-- parts.
+use mathlib.Core.Path.{_≡_, refl, sym, ap, _∙_}
+use mathlib.Core.List.{List, [], _∷_, _++_, map}
+use Prim.Native.Nat.{ℕ, zero, suc, _+_, _*_, _≤_}
+use native.Mathlib.Omega.{arith}
+use lib.ListN.{length, take, drop, length-append, length-drop}
+use lib.Seq.{drop-drop, take-append-le, drop-append-le}
+use Rattle.model.specs.Store.{upFrom}
+use Rattle.model.specs.Record.{cut, recordsOf}
+use Rattle.simulation.specs.Records.{recordAt, recordsIn}
+
+-- k records are taken, and the bytes l are left
+cut-records : (n : ℕ) (bytes l : List ℕ) (k : ℕ) → drop (16 * k) bytes ≡ l → length l ≤ n → map (recordAt bytes) (upFrom k (recordsIn l)) ≡ cut n l
+unfolding upFrom cut
+cut-records zero bytes [] k e h = refl
+cut-records (suc n) bytes [] k e h = refl
+cut-records zero bytes (x ∷ l) k e h = absurd (omega (arith, h))
+cut-records (suc n) bytes (x ∷ l) k e h =
+    let r : List ℕ = drop 16 (x ∷ l) in
+    let one : recordsIn (x ∷ l) ≡ suc (recordsIn r) = omega (arith, length-drop 16 (x ∷ l)) in
+    let further : 16 * (k + 1) ≡ 16 * k + 16 = omega arith in
+    let on : drop (16 * (k + 1)) bytes ≡ r = ap (λ (j : ℕ). drop j bytes) further ∙ sym (drop-drop 16 (16 * k) bytes) ∙ ap (drop 16) e in
+    let rest : map (recordAt bytes) (upFrom (k + 1) (recordsIn r)) ≡ cut n r =
+    cut-records n bytes r (k + 1) on (omega (arith, h, length-drop 16 (x ∷ l))) in
+    ap (λ (j : ℕ). map (recordAt bytes) (upFrom k j)) one ∙ (λ i. take 16 (e i) ∷ rest i)
+
+pub whole : (bytes : List ℕ) → map (recordAt bytes) (upFrom 0 (recordsIn bytes)) ≡ recordsOf bytes
+unfolding recordsOf
+whole bytes = cut-records (length bytes) bytes bytes 0 refl (omega arith)
+
+-- how many records may be taken makes no difference where there are not so many
+cut-enough : (n p : ℕ) (l : List ℕ) → length l ≤ n → length l ≤ p → cut n l ≡ cut p l
+unfolding cut
+cut-enough zero zero l h k = refl
+cut-enough zero (suc p) [] h k = refl
+cut-enough (suc n) zero [] h k = refl
+cut-enough (suc n) (suc p) [] h k = refl
+cut-enough zero (suc p) (x ∷ l) h k = absurd (omega (arith, h))
+cut-enough (suc n) zero (x ∷ l) h k = absurd (omega (arith, k))
+cut-enough (suc n) (suc p) (x ∷ l) h k =
+    ap (λ (q : List (List ℕ)). take 16 (x ∷ l) ∷ q)
+    (cut-enough n p (drop 16 (x ∷ l)) (omega (arith, h, length-drop 16 (x ∷ l))) (omega (arith, k, length-drop 16 (x ∷ l))))
+
+cut-parts : (n p : ℕ) (l r : List ℕ) (k : ℕ) → length l ≡ 16 * k → length (l ++ r) ≤ n → length l ≤ p → cut n (l ++ r) ≡ cut p l ++ recordsOf r
+unfolding cut recordsOf
+cut-parts n zero [] r k e h g = cut-enough n (length r) r h (omega arith)
+cut-parts n (suc p) [] r k e h g = cut-enough n (length r) r h (omega arith)
+cut-parts n zero (x ∷ l) r k e h g = absurd (omega (arith, g))
+cut-parts zero (suc p) (x ∷ l) r k e h g = absurd (omega (arith, h))
+cut-parts (suc n) (suc p) (x ∷ l) r zero e h g = absurd (omega (arith, e))
+cut-parts (suc n) (suc p) (x ∷ l) r (suc k) e h g =
+    let s : List ℕ = x ∷ l in
+    let long : 16 ≤ length s = omega (arith, e) in
+    let rest : cut n (drop 16 s ++ r) ≡ cut p (drop 16 s) ++ recordsOf r =
+    cut-parts n p (drop 16 s) r k (omega (arith, e, length-drop 16 s))
+    (omega (arith, h, length-append (drop 16 s) r, length-append s r, length-drop 16 s)) (omega (arith, g, length-drop 16 s)) in
+    (λ i. take-append-le 16 s r long i ∷ cut n (drop-append-le 16 s r long i)) ∙ ap (λ (q : List (List ℕ)). take 16 s ∷ q) rest
+
+pub in-parts : (l r : List ℕ) (k : ℕ) → length l ≡ 16 * k → recordsOf (l ++ r) ≡ recordsOf l ++ recordsOf r
+unfolding recordsOf
+in-parts l r k e = cut-parts (length (l ++ r)) (length l) l r k e (omega arith) (omega arith)
