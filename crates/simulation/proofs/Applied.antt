@@ -1,9 +1,9 @@
 -- What the loop leaves of a buffer is what the contract of the public functions says: the answers in the two rows, each record on any memory, and
 -- on memory that holds a hub what the model does.
 use mathlib.Core.Path.{_≡_, refl, sym, ap, _∙_, subst}
-use mathlib.Core.Bool.{Bool, true, false, _||_}
-use mathlib.Core.List.{List, [], _∷_, map}
-use Prim.Native.Nat.{ℕ, zero, suc, _+_, _≤_, _<_}
+use mathlib.Core.Bool.{Bool, _||_}
+use mathlib.Core.List.{List, map}
+use Prim.Native.Nat.{ℕ, zero, suc, _+_, _<_}
 use native.Mathlib.Omega.{arith}
 use native.Mathlib.Numerals.{add-one}
 use lib.Dec.{ltb}
@@ -30,13 +30,13 @@ use Rattle.gate.specs.Gate.{operationRep, decodedRep, decodedIn, termsOf, regis
 use Rattle.simulation.specs.Memory.{Memory}
 use Rattle.simulation.specs.Left.{Sized}
 use Rattle.simulation.specs.Shell.{obeyIn, gateIn, doneAs}
-use Rattle.simulation.specs.Holds.{Holds, Decided, AsModel}
+use Rattle.simulation.specs.Holds.{Holds, AsModel}
 use Rattle.simulation.specs.Public.{OnAny, exchangeOf}
-use Rattle.simulation.specs.Records.{recordAt, countOf}
+use Rattle.simulation.specs.Records.{recordAt}
 use Rattle.simulation.specs.Loop.{makes, State, next, after, before, RanAll}
 use Rattle.simulation.specs.Buffer.{answerAt, exchangeAt, setsUp, EachOnAny, Applies}
 use Rattle.simulation.proofs.Bytes.{Bytes}
-use Rattle.simulation.proofs.Below.{map-long, same-below, at-below, fill-over}
+use Rattle.simulation.proofs.Below.{map-map, map-long, same-below, at-below, fill-over}
 use Rattle.simulation.proofs.Again.{one-answer}
 use Rattle.simulation.proofs.Ends.{on-any}
 use Rattle.simulation.proofs.Ranged.{comes-back}
@@ -74,10 +74,6 @@ module _ (m : Memory) (bytes kinds numbers : List ℕ) where
   unfolding after next fillTo
   numbers-filled zero = refl
   numbers-filled (suc n) = λ i. set (numbers-filled n i) n (numberOf (answers-apart n i))
-
-map-map : {A B C : Type 0} (g : B → C) (f : A → B) (l : List A) → map (λ x. g (f x)) l ≡ map g (map f l)
-map-map g f [] = refl
-map-map {C = C} g f (x ∷ l) = ap (λ (q : List C). g (f x) ∷ q) (map-map g f l)
 
 ------------------------------------------------------------------------
 -- Each record on any memory

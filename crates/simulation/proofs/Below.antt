@@ -10,6 +10,10 @@ use Rattle.model.specs.Store.{upFrom}
 use Rattle.arrays.specs.Arrays.{fillTo}
 use Rattle.simulation.proofs.Fresh.{up-length, up-last}
 
+pub map-map : {A B C : Type 0} (g : B → C) (f : A → B) (l : List A) → map (λ x. g (f x)) l ≡ map g (map f l)
+map-map g f [] = refl
+map-map {C = C} g f (x ∷ l) = ap (λ (q : List C). g (f x) ∷ q) (map-map g f l)
+
 module _ {A : Type 0} where
   pub map-last : (f : ℕ → A) (n : ℕ) → map f (upFrom 0 (suc n)) ≡ map f (upFrom 0 n) ++ (f n ∷ [])
   map-last f n =

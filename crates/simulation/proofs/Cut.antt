@@ -243,3 +243,56 @@ pub does-whole : (m m′ : Memory) (b : List ℕ) (y : Answer) → Sized m → B
     → y ≡ doneOf (cut m) b .answer → cut m′ ≡ doneOf (cut m) b .memory → drop 2048 (m′ .slots) ≡ drop 2048 (m .slots) → Does m b y m′
 does-whole m m′ b y Z bytes a l rest =
     does-cut m m′ b y Z (rw (a, l) (does (cut m) b (sized-cut m Z) bytes)) rest
+
+------------------------------------------------------------------------
+-- The contract with the whole row is the contract with the first 2048 slots
+
+module _ (m m′ : Memory) (b : List ℕ) (y : Answer) (Z : Sized m) (D : Does m b y m′) where
+  left-uncut : {s : Store} → Left s (cut m) → Left s m
+  left-uncut {s} L =
+      let few = left-few (L .store) in
+      record { store = L .store; laid = whole m m refl (write s m) (write-rest s few m) (L .laid ∙ sym (write-cut s few m)) }
+
+  cut-written : (h : Model.Hub) → FewIn h → m′ ≡ writeHub h m → cut m′ ≡ writeHub h (cut m)
+  cut-written (blank row) f e = ap cut e
+  cut-written (up s) f e = ap cut e ∙ write-cut s f m
+
+  blank-uncut : ready (cut m) ≡ false → AsModel (blank (map slotOf (take 2048 (m .slots)))) (cut m) (exchangeOf b y ∷ []) (cut m′)
+  blank-uncut e =
+      let A = D .asModel (blank (row (cut m) (m .slots))) (sym (ready-cut m) ∙ e, refl) in
+      let L = apply-cut (cut m) (m .slots) b in
+      let a : Applied = apply inForce (blank (row (cut m) (m .slots))) b in
+      as-model (cut m) (cut m′) (sized-cut m Z) (blank (row′ (cut m) (m .slots))) b y (e, refl)
+      (cut-written (a .hub) (L .few) (one-memory A) ∙ sym (L .memory)) (one-answer A ∙ sym (L .answer))
+
+  as-model-uncut : (h : Model.Hub) → Holds h (cut m) → AsModel h (cut m) (exchangeOf b y ∷ []) (cut m′)
+  as-model-uncut (blank l) H = subst (λ (q : List Model.Slot). AsModel (blank q) (cut m) (exchangeOf b y ∷ []) (cut m′)) (sym (H .1)) (blank-uncut (H .0))
+  as-model-uncut (up s) L =
+      let A = D .asModel (up s) (left-uncut L) in
+      let N = left-next (L .store) b in
+      let f : FewIn (apply inForce (up s) b .hub) = subst FewIn (sym (N .1)) (left-few (N .2)) in
+      as-model (cut m) (cut m′) (sized-cut m Z) (up s) b y L (cut-written (apply inForce (up s) b .hub) f (one-memory A)) (one-answer A)
+
+  ends-uncut : (t : Bool) (d : Decoded) (k : Option ℕ) → EndsBy t m d k m′ → EndsBy t (cut m) d k (cut m′)
+  ends-uncut t d none E = tt
+  ends-uncut t d (some k) E =
+      let same = takes-cut m m refl t d in
+      record { number = rw same (E .number); leaves = by (takesStepIn t (cut m) d) (E .leaves ∙ rw (← same)) }
+    where
+      by : (u : Bool) → m′ ≡ cond u (idledIn m d) m → cut m′ ≡ cond u (idledIn (cut m) d) (cut m)
+      by true e = ap cut e ∙ sym (idled-cut m m refl d)
+      by false e = ap cut e
+
+  pub does-uncut : Does (cut m) b y (cut m′)
+  does-uncut =
+      let E = D .onAny in
+      record {
+        asModel = as-model-uncut;
+        onAny =
+            subst (λ (t : Bool). OnAny t (cut m) b y (cut m′)) (sym (ready-cut m))
+            (record {
+              ends = ends-uncut (ready m) (decode b) (said (answerOf y) .refusal) (E .ends);
+              reading = λ k d. (E .reading k d .0, ap cut (E .reading k d .1));
+              nine = E .nine;
+            });
+      }

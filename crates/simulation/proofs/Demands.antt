@@ -13,7 +13,8 @@ use Rattle.lists.proofs.Over.{getD-over-in}
 use Rattle.model.specs.Store.{Hub, blank, up, upFrom}
 use Rattle.model.specs.Answer.{Answer, Ok, said}
 use Rattle.model.specs.Record.{Sizes, SetUp, Asks, decode}
-use Rattle.model.specs.Apply.{hubAfter}
+use Rattle.model.specs.Rules.{inForce, allUnder}
+use Rattle.model.specs.Apply.{hubAfter, answersTo}
 use Rattle.model.specs.Demand.{Event, events, Exchange, exchange}
 use Rattle.model.proofs.Main.{answers-of-events}
 use Rattle.values.specs.Meaning.{answerOf}
@@ -29,9 +30,10 @@ use Rattle.simulation.specs.Records.{recordAt}
 use Rattle.simulation.specs.Buffer.{exchangeAt, setsUp, EachOnAny}
 use Rattle.simulation.specs.Demands.{Call, One, Buffer, leftBy, Called, Calls, leftByAll, exchanged, exchanges, Demands}
 use Rattle.simulation.proofs.Below.{map-long, at-below}
-use Rattle.simulation.proofs.Parts.{whole, in-parts}
+use Rattle.simulation.proofs.Parts.{handed-in}
 use Rattle.simulation.proofs.Again.{BlankOrLeft}
 use Rattle.simulation.proofs.Assembly.{left-ready}
+use Rattle.simulation.proofs.Cut.{does-uncut}
 use Rattle.simulation.proofs.Compose.{nothing-sent, both-sent, same-sent, behind-setup, behind-records}
 
 ------------------------------------------------------------------------
@@ -143,15 +145,15 @@ pub demands : Demands
 demands =
     record {
       demand2 = calls-as-model;
-      answers = λ h m cs H C.
+      log = λ h m cs file H C F.
           ap (map (λ (e : Exchange). e .answer)) (calls-as-model h m cs H C .answers)
           ∙ map-exchange (events h (sent (exchanges cs)))
-          ∙ answers-of-events h (sent (exchanges cs));
+          ∙ answers-of-events h (sent (exchanges cs))
+          ∙ ap (λ (l : List (List ℕ)). answersTo h (allUnder inForce l)) (handed-in cs file F);
       anyCalls = λ m cs ds D C E.
           same-sent (D .0) m (leftByAll m cs) (leftByAll m ds) (exchanges cs) (exchanges ds) (calls-as-model (D .0) m cs (D .1) C)
           (calls-as-model (D .0) m ds (D .1) E);
-      whole = whole;
-      inParts = in-parts;
+      firstSlots = does-uncut;
       leftIsReady = λ s m L Z. left-ready m L Z;
       demand3 = λ m cs D C es fs b z e.
           behind-setup (map slotOf (m .slots)) (D .0) es fs b z (held (D .0) m (D .1))

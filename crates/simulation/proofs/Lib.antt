@@ -40,7 +40,7 @@ pub mod Compose
 pub mod OneByOne
 pub mod Ranged
 pub mod Applied
-pub mod Parts
-pub mod Demands
 pub mod Main
 pub mod Cut
+pub mod Parts
+pub mod Demands

@@ -1,14 +1,18 @@
--- The records of a buffer with room for all answers are the records of its bytes, and bytes in parts of whole records have the records of their
--- parts.
+-- A file that is handed in part by part, each part but the last whole records: the calls apply the records of the file.
 use mathlib.Core.Path.{_≡_, refl, sym, ap, _∙_}
-use mathlib.Core.List.{List, [], _∷_, _++_, map}
-use Prim.Native.Nat.{ℕ, zero, suc, _+_, _*_, _≤_}
+use mathlib.Core.Logic.{_⊎_, inl, inr}
+use mathlib.Core.List.{List, [], _∷_, _++_, map, map-append, append-nil}
+use Prim.Native.Nat.{ℕ, zero, suc, _+_, _*_, _/_, _%_, _≤_}
 use native.Mathlib.Omega.{arith}
-use lib.ListN.{length, take, drop, length-append, length-drop}
-use lib.Seq.{drop-drop, take-append-le, drop-append-le}
+use lib.ListN.{length, take, drop, length-append, length-drop, drop-of-length-le}
+use lib.Seq.{drop-drop, take-all, take-append-le, drop-append-le}
 use Rattle.model.specs.Store.{upFrom}
 use Rattle.model.specs.Record.{cut, recordsOf}
+use Rattle.model.specs.Demand.{Exchange}
 use Rattle.simulation.specs.Records.{recordAt, recordsIn}
+use Rattle.simulation.specs.Buffer.{exchangeAt}
+use Rattle.simulation.specs.Demands.{Call, One, Buffer, exchanged, exchanges, bytesIn, AppliedAll, HandIn}
+use Rattle.simulation.proofs.Below.{map-map}
 
 -- k records are taken, and the bytes l are left
 cut-records : (n : ℕ) (bytes l : List ℕ) (k : ℕ) → drop (16 * k) bytes ≡ l → length l ≤ n → map (recordAt bytes) (upFrom k (recordsIn l)) ≡ cut n l
@@ -25,7 +29,7 @@ cut-records (suc n) bytes (x ∷ l) k e h =
     cut-records n bytes r (k + 1) on (omega (arith, h, length-drop 16 (x ∷ l))) in
     ap (λ (j : ℕ). map (recordAt bytes) (upFrom k j)) one ∙ (λ i. take 16 (e i) ∷ rest i)
 
-pub whole : (bytes : List ℕ) → map (recordAt bytes) (upFrom 0 (recordsIn bytes)) ≡ recordsOf bytes
+whole : (bytes : List ℕ) → map (recordAt bytes) (upFrom 0 (recordsIn bytes)) ≡ recordsOf bytes
 unfolding recordsOf
 whole bytes = cut-records (length bytes) bytes bytes 0 refl (omega arith)
 
@@ -57,6 +61,38 @@ cut-parts (suc n) (suc p) (x ∷ l) r (suc k) e h g =
     (omega (arith, h, length-append (drop 16 s) r, length-append s r, length-drop 16 s)) (omega (arith, g, length-drop 16 s)) in
     (λ i. take-append-le 16 s r long i ∷ cut n (drop-append-le 16 s r long i)) ∙ ap (λ (q : List (List ℕ)). take 16 s ∷ q) rest
 
-pub in-parts : (l r : List ℕ) (k : ℕ) → length l ≡ 16 * k → recordsOf (l ++ r) ≡ recordsOf l ++ recordsOf r
-unfolding recordsOf
-in-parts l r k e = cut-parts (length (l ++ r)) (length l) l r k e (omega arith) (omega arith)
+-- a part of whole records, or the last one
+in-parts : (l r : List ℕ) → (length l % 16 ≡ 0) ⊎ (r ≡ []) → recordsOf (l ++ r) ≡ recordsOf l ++ recordsOf r
+unfolding recordsOf cut
+in-parts l r (inl e) =
+    let whole-records : length l ≡ 16 * (length l / 16) = omega (arith, e) in
+    cut-parts (length (l ++ r)) (length l) l r (length l / 16) whole-records (omega arith) (omega arith)
+in-parts l r (inr e) =
+    ap (λ (q : List ℕ). recordsOf (l ++ q)) e
+    ∙ ap recordsOf (append-nil l)
+    ∙ sym (append-nil (recordsOf l))
+    ∙ ap (λ (q : List ℕ). recordsOf l ++ recordsOf q) (sym e)
+
+-- one record of at most sixteen bytes
+one-record : (b : List ℕ) → 1 ≤ length b → length b ≤ 16 → b ∷ [] ≡ recordsOf b
+unfolding recordsOf cut
+one-record [] h k = absurd (omega (arith, h))
+one-record (x ∷ l) h k =
+    let none : cut (length l) (drop 16 (x ∷ l)) ≡ [] = ap (cut (length l)) (drop-of-length-le (x ∷ l) k) ∙ cut-enough (length l) 0 [] (omega arith) (omega arith) in
+    λ i. sym (take-all 16 (x ∷ l) k) i ∷ sym none i
+
+call-records : (c : Call) → AppliedAll c → map (λ (e : Exchange). e .bytes) (exchanged c) ≡ recordsOf (bytesIn c)
+call-records (One b y m) (h, k) = one-record b h k
+call-records (Buffer bytes kinds numbers n kinds′ numbers′ m) e =
+    sym (map-map (λ (x : Exchange). x .bytes) (exchangeAt bytes kinds′ numbers′) (upFrom 0 n))
+    ∙ ap (λ (k : ℕ). map (recordAt bytes) (upFrom 0 k)) e
+    ∙ whole bytes
+
+pub handed-in : (cs : List Call) (file : List ℕ) → HandIn cs file → map (λ (e : Exchange). e .bytes) (exchanges cs) ≡ recordsOf file
+unfolding HandIn exchanges recordsOf cut
+handed-in [] file F = ap recordsOf (sym F)
+handed-in (c ∷ cs) file (A, rest, e, last, F) =
+    map-append (λ (x : Exchange). x .bytes) (exchanged c) (exchanges cs)
+    ∙ (λ i. call-records c A i ++ handed-in cs rest F i)
+    ∙ sym (in-parts (bytesIn c) rest last)
+    ∙ ap recordsOf (sym e)

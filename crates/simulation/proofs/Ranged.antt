@@ -1,6 +1,6 @@
 -- The numbers in the answers are in the range of their types, on memory that holds a hub: a freed slot is below N, a time is before the last of
 -- the clock, and a refusal has one of its numbers. So the two numbers of an answer stand for that answer.
-use mathlib.Core.Path.{_≡_, refl, sym, subst}
+use mathlib.Core.Path.{_≡_, sym, subst}
 use mathlib.Core.Bool.{_&&_}
 use mathlib.Core.List.{List, [], _∷_}
 use Prim.Native.Nat.{ℕ, _<_}

@@ -43,7 +43,8 @@ EachOnAny up m (b ∷ bs) [] m′ = ⊥
 EachOnAny up m (b ∷ bs) (y ∷ ys) m′ =
     (x : Memory) × OnAny up m b y x × EachOnAny (up || setsUp (decode b) (said (answerOf y) .ok)) x bs ys m′
 
--- The first n records of the bytes, any bytes, met the memory m; the answers were written over the two rows, and the memory m′ was left.
+-- The records of the bytes, any bytes, met the memory m, the first n of them, as many as there is room for; their answers were written over the
+-- two rows, and the memory m′ was left.
 pub record Applies (m : Memory) (bytes kinds numbers : List ℕ) (n : ℕ) (m′ : Memory) (kinds′ numbers′ : List ℕ) : Type 0 where
   pub count : n ≡ countOf bytes kinds numbers
   pub answers : List Answer

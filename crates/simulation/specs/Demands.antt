@@ -2,22 +2,23 @@
 -- are parts of the contracts of the public functions, `Does` and `Applies`; the rest is proved in proofs/Demands.antt from these contracts alone.
 use mathlib.Core.Path.{_≡_}
 use mathlib.Core.Bool.{true}
+use mathlib.Core.Logic.{_⊎_}
 use mathlib.Core.List.{List, [], _∷_, _++_, map}
-use Prim.Native.Nat.{ℕ, _*_}
+use Prim.Native.Nat.{ℕ, _%_, _≤_}
 use lib.ListN.{length}
 use Rattle.model.specs.Store.{Store, Hub, blank, upFrom}
-use Rattle.model.specs.Rules.{inForce, Ruled}
+use Rattle.model.specs.Rules.{inForce, Ruled, allUnder}
 use Rattle.model.specs.Answer.{Ok}
 use Rattle.model.specs.Record.{Sizes, SetUp, Asks, decode, recordsOf}
 use Rattle.model.specs.Apply.{apply, applyRuled, answersTo}
 use Rattle.model.specs.Demand.{events, Exchange, exchange, Demand3}
 use Rattle.values.specs.declared.Answer.{Answer}
 use Rattle.slots.specs.Slots.{slotOf}
-use Rattle.simulation.specs.Memory.{Memory}
+use Rattle.simulation.specs.Memory.{Memory, cut}
 use Rattle.simulation.specs.Left.{Left, Sized, ready}
 use Rattle.simulation.specs.Holds.{Holds, Decided, sent, AsModel}
 use Rattle.simulation.specs.Public.{exchangeOf, Does}
-use Rattle.simulation.specs.Records.{recordAt, recordsIn}
+use Rattle.simulation.specs.Records.{recordsIn}
 use Rattle.simulation.specs.Buffer.{exchangeAt, Applies}
 
 ------------------------------------------------------------------------
@@ -57,6 +58,23 @@ unfoldable pub exchanges : List Call → List Exchange
 exchanges [] = []
 exchanges (c ∷ cs) = exchanged c ++ exchanges cs
 
+-- the bytes that a call was lent, and that it applied all records of them
+abbrev pub bytesIn : Call → List ℕ
+bytesIn (One b y m) = b
+bytesIn (Buffer bytes kinds numbers n kinds′ numbers′ m) = bytes
+
+abbrev pub AppliedAll : Call → Type 0
+AppliedAll (One b y m) = (1 ≤ length b) × (length b ≤ 16)
+AppliedAll (Buffer bytes kinds numbers n kinds′ numbers′ m) = n ≡ recordsIn bytes
+
+-- The calls hand a file in, part by part: each part but the last is whole records.
+unfoldable pub HandIn : List Call → List ℕ → Type 0
+HandIn [] file = file ≡ []
+HandIn (c ∷ cs) file =
+    AppliedAll c
+    × (rest : List ℕ) × (file ≡ bytesIn c ++ rest) × ((length (bytesIn c) % 16 ≡ 0) ⊎ (rest ≡ []))
+    × HandIn cs rest
+
 ------------------------------------------------------------------------
 -- The demands
 
@@ -73,11 +91,11 @@ pub record Demands : Type 0 where
   -- So the same records are answered the same and leave the same memory, one by one, in one buffer or in several.
   pub anyCalls : (m : Memory) (cs ds : List Call) → Decided m → Calls m cs → Calls m ds → sent (exchanges cs) ≡ sent (exchanges ds)
       → (exchanges cs ≡ exchanges ds) × (leftByAll m cs ≡ leftByAll m ds)
-  -- The answers are those of the model's log,
-  pub answers : (h : Hub) (m : Memory) (cs : List Call) → Holds h m → Calls m cs → map (λ e. e .answer) (exchanges cs) ≡ answersTo h (sent (exchanges cs))
-  -- the records of a buffer with room for all answers are those of its bytes, and bytes handed in in parts of whole records have those of the parts.
-  pub whole : (bytes : List ℕ) → map (recordAt bytes) (upFrom 0 (recordsIn bytes)) ≡ recordsOf bytes
-  pub inParts : (l r : List ℕ) (k : ℕ) → length l ≡ 16 * k → recordsOf (l ++ r) ≡ recordsOf l ++ recordsOf r
+  -- The answers to a file that is handed in are those of the model's log of it.
+  pub log : (h : Hub) (m : Memory) (cs : List Call) (file : List ℕ) → Holds h m → Calls m cs → HandIn cs file
+      → map (λ e. e .answer) (exchanges cs) ≡ answersTo h (allUnder inForce (recordsOf file))
+  -- In a row of more than 2048 slots the contract of a buffer speaks of the first 2048. A call for one record does its work in them too.
+  pub firstSlots : (m m′ : Memory) (b : List ℕ) (y : Answer) → Sized m → Does m b y m′ → Does (cut m) b y (cut m′)
   -- Memory that records left counts as set up.
   pub leftIsReady : (s : Store) (m : Memory) → Left s m → Sized m → ready m ≡ true
   -- Demand 3, of a setup that was accepted at any record of any call, and of all records after it.

@@ -2,11 +2,10 @@
 use mathlib.Core.Path.{_≡_}
 use mathlib.Core.Bool.{false}
 use mathlib.Core.List.{List, [], _∷_, map}
-use Prim.Native.Nat.{ℕ}
 use Rattle.model.specs.Store.{Hub, blank, up}
 use Rattle.model.specs.Rules.{inForce, Ruled, allUnder}
 use Rattle.model.specs.Apply.{applyRuled, hubAfter}
-use Rattle.model.specs.Demand.{Event, events, Exchange, exchange}
+use Rattle.model.specs.Demand.{events, Exchange, exchange}
 use Rattle.slots.specs.Slots.{slotOf}
 use Rattle.simulation.specs.Memory.{Memory, writeHub}
 use Rattle.simulation.specs.Left.{Left, ready}
