@@ -266,7 +266,8 @@ module _ (m m′ : Memory) (b : List ℕ) (y : Answer) (Z : Sized m) (D : Does m
       (cut-written (a .hub) (L .few) (one-memory A) ∙ sym (L .memory)) (one-answer A ∙ sym (L .answer))
 
   as-model-uncut : (h : Model.Hub) → Holds h (cut m) → AsModel h (cut m) (exchangeOf b y ∷ []) (cut m′)
-  as-model-uncut (blank l) H = subst (λ (q : List Model.Slot). AsModel (blank q) (cut m) (exchangeOf b y ∷ []) (cut m′)) (sym (H .1)) (blank-uncut (H .0))
+  as-model-uncut (blank l) H =
+      subst (λ (q : List Model.Slot). AsModel (blank q) (cut m) (exchangeOf b y ∷ []) (cut m′)) (sym (H .1)) (blank-uncut (H .0))
   as-model-uncut (up s) L =
       let A = D .asModel (up s) (left-uncut L) in
       let N = left-next (L .store) b in

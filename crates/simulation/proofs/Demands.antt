@@ -3,7 +3,7 @@
 use mathlib.Core.Path.{_≡_, refl, sym, ap, _∙_, subst}
 use mathlib.Core.Bool.{Bool, true, false, true≢false, _||_}
 use mathlib.Core.Logic.{inl, inr}
-use mathlib.Core.List.{List, [], _∷_, _++_, map}
+use mathlib.Core.List.{List, [], _∷_, _++_, map, append-assoc}
 use Prim.Native.Nat.{ℕ, zero, suc, _<_}
 use native.Mathlib.Omega.{arith}
 use lib.ListN.{length, getD, length-append, length-map, List·getD-map}
@@ -14,7 +14,7 @@ use Rattle.model.specs.Store.{Hub, blank, up, upFrom}
 use Rattle.model.specs.Answer.{Answer, Ok, said}
 use Rattle.model.specs.Record.{Sizes, SetUp, Asks, decode}
 use Rattle.model.specs.Rules.{inForce, allUnder}
-use Rattle.model.specs.Apply.{hubAfter, answersTo}
+use Rattle.model.specs.Apply.{apply, hubAfter, answersTo}
 use Rattle.model.specs.Demand.{Event, events, Exchange, exchange}
 use Rattle.model.proofs.Main.{answers-of-events}
 use Rattle.values.specs.Meaning.{answerOf}
@@ -28,9 +28,10 @@ use Rattle.simulation.specs.Holds.{Holds, Decided, sent, AsModel}
 use Rattle.simulation.specs.Public.{OnAny, exchangeOf}
 use Rattle.simulation.specs.Records.{recordAt}
 use Rattle.simulation.specs.Buffer.{exchangeAt, setsUp, EachOnAny}
-use Rattle.simulation.specs.Demands.{Call, One, Buffer, leftBy, Called, Calls, leftByAll, exchanged, exchanges, Demands}
+use Rattle.simulation.specs.Demands.{CallIn, ForRecord, ForBuffer, leftBy, Called, Calls, leftByAll, exchanged, exchanges}
+use Rattle.simulation.specs.Demands.{Accepts, CodeDemand3, Demands}
 use Rattle.simulation.proofs.Below.{map-long, at-below}
-use Rattle.simulation.proofs.Parts.{handed-in}
+use Rattle.simulation.proofs.Parts.{parts-records}
 use Rattle.simulation.proofs.Again.{BlankOrLeft}
 use Rattle.simulation.proofs.Assembly.{left-ready}
 use Rattle.simulation.proofs.Cut.{does-uncut}
@@ -83,26 +84,25 @@ module _ (l es fs : List Exchange) (x : Exchange) (e : l ≡ es ++ (x ∷ fs)) w
   within : length es < length l
   within = omega (arith, ap length e, length-append es (x ∷ fs))
 
-from-setup : (m : Memory) (c : Call) → Called m c
-    → (es fs : List Exchange) (b : List ℕ) (z : Sizes) → exchanged c ≡ es ++ (record { bytes = b; answer = Ok } ∷ fs) → decode b ≡ Asks (SetUp z)
-    → Decided m
-from-setup m (One b₀ y m′) D es fs b z e d =
+from-setup : (m : Memory) (c : CallIn) → Called m c → (es fs : List Exchange) (b : List ℕ) → Accepts (exchanged c) es b fs → Decided m
+from-setup m (ForRecord b₀ y m′) D es fs b S =
     let x : Exchange = record { bytes = b; answer = Ok } in
     let l : List Exchange = exchangeOf b₀ y ∷ [] in
-    let first : 0 ≡ length es = omega (arith, within l es fs x e) in
-    let is : exchangeOf b₀ y ≡ x = ap (λ (k : ℕ). getD l k x) first ∙ stands l es fs x e in
+    let first : 0 ≡ length es = omega (arith, within l es fs x (S .place)) in
+    let is : exchangeOf b₀ y ≡ x = ap (λ (k : ℕ). getD l k x) first ∙ stands l es fs x (S .place) in
     not-ready m
-    (no-setup (ready m) m m′ b₀ y (D .onAny) z (ap (λ (q : Exchange). decode (q .bytes)) is ∙ d) (ap (λ (q : Exchange). said (q .answer) .ok) is))
-from-setup m (Buffer bytes kinds numbers n kinds′ numbers′ m′) A es fs b z e d =
+    (no-setup (ready m) m m′ b₀ y (D .onAny) (S .sizes) (ap (λ (q : Exchange). decode (q .bytes)) is ∙ S .setup)
+    (ap (λ (q : Exchange). said (q .answer) .ok) is))
+from-setup m (ForBuffer bytes kinds numbers n kinds′ numbers′ m′) A es fs b S =
     let x : Exchange = record { bytes = b; answer = Ok } in
     let f : ℕ → Exchange = exchangeAt bytes kinds′ numbers′ in
     let k : ℕ = length es in
     let ys : List Code.Answer = A .answers in
-    let h : k < n = omega (arith, within (map f (upFrom 0 n)) es fs x e, map-long f n) in
-    let is : f k ≡ x = sym (at-below f x n k h) ∙ stands (map f (upFrom 0 n)) es fs x e in
+    let h : k < n = omega (arith, within (map f (upFrom 0 n)) es fs x (S .place), map-long f n) in
+    let is : f k ≡ x = sym (at-below f x n k h) ∙ stands (map f (upFrom 0 n)) es fs x (S .place) in
     let long : k < length (map (recordAt bytes) (upFrom 0 n)) = omega (arith, h, map-long (recordAt bytes) n) in
     let is-record : getD (map (recordAt bytes) (upFrom 0 n)) k [] ≡ b = at-below (recordAt bytes) [] n k h ∙ ap (λ (q : Exchange). q .bytes) is in
-    let N = no-setup-at (ready m) m m′ (map (recordAt bytes) (upFrom 0 n)) ys (A .onAny) k long z (ap decode is-record ∙ d) in
+    let N = no-setup-at (ready m) m m′ (map (recordAt bytes) (upFrom 0 n)) ys (A .onAny) k long (S .sizes) (ap decode is-record ∙ S .setup) in
     let kind : getD kinds′ k 0 ≡ kindOf (getD ys k Is.Ok) = at-row kindOf refl ys kinds kinds′ k (N .0) (A .answerKinds) in
     let number : getD numbers′ k 0 ≡ numberOf (getD ys k Is.Ok) = at-row numberOf refl ys numbers numbers′ k (N .0) (A .answerNumbers) in
     not-ready m (N .1
@@ -125,11 +125,11 @@ held : (h : Hub) (m : Memory) → Holds h m → BlankOrLeft (map slotOf (m .slot
 held (blank row) m H = inl (ap blank (H .1))
 held (up s) m L = inr (s, refl, L .store)
 
-call-as-model : (h : Hub) (m : Memory) (c : Call) → Holds h m → Called m c → AsModel h m (exchanged c) (leftBy c)
-call-as-model h m (One b y m′) H D = D .asModel h H
-call-as-model h m (Buffer bytes kinds numbers n kinds′ numbers′ m′) H A = A .asModel h H
+call-as-model : (h : Hub) (m : Memory) (c : CallIn) → Holds h m → Called m c → AsModel h m (exchanged c) (leftBy c)
+call-as-model h m (ForRecord b y m′) H D = D .asModel h H
+call-as-model h m (ForBuffer bytes kinds numbers n kinds′ numbers′ m′) H A = A .asModel h H
 
-calls-as-model : (h : Hub) (m : Memory) (cs : List Call) → Holds h m → Calls m cs → AsModel h m (exchanges cs) (leftByAll m cs)
+calls-as-model : (h : Hub) (m : Memory) (cs : List CallIn) → Holds h m → Calls m cs → AsModel h m (exchanges cs) (leftByAll m cs)
 unfolding Calls exchanges leftByAll
 calls-as-model h m [] H C = nothing-sent h m H
 calls-as-model h m (c ∷ cs) H C =
@@ -141,6 +141,24 @@ map-exchange : (es : List Event) → map (λ (e : Exchange). e .answer) (map exc
 map-exchange [] = refl
 map-exchange (e ∷ es) = ap (λ (l : List Answer). e .answer ∷ l) (map-exchange es)
 
+-- the calls behind the first ones
+calls-behind : (m : Memory) (cs ds : List CallIn) → Calls m (cs ++ ds) → Calls (leftByAll m cs) ds
+unfolding Calls leftByAll
+calls-behind m [] ds C = C
+calls-behind m (c ∷ cs) ds C = calls-behind (leftBy c) cs ds (C .1)
+
+-- demand 3 of a setup in the first call
+first-setup : (m : Memory) (c : CallIn) (ds : List CallIn) → Calls m (c ∷ ds) → (es fs : List Exchange) (b : List ℕ) → Accepts (exchanged c) es b fs
+    → CodeDemand3 (apply inForce (blank (map slotOf (m .slots))) b .hub) [] (fs ++ exchanges ds)
+unfolding Calls exchanges
+first-setup m c ds C es fs b S =
+    let D = from-setup m c (C .0) es fs b S in
+    let x : Exchange = record { bytes = b; answer = Ok } in
+    let whole : exchanges (c ∷ ds) ≡ es ++ (x ∷ (fs ++ exchanges ds)) =
+    ap (λ (l : List Exchange). l ++ exchanges ds) (S .place) ∙ append-assoc es (x ∷ fs) (exchanges ds) in
+    behind-setup (map slotOf (m .slots)) (D .0) es (fs ++ exchanges ds) b (S .sizes) (held (D .0) m (D .1))
+    (subst (λ (l : List Exchange). l ≡ map exchange (events (D .0) (sent l))) whole (calls-as-model (D .0) m (c ∷ ds) (D .1) C .answers)) (S .setup)
+
 pub demands : Demands
 demands =
     record {
@@ -149,15 +167,13 @@ demands =
           ap (map (λ (e : Exchange). e .answer)) (calls-as-model h m cs H C .answers)
           ∙ map-exchange (events h (sent (exchanges cs)))
           ∙ answers-of-events h (sent (exchanges cs))
-          ∙ ap (λ (l : List (List ℕ)). answersTo h (allUnder inForce l)) (handed-in cs file F);
+          ∙ ap (λ (l : List (List ℕ)). answersTo h (allUnder inForce l)) (parts-records cs file F);
       anyCalls = λ m cs ds D C E.
           same-sent (D .0) m (leftByAll m cs) (leftByAll m ds) (exchanges cs) (exchanges ds) (calls-as-model (D .0) m cs (D .1) C)
           (calls-as-model (D .0) m ds (D .1) E);
       firstSlots = does-uncut;
       leftIsReady = λ s m L Z. left-ready m L Z;
-      demand3 = λ m cs D C es fs b z e.
-          behind-setup (map slotOf (m .slots)) (D .0) es fs b z (held (D .0) m (D .1))
-          (subst (λ (l : List Exchange). l ≡ map exchange (events (D .0) (sent l))) e (calls-as-model (D .0) m cs (D .1) C .answers));
       fromSetup = from-setup;
+      demand3 = λ m cs ds c C. first-setup (leftByAll m cs) c ds (calls-behind m cs (c ∷ ds) C);
       demand3Left = λ s m cs L C. behind-records s (L .store) (exchanges cs) (calls-as-model (up s) m cs L C .answers);
     }

@@ -11,7 +11,7 @@ use Rattle.model.specs.Record.{cut, recordsOf}
 use Rattle.model.specs.Demand.{Exchange}
 use Rattle.simulation.specs.Records.{recordAt, recordsIn}
 use Rattle.simulation.specs.Buffer.{exchangeAt}
-use Rattle.simulation.specs.Demands.{Call, One, Buffer, exchanged, exchanges, bytesIn, AppliedAll, HandIn}
+use Rattle.simulation.specs.Demands.{CallIn, ForRecord, ForBuffer, exchanged, exchanges, bytesIn, AppliedAll, InParts}
 use Rattle.simulation.proofs.Below.{map-map}
 
 -- k records are taken, and the bytes l are left
@@ -78,21 +78,22 @@ one-record : (b : List ℕ) → 1 ≤ length b → length b ≤ 16 → b ∷ [] 
 unfolding recordsOf cut
 one-record [] h k = absurd (omega (arith, h))
 one-record (x ∷ l) h k =
-    let none : cut (length l) (drop 16 (x ∷ l)) ≡ [] = ap (cut (length l)) (drop-of-length-le (x ∷ l) k) ∙ cut-enough (length l) 0 [] (omega arith) (omega arith) in
+    let none : cut (length l) (drop 16 (x ∷ l)) ≡ [] =
+    ap (cut (length l)) (drop-of-length-le (x ∷ l) k) ∙ cut-enough (length l) 0 [] (omega arith) (omega arith) in
     λ i. sym (take-all 16 (x ∷ l) k) i ∷ sym none i
 
-call-records : (c : Call) → AppliedAll c → map (λ (e : Exchange). e .bytes) (exchanged c) ≡ recordsOf (bytesIn c)
-call-records (One b y m) (h, k) = one-record b h k
-call-records (Buffer bytes kinds numbers n kinds′ numbers′ m) e =
+call-records : (c : CallIn) → AppliedAll c → map (λ (e : Exchange). e .bytes) (exchanged c) ≡ recordsOf (bytesIn c)
+call-records (ForRecord b y m) (h, k) = one-record b h k
+call-records (ForBuffer bytes kinds numbers n kinds′ numbers′ m) e =
     sym (map-map (λ (x : Exchange). x .bytes) (exchangeAt bytes kinds′ numbers′) (upFrom 0 n))
     ∙ ap (λ (k : ℕ). map (recordAt bytes) (upFrom 0 k)) e
     ∙ whole bytes
 
-pub handed-in : (cs : List Call) (file : List ℕ) → HandIn cs file → map (λ (e : Exchange). e .bytes) (exchanges cs) ≡ recordsOf file
-unfolding HandIn exchanges recordsOf cut
-handed-in [] file F = ap recordsOf (sym F)
-handed-in (c ∷ cs) file (A, rest, e, last, F) =
+pub parts-records : (cs : List CallIn) (file : List ℕ) → InParts cs file → map (λ (e : Exchange). e .bytes) (exchanges cs) ≡ recordsOf file
+unfolding InParts exchanges recordsOf cut
+parts-records [] file F = ap recordsOf (sym F)
+parts-records (c ∷ cs) file (A, rest, e, last, F) =
     map-append (λ (x : Exchange). x .bytes) (exchanged c) (exchanges cs)
-    ∙ (λ i. call-records c A i ++ handed-in cs rest F i)
+    ∙ (λ i. call-records c A i ++ parts-records cs rest F i)
     ∙ sym (in-parts (bytesIn c) rest last)
     ∙ ap recordsOf (sym e)

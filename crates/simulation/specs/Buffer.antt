@@ -34,7 +34,7 @@ setsUp (Asks (Begin w o)) ok = false
 setsUp (Asks (Step w)) ok = false
 setsUp (Refuses k) ok = false
 
--- Records one after the other on any memory, and their answers. Memory is tested before the first: `up` says whether it counted as set up then
+-- Records one after the other on any memory, and their answers. Memory is tested before the first (H8.8): `up` says whether it counted as set up then
 -- or a setup was accepted since.
 unfoldable pub EachOnAny : Bool → Memory → List (List ℕ) → List Answer → Memory → Type 0
 EachOnAny up m [] [] m′ = m′ ≡ m
@@ -50,9 +50,9 @@ pub record Applies (m : Memory) (bytes kinds numbers : List ℕ) (n : ℕ) (m′
   pub answers : List Answer
   pub answerKinds : kinds′ ≡ over (map kindOf answers) kinds
   pub answerNumbers : numbers′ ≡ over (map numberOf answers) numbers
-  -- Memory that holds a hub of the model: what the model does is done, and the numbers of an answer stand for it. This is demand 2.
+  -- Memory that holds a hub of the model: what the model does is done, and the numbers of an answer stand for it. This is demand 2 (H6.2).
   pub asModel : (h : Hub) → Holds h m → AsModel h m (map (exchangeAt bytes kinds′ numbers′) (upFrom 0 n)) m′
   pub readBack : Decided m → map (answerAt kinds′ numbers′) (upFrom 0 n) ≡ answers
-  -- Any memory: demand 1, and what the loop does.
+  -- Any memory: demand 1 (H6.1), and what the loop does.
   pub onAny : EachOnAny (ready m) m (map (recordAt bytes) (upFrom 0 n)) answers m′
   pub ran : RanAll m bytes kinds numbers n m′ kinds′ numbers′

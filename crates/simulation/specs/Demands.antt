@@ -1,5 +1,6 @@
--- The demands of document 01, of what the code answers and leaves, for every list of calls. This is the statement to read first. Demands 1 and 2
--- are parts of the contracts of the public functions, `Does` and `Applies`; the rest is proved in proofs/Demands.antt from these contracts alone.
+-- The demands of document 01 (H6.1 to H6.3), of what the code answers and leaves, for every list of calls. This is the statement to read first.
+-- Demand 1 and, call by call, demand 2 are parts of the contracts of the public functions, `Does` and `Applies`; the rest is proved in
+-- proofs/Demands.antt from these contracts alone.
 use mathlib.Core.Path.{_≡_}
 use mathlib.Core.Bool.{true}
 use mathlib.Core.Logic.{_⊎_}
@@ -25,58 +26,65 @@ use Rattle.simulation.specs.Buffer.{exchangeAt, Applies}
 -- Calls one after the other
 
 -- a call for one record, or for a buffer: what it was lent and gave back beside the memory, and the memory after it
-pub data Call : Type 0 where
+pub data CallIn : Type 0 where
   -- the record, its answer
-  One : List ℕ → Answer → Memory → Call
+  ForRecord : List ℕ → Answer → Memory → CallIn
   -- the bytes, the two rows before it, how many records it applied, the rows after it
-  Buffer : List ℕ → List ℕ → List ℕ → ℕ → List ℕ → List ℕ → Memory → Call
+  ForBuffer : List ℕ → List ℕ → List ℕ → ℕ → List ℕ → List ℕ → Memory → CallIn
 
-abbrev pub leftBy : Call → Memory
-leftBy (One b y m) = m
-leftBy (Buffer bytes kinds numbers n kinds′ numbers′ m) = m
+abbrev pub leftBy : CallIn → Memory
+leftBy (ForRecord b y m) = m
+leftBy (ForBuffer bytes kinds numbers n kinds′ numbers′ m) = m
 
 -- the call, on memory m, did what its contract says
-abbrev pub Called : Memory → Call → Type 0
-Called m (One b y m′) = Does m b y m′
-Called m (Buffer bytes kinds numbers n kinds′ numbers′ m′) = Applies m bytes kinds numbers n m′ kinds′ numbers′
+abbrev pub Called : Memory → CallIn → Type 0
+Called m (ForRecord b y m′) = Does m b y m′
+Called m (ForBuffer bytes kinds numbers n kinds′ numbers′ m′) = Applies m bytes kinds numbers n m′ kinds′ numbers′
 
--- Calls in any mix, the first on memory m: each is lent the memory as the last one left it, and nobody else writes it in between.
-unfoldable pub Calls : Memory → List Call → Type 0
+-- Calls in any mix, the first on memory m: each is lent the memory as the one before left it, and nobody else writes to it (H6.5).
+unfoldable pub Calls : Memory → List CallIn → Type 0
 Calls m [] = Unit {0}
 Calls m (c ∷ cs) = Called m c × Calls (leftBy c) cs
 
-unfoldable pub leftByAll : Memory → List Call → Memory
+-- the memory after them
+unfoldable pub leftByAll : Memory → List CallIn → Memory
 leftByAll m [] = m
 leftByAll m (c ∷ cs) = leftByAll (leftBy c) cs
 
 -- what was sent and answered, in a call and in a list of them
-abbrev pub exchanged : Call → List Exchange
-exchanged (One b y m) = exchangeOf b y ∷ []
-exchanged (Buffer bytes kinds numbers n kinds′ numbers′ m) = map (exchangeAt bytes kinds′ numbers′) (upFrom 0 n)
+abbrev pub exchanged : CallIn → List Exchange
+exchanged (ForRecord b y m) = exchangeOf b y ∷ []
+exchanged (ForBuffer bytes kinds numbers n kinds′ numbers′ m) = map (exchangeAt bytes kinds′ numbers′) (upFrom 0 n)
 
-unfoldable pub exchanges : List Call → List Exchange
+unfoldable pub exchanges : List CallIn → List Exchange
 exchanges [] = []
 exchanges (c ∷ cs) = exchanged c ++ exchanges cs
 
 -- the bytes that a call was lent, and that it applied all records of them
-abbrev pub bytesIn : Call → List ℕ
-bytesIn (One b y m) = b
-bytesIn (Buffer bytes kinds numbers n kinds′ numbers′ m) = bytes
+abbrev pub bytesIn : CallIn → List ℕ
+bytesIn (ForRecord b y m) = b
+bytesIn (ForBuffer bytes kinds numbers n kinds′ numbers′ m) = bytes
 
-abbrev pub AppliedAll : Call → Type 0
-AppliedAll (One b y m) = (1 ≤ length b) × (length b ≤ 16)
-AppliedAll (Buffer bytes kinds numbers n kinds′ numbers′ m) = n ≡ recordsIn bytes
+abbrev pub AppliedAll : CallIn → Type 0
+AppliedAll (ForRecord b y m) = (1 ≤ length b) × (length b ≤ 16)
+AppliedAll (ForBuffer bytes kinds numbers n kinds′ numbers′ m) = n ≡ recordsIn bytes
 
--- The calls hand a file in, part by part: each part but the last is whole records.
-unfoldable pub HandIn : List Call → List ℕ → Type 0
-HandIn [] file = file ≡ []
-HandIn (c ∷ cs) file =
+-- The calls apply a file part by part: each part but the last is whole records.
+unfoldable pub InParts : List CallIn → List ℕ → Type 0
+InParts [] file = file ≡ []
+InParts (c ∷ cs) file =
     AppliedAll c
     × (rest : List ℕ) × (file ≡ bytesIn c ++ rest) × ((length (bytesIn c) % 16 ≡ 0) ⊎ (rest ≡ []))
-    × HandIn cs rest
+    × InParts cs rest
 
 ------------------------------------------------------------------------
 -- The demands
+
+-- In what was sent and answered a setup of the bytes b was accepted, after es and before fs.
+pub record Accepts (l es : List Exchange) (b : List ℕ) (fs : List Exchange) : Type 0 where
+  pub sizes : Sizes
+  pub setup : decode b ≡ Asks (SetUp sizes)
+  pub place : l ≡ es ++ (record { bytes = b; answer = Ok } ∷ fs)
 
 -- Demand 3 of records after an accepted setup, which left the hub h: first `old`, each under its own rules, then those of calls, es. What the
 -- code answered is what the model answers, and of the model's events demand 3 holds: there is one order of the operations in which every
@@ -87,25 +95,23 @@ pub record CodeDemand3 (h : Hub) (old : List Ruled) (es : List Exchange) : Type 
 
 pub record Demands : Type 0 where
   -- Demand 2 of calls in any mix.
-  pub demand2 : (h : Hub) (m : Memory) (cs : List Call) → Holds h m → Calls m cs → AsModel h m (exchanges cs) (leftByAll m cs)
-  -- So the same records are answered the same and leave the same memory, one by one, in one buffer or in several.
-  pub anyCalls : (m : Memory) (cs ds : List Call) → Decided m → Calls m cs → Calls m ds → sent (exchanges cs) ≡ sent (exchanges ds)
+  pub demand2 : (h : Hub) (m : Memory) (cs : List CallIn) → Holds h m → Calls m cs → AsModel h m (exchanges cs) (leftByAll m cs)
+  -- So the same records are answered the same and leave the same memory, one by one, in one buffer or in several (H8.8).
+  pub anyCalls : (m : Memory) (cs ds : List CallIn) → Decided m → Calls m cs → Calls m ds → sent (exchanges cs) ≡ sent (exchanges ds)
       → (exchanges cs ≡ exchanges ds) × (leftByAll m cs ≡ leftByAll m ds)
-  -- The answers to a file that is handed in are those of the model's log of it.
-  pub log : (h : Hub) (m : Memory) (cs : List Call) (file : List ℕ) → Holds h m → Calls m cs → HandIn cs file
+  -- The answers to a file are those of the model's log of it.
+  pub log : (h : Hub) (m : Memory) (cs : List CallIn) (file : List ℕ) → Holds h m → Calls m cs → InParts cs file
       → map (λ e. e .answer) (exchanges cs) ≡ answersTo h (allUnder inForce (recordsOf file))
-  -- In a row of more than 2048 slots the contract of a buffer speaks of the first 2048. A call for one record does its work in them too.
+  -- Of a row of more than 2048 slots the contract of a buffer names the first 2048; a call for one record keeps to them too (H8.7).
   pub firstSlots : (m m′ : Memory) (b : List ℕ) (y : Answer) → Sized m → Does m b y m′ → Does (cut m) b y (cut m′)
-  -- Memory that records left counts as set up.
+  -- Memory that records left counts as set up (H8.5).
   pub leftIsReady : (s : Store) (m : Memory) → Left s m → Sized m → ready m ≡ true
-  -- Demand 3, of a setup that was accepted at any record of any call, and of all records after it.
-  pub demand3 : (m : Memory) (cs : List Call) → Decided m → Calls m cs
-      → (es fs : List Exchange) (b : List ℕ) (z : Sizes) → exchanges cs ≡ es ++ (record { bytes = b; answer = Ok } ∷ fs) → decode b ≡ Asks (SetUp z)
-      → CodeDemand3 (apply inForce (blank (map slotOf (m .slots))) b .hub) [] fs
-  -- Memory on which a call accepts a setup did not count as set up: demand 3 holds from any memory on whose first call does.
-  pub fromSetup : (m : Memory) (c : Call) → Called m c
-      → (es fs : List Exchange) (b : List ℕ) (z : Sizes) → exchanged c ≡ es ++ (record { bytes = b; answer = Ok } ∷ fs) → decode b ≡ Asks (SetUp z)
-      → Decided m
+  -- Memory, whoever left it, on which a call accepts a setup did not count as set up.
+  pub fromSetup : (m : Memory) (c : CallIn) → Called m c → (es fs : List Exchange) (b : List ℕ) → Accepts (exchanged c) es b fs → Decided m
+  -- Demand 3, from any memory on: of a setup that was accepted at any record of any call, and of all records after it.
+  pub demand3 : (m : Memory) (cs ds : List CallIn) (c : CallIn) → Calls m (cs ++ (c ∷ ds))
+      → (es fs : List Exchange) (b : List ℕ) → Accepts (exchanged c) es b fs
+      → CodeDemand3 (apply inForce (blank (map slotOf (leftByAll m cs .slots))) b .hub) [] (fs ++ exchanges ds)
   -- Demand 3 of the records that left the memory, under whatever rules, and of the calls after them.
-  pub demand3Left : (s : Store) (m : Memory) (cs : List Call) (L : Left s m) → Calls m cs
+  pub demand3Left : (s : Store) (m : Memory) (cs : List CallIn) (L : Left s m) → Calls m cs
       → CodeDemand3 (applyRuled (blank (L .store .row)) (L .store .setup) .hub) (L .store .records) (exchanges cs)

@@ -15,8 +15,8 @@ abbrev pub Holds : Hub → Memory → Type 0
 Holds (blank row) m = (ready m ≡ false) × (row ≡ map slotOf (m .slots))
 Holds (up s) m = Left s m
 
--- Memory on which document 01 decides everything. On memory that counts as set up and that no records left it leaves open what a record does
--- beyond what `OnAny` says (specs/Public.antt); that the functions are proved says that a call ends inside its bounds there too.
+-- Memory on which the rules decide everything. On memory that counts as set up and that no records left they leave open what a record does
+-- beyond what `OnAny` says (H8.6); that the functions are proved says that a call ends inside its bounds there too.
 abbrev pub Decided : Memory → Type 0
 Decided m = (h : Hub) × Holds h m
 

@@ -60,11 +60,11 @@ EndsBy up m d (some k) m′ = Refused up m d k m′
 
 -- What holds on any memory m, where `up` says whether it counts as set up, of a record of the bytes b, its answer y and the memory m′ after it.
 pub record OnAny (up : Bool) (m : Memory) (b : List ℕ) (y : Answer) (m′ : Memory) : Type 0 where
-  -- demand 1
+  -- demand 1 (H6.1)
   pub ends : EndsBy up m (decode b) (said (answerOf y) .refusal) m′
-  -- 6, 1 and 2 come from the bytes alone
+  -- 6, 1 and 2 come from the bytes alone, before memory is tested (H8.2)
   pub reading : (k : ℕ) → decode b ≡ Refuses k → (answerOf y ≡ No k) × (m′ ≡ m)
-  -- a setup on memory that counts as set up gets 9
+  -- a setup on memory that counts as set up gets 9 (H8.6)
   pub nine : up ≡ true → (z : Sizes) → decode b ≡ Asks (SetUp z) → answerOf y ≡ No 9
 
 -- what was sent and answered
@@ -73,7 +73,7 @@ exchangeOf b y = record { bytes = b; answer = answerOf y }
 
 -- A record of the bytes b, any bytes and any number of them, met the memory m, was answered y and left the memory m′.
 pub record Does (m : Memory) (b : List ℕ) (y : Answer) (m′ : Memory) : Type 0 where
-  -- Memory that holds a hub of the model: what the model does is done. This is demand 2. Where the memory does not count as set up, every
+  -- Memory that holds a hub of the model: what the model does is done. This is demand 2 (H6.2). Where the memory does not count as set up, every
   -- record but a setup that gets that far gets 8, and a setup is accepted or gets 5.
   pub asModel : (h : Hub) → Holds h m → AsModel h m (exchangeOf b y ∷ []) m′
   -- Any memory.

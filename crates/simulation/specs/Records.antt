@@ -3,11 +3,11 @@ use mathlib.Core.List.{List}
 use Prim.Native.Nat.{ℕ, _+_, _*_, _/_, min}
 use lib.ListN.{length, take, drop}
 
--- "The program takes the file sixteen bytes at a time": record k, or as much of it as is left
+-- record k, sixteen bytes or as much of it as is left (H3.5)
 abbrev pub recordAt : List ℕ → ℕ → List ℕ
 recordAt bytes k = take 16 (drop (16 * k) bytes)
 
--- "A rest of 1 to 15 bytes at the end of the file is one more record"
+-- a rest of 1 to 15 bytes is one more record (H3.6)
 abbrev pub recordsIn : List ℕ → ℕ
 recordsIn bytes = (length bytes + 15) / 16
 
