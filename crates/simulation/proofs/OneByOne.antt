@@ -158,3 +158,13 @@ module _ (steps : StepsSimulate) (m : Memory) (bytes : List ℕ) (h : Model.Hub)
   -- each record does what the contract of one record says
   pub does-each : (k : ℕ) → Does (stateAt m bytes k .memory) (recordAt bytes k) (answerTo m bytes k) (stateAt m bytes (suc k) .memory)
   does-each k = does-next k (so-far k)
+
+  -- and is the call for one record, which tests the memory anew
+  pub one-by-one : (k : ℕ)
+      → (stateAt m bytes (suc k) .memory ≡ doneOf (stateAt m bytes k .memory) (recordAt bytes k) .memory)
+      × (answerTo m bytes k ≡ doneOf (stateAt m bytes k .memory) (recordAt bytes k) .answer)
+  unfolding after next doneOf
+  one-by-one k =
+      let x : Memory = stateAt m bytes k .memory in
+      let f = so-far k .flag in
+      (λ i. doneAs (f i) x (recordAt bytes k) .memory, λ i. doneAs (f i) x (recordAt bytes k) .answer)
