@@ -10,6 +10,7 @@ use borrow.Author.Tests.{leb-true}
 use Rattle.state.specs.declared.Hub.{Hub}
 use Rattle.gate.specs.Gate.{sizesOk}
 use Rattle.ready.specs.Ready.{sizesFit, readyOf}
+use Rattle.ready.proofs.Sizes.{sizes-tell}
 
 both : (a b : Bool) → a && b ≡ true → (a ≡ true) × (b ≡ true)
 both true b e = (refl, e)
@@ -21,17 +22,8 @@ passed false y e = e
 
 pub ready-few : (h : Hub) (newest free queue lens merged : List ℕ) (linked : Bool) (long : ℕ)
     → readyOf h newest free queue lens merged linked long ≡ true → h .p ≤ 16
-unfolding readyOf sizesFit
-ready-few h newest free queue lens merged linked long e =
-    let P : Bool = leb 1 (h .p) && leb (h .p) 16 in
-    let V′ : Bool = leb 1 (h .v) && leb (h .v) 256 in
-    let N′ : Bool = leb (h .v) (h .n) && leb (h .n) 2048 && leb (h .n) long in
-    let C : Bool = leb (h .free) 2048 && leb (h .pools) 2048 && leb (h .queued) 2048 in
-    let s = passed (P && V′ && N′ && C) _ e in
-    let a = both (P && V′ && N′) C s in
-    let b = both (P && V′) N′ (a .0) in
-    let c = both P V′ (b .0) in
-    leb-true (h .p) 16 (both (leb 1 (h .p)) (leb (h .p) 16) (c .0) .1)
+unfolding readyOf
+ready-few h newest free queue lens merged linked long e = sizes-tell h long (passed (sizesFit h long) _ e) .p .1
 
 pub sizes-few : (p v n k long : ℕ) → sizesOk p v n k long ≡ true → (p ≤ 16) × (n ≤ 2048) × (v ≤ n)
 unfolding sizesOk

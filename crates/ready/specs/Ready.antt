@@ -1,10 +1,11 @@
--- Whether lent memory counts as set up: "a row too short, or a slot, register, place in an operation or count in it outside its range,
--- counts as not set up".
+-- Whether lent memory counts as set up (H8.3): the test that the code makes, scan by scan. What passes it is said without a test in
+-- `simulation` Ranges.
 use mathlib.Core.Bool.{Bool, true, false, cond, _&&_}
 use mathlib.Core.List.{List}
-use Prim.Native.Nat.{ℕ, zero, suc, _+_, _*_}
+use Prim.Native.Nat.{ℕ, zero, suc, _+_, _*_, _-_, min}
 use lib.Dec.{ltb, leb, eqb}
 use lib.ListN.{getD}
+use Rattle.model.specs.Batch.{batchOf}
 use Rattle.worker.specs.declared.Named.{Named}
 use Rattle.worker.specs.declared.Named.the-variants.{Nothing, Is}
 use Rattle.worker.specs.declared.Facts.{Facts}
@@ -24,20 +25,20 @@ unfoldable pub slotsBelow : List ℕ → ℕ → ℕ → ℕ → Bool
 slotsBelow words i n zero = true
 slotsBelow words i n (suc k) = slotsBelow words i n k && ltb (getD words (3 * (i + k)) 0) n
 
--- a local pool has at most 64 ranges, and their slots are below n
-unfoldable pub poolFits : Pool → ℕ → Bool
-poolFits q n = cond (ltb 64 (q .len)) false (belowTo (q .slots) n (q .len))
+-- a local pool has at most so many ranges, and their slots are below n
+unfoldable pub poolFits : Pool → ℕ → ℕ → Bool
+poolFits q most n = cond (ltb most (q .len)) false (belowTo (q .slots) n (q .len))
 
--- the merged list of worker w, of m ranges: at most 256, in its part of the memory, and their slots are below n
-abbrev pub listFits : ℕ → ℕ → List ℕ → ℕ → Bool
-listFits m w merged n = cond (ltb 256 m) false (slotsBelow merged (256 * w) n m)
+-- the list in hand of worker w, of m ranges: at most so many, in its part of the memory, and their slots are below n
+abbrev pub listFits : ℕ → ℕ → List ℕ → ℕ → ℕ → Bool
+listFits m w merged most n = cond (ltb most m) false (slotsBelow merged (256 * w) n m)
 
-abbrev pub rangesFit : Named → ℕ → List ℕ → ℕ → Bool
-rangesFit Nothing w merged n = true
-rangesFit (Is m) w merged n = listFits m w merged n
+abbrev pub rangesFit : Named → ℕ → List ℕ → ℕ → ℕ → Bool
+rangesFit Nothing w merged most n = true
+rangesFit (Is m) w merged most n = listFits m w merged most n
 
-unfoldable pub handFits : Named → ℕ → List ℕ → ℕ → Bool
-handFits x w merged n = cond (leb 16 w) false (rangesFit x w merged n)
+unfoldable pub handFits : Named → ℕ → List ℕ → ℕ → ℕ → Bool
+handFits x w merged most n = cond (leb 16 w) false (rangesFit x w merged most n)
 
 -- a register or a slot, if there is one, is below n
 abbrev pub namedBelow : Named → ℕ → Bool
@@ -48,39 +49,47 @@ namedBelow (Is i) n = ltb i n
 unfoldable pub placeFits : Facts → ℕ → ℕ → ℕ → Bool
 placeFits y p v n = namedBelow (y .register) v && namedBelow (y .slot) n && leb (y .read) p
 
-unfoldable pub workerFits : Worker → ℕ → List ℕ → ℕ → ℕ → ℕ → Bool
-workerFits x w merged p v n =
+-- a worker's record, with at most so many ranges in its local pool and in its list in hand
+unfoldable pub workerFits : Worker → ℕ → List ℕ → ℕ → ℕ → ℕ → ℕ → ℕ → Bool
+workerFits x w merged local list p v n =
     let y = aboutOf (x .doing) in
-    placeFits y p v n && poolFits (x .pool) n && handFits (y .ranges) w merged n
+    placeFits y p v n && poolFits (x .pool) local n && handFits (y .ranges) w merged list n
 
 -- the first k workers
-unfoldable pub workersFit : Hub → List ℕ → ℕ → Bool
-workersFit h merged zero = true
-workersFit h merged (suc k) = workersFit h merged k && workerFits (workerIn h k) k merged (h .p) (h .v) (h .n)
+unfoldable pub workersFit : Hub → List ℕ → ℕ → ℕ → ℕ → Bool
+workersFit h merged local list zero = true
+workersFit h merged local list (suc k) =
+    workersFit h merged local list k && workerFits (workerIn h k) k merged local list (h .p) (h .v) (h .n)
 
--- each of the first k pools has 1 to 128 ranges, twice the largest batch size
-unfoldable pub lensFit : List ℕ → ℕ → Bool
-lensFit lens zero = true
-lensFit lens (suc k) = lensFit lens k && (leb 1 (getD lens k 0) && leb (getD lens k 0) 128)
+-- each of the first k pools has 1 to so many ranges
+unfoldable pub lensFit : List ℕ → ℕ → ℕ → Bool
+lensFit lens most zero = true
+lensFit lens most (suc k) = lensFit lens most k && (leb 1 (getD lens k 0) && leb (getD lens k 0) most)
 
 -- how many ranges they have together
 unfoldable pub lensSum : List ℕ → ℕ → ℕ
 lensSum lens zero = 0
 lensSum lens (suc k) = lensSum lens k + getD lens k 0
 
+-- how many slots hold no register's newest version
+abbrev pub besides : Hub → ℕ
+besides h = h .n - h .v
+
 -- the sizes and counts, with a row of so many slots
 unfoldable pub sizesFit : Hub → ℕ → Bool
 sizesFit h long =
     (leb 1 (h .p) && leb (h .p) 16 && (leb 1 (h .v) && leb (h .v) 256))
     && (leb (h .v) (h .n) && leb (h .n) 2048 && leb (h .n) long)
-    && (leb (h .free) 2048 && leb (h .pools) 2048 && leb (h .queued) 2048)
+    && (leb (h .free) (besides h) && leb (h .pools) (h .queued) && leb (h .queued) (besides h))
 
 -- Lent memory counts as set up: the hub, newest, free, queue, lens, merged; `linked` says that every neighbour in the row of slots is in range.
+-- A local pool has at most B ranges, a queued one 2B, a list in hand 4B, and none has more than there are slots besides the newest.
 unfoldable pub readyOf : Hub → List ℕ → List ℕ → List ℕ → List ℕ → List ℕ → Bool → ℕ → Bool
 readyOf h newest free queue lens merged linked long =
+    let b = batchOf (h .p) in
     cond (sizesFit h long)
     (belowTo newest (h .n) (h .v) && belowTo free (h .n) (h .free)
-    && (slotsBelow queue 0 (h .n) (h .queued) && lensFit lens (h .pools))
-    && (eqb (lensSum lens (h .pools)) (h .queued) && workersFit h merged (h .p))
+    && (slotsBelow queue 0 (h .n) (h .queued) && lensFit lens (2 * b) (h .pools))
+    && (eqb (lensSum lens (h .pools)) (h .queued) && workersFit h merged (min b (besides h)) (min (4 * b) (besides h)) (h .p))
     && linked)
     false

@@ -1,7 +1,8 @@
 // Whether lent memory counts as set up: a test of all of it, by scans without branches.
 ghost use mathlib.Core.Path.{_≡_};
-ghost use Prim.Native.Nat.{_+_, _*_, _<_, _≤_};
+ghost use Prim.Native.Nat.{_+_, _*_, _-_, _<_, _≤_, min};
 ghost use lib.ListN.{length};
+ghost use Rattle.model.specs.Batch.{batchOf};
 ghost use Rattle.ready.specs.Ready.{belowTo, slotsBelow, poolFits, listFits, handFits, namedBelow, placeFits, workerFits, workersFit, lensFit, lensSum, sizesFit, readyOf};
 use state::Hub;
 use worker::Facts;
@@ -19,6 +20,35 @@ fn wide32(x: u32) -> usize
     ensures { λ r. ⌜ (r ≡ x) × (r < 4294967296) ⌝ }
 {
     x as usize
+}
+
+// The smaller of the two numbers.
+fn least(a: usize, b: usize) -> usize
+    ensures { λ r. ⌜ r ≡ min a b ⌝ }
+{
+    if a < b {
+        return a;
+    }
+    b
+}
+
+// N - V, and 0 where V is larger.
+fn besides(v: usize, n: usize) -> usize
+    ensures { λ r. ⌜ r ≡ n - v ⌝ }
+{
+    if v <= n {
+        return n - v;
+    }
+    0
+}
+
+// B for p workers, which is at most 64.
+fn batch_of(p: usize) -> usize
+    requires { ⌜ (1 ≤ p) × (p ≤ 16) ⌝ }
+    ensures { λ r. ⌜ (r ≡ batchOf p) × (r ≤ 64) ⌝ }
+{
+    let b = batch::batch(p as u8);
+    b as usize
 }
 
 // Whether the first k numbers are below n.
@@ -46,38 +76,41 @@ fn slots_below(words: &[u32], i: usize, k: usize, n: u32) -> bool
 }
 
 // Whether a local pool's count and slots are in range.
-fn pool_fits(q: Pool, n: u16) -> bool
-    ensures { λ r. ⌜ r ≡ poolFits q n ⌝ }
+fn pool_fits(q: Pool, most: usize, n: u16) -> bool
+    requires { ⌜ most ≤ 64 ⌝ }
+    ensures { λ r. ⌜ r ≡ poolFits q most n ⌝ }
 {
     let len = q.len;
-    if 64 < len {
+    if most < len {
         return false;
     }
     let slots = q.slots;
     all_below(&slots, len, n)
 }
 
-// Whether the merged list of worker w, of m ranges, is in its part of the memory and its slots are in range.
-fn list_fits(m: u16, w: usize, merged: &[u32; 12288], n: u32) -> bool
-    requires { ⌜ w < 16 ⌝ }
-    ensures { λ r. ⌜ r ≡ listFits m w (now (merged .entry)) n ⌝ }
+// Whether the list in hand of worker w has at most so many ranges, of which there are m, and its slots are in range.
+fn list_fits(m: u16, w: usize, merged: &[u32; 12288], most: usize, n: u32) -> bool
+    requires { ⌜ (w < 16) × (most ≤ 256) ⌝ }
+    ensures { λ r. ⌜ r ≡ listFits m w (now (merged .entry)) most n ⌝ }
 {
-    if 256 < m {
+    let k = wide16(m);
+    if most < k {
         return false;
     }
-    slots_below(merged, 256 * w, wide16(m), n)
+    slots_below(merged, 256 * w, k, n)
 }
 
 // The same of the list that worker w's place has, if there is one.
-fn hand_fits(ranges: Named, w: usize, merged: &[u32; 12288], n: u32) -> bool
-    ensures { λ r. ⌜ r ≡ handFits ranges w (now (merged .entry)) n ⌝ }
+fn hand_fits(ranges: Named, w: usize, merged: &[u32; 12288], most: usize, n: u32) -> bool
+    requires { ⌜ most ≤ 256 ⌝ }
+    ensures { λ r. ⌜ r ≡ handFits ranges w (now (merged .entry)) most n ⌝ }
 {
     if 16 <= w {
         return false;
     }
     match ranges {
         Named::Nothing => true,
-        Named::Is(m) => list_fits(m, w, merged, n),
+        Named::Is(m) => list_fits(m, w, merged, most, n),
     }
 }
 
@@ -100,21 +133,31 @@ fn place_fits(y: Facts, p: u8, v: u16, n: u16) -> bool
     (below(register, v) & below(slot, n)) & (y.read <= p)
 }
 
-// Whether worker w's record x is in range.
-fn worker_fits(x: Worker, w: usize, merged: &[u32; 12288], p: u8, v: u16, n: u16) -> bool
-    ensures { λ r. ⌜ r ≡ workerFits x w (now (merged .entry)) p v n ⌝ }
+// Whether worker w's record x is in range, with at most so many ranges in its local pool and in its list in hand.
+fn worker_fits(
+    x: Worker,
+    w: usize,
+    merged: &[u32; 12288],
+    local: usize,
+    list: usize,
+    p: u8,
+    v: u16,
+    n: u16,
+) -> bool
+    requires { ⌜ (local ≤ 64) × (list ≤ 256) ⌝ }
+    ensures { λ r. ⌜ r ≡ workerFits x w (now (merged .entry)) local list p v n ⌝ }
 {
     let d = x.doing;
     let y = worker::about(d);
     let ranges = y.ranges;
     let q = x.pool;
-    (place_fits(y, p, v, n) & pool_fits(q, n)) & hand_fits(ranges, w, merged, n as u32)
+    (place_fits(y, p, v, n) & pool_fits(q, local, n)) & hand_fits(ranges, w, merged, list, n as u32)
 }
 
 // Whether the first p workers' records are in range.
-fn workers_fit(hub: Hub, merged: &[u32; 12288]) -> bool
-    requires { ⌜ (hub .p ≤ 16) × (hub .v ≤ 256) × (hub .n ≤ 2048) ⌝ }
-    ensures { λ r. ⌜ r ≡ workersFit hub (now (merged .entry)) (hub .p) ⌝ }
+fn workers_fit(hub: Hub, merged: &[u32; 12288], local: usize, list: usize) -> bool
+    requires { ⌜ (hub .p ≤ 16) × (hub .v ≤ 256) × (hub .n ≤ 2048) × (local ≤ 64) × (list ≤ 256) ⌝ }
+    ensures { λ r. ⌜ r ≡ workersFit hub (now (merged .entry)) local list (hub .p) ⌝ }
 {
     let k = hub.p;
     let p = k as u8;
@@ -123,20 +166,20 @@ fn workers_fit(hub: Hub, merged: &[u32; 12288]) -> bool
     let mut ok = true;
     for w in 0..k {
         let x = hub.workers[w];
-        ok = ok & worker_fits(x, w, merged, p, v, n);
+        ok = ok & worker_fits(x, w, merged, local, list, p, v, n);
     }
     ok
 }
 
-// Whether the first k pools have 1 to 128 ranges each.
-fn lens_fit(lens: &[u32; 2048], k: usize) -> bool
+// Whether the first k pools have 1 to so many ranges each.
+fn lens_fit(lens: &[u32; 2048], k: usize, most: u32) -> bool
     requires { ⌜ k ≤ 2048 ⌝ }
-    ensures { λ r. ⌜ r ≡ lensFit (now (lens .entry)) k ⌝ }
+    ensures { λ r. ⌜ r ≡ lensFit (now (lens .entry)) most k ⌝ }
 {
     let mut ok = true;
     for i in 0..k {
         let x = lens[i];
-        ok = ok & ((1 <= x) & (x <= 128));
+        ok = ok & ((1 <= x) & (x <= most));
     }
     ok
 }
@@ -160,9 +203,10 @@ fn sizes_fit(hub: Hub, long: usize) -> bool
     let p = hub.p;
     let v = hub.v;
     let n = hub.n;
+    let most = besides(v, n);
     (((1 <= p) & (p <= 16)) & ((1 <= v) & (v <= 256)))
         & (((v <= n) & (n <= 2048)) & (n <= long))
-        & (((hub.free <= 2048) & (hub.pools <= 2048)) & (hub.queued <= 2048))
+        & (((hub.free <= most) & (hub.pools <= hub.queued)) & (hub.queued <= most))
 }
 
 // Whether lent memory counts as set up. `linked` says it of the neighbours in the row of slots, which has so many.
@@ -183,12 +227,14 @@ pub fn ready<'a>(
 {
     if sizes_fit(hub, long) {
         let n = hub.n as u16;
+        let size = batch_of(hub.p);
+        let most = besides(hub.v, hub.n);
         let a = all_below(newest, hub.v, n);
         let b = all_below(free, hub.free, n);
         let c = slots_below(queue, 0, hub.queued, n as u32);
-        let d = lens_fit(lens, hub.pools);
+        let d = lens_fit(lens, hub.pools, (2 * size) as u32);
         let e = lens_sum(lens, hub.pools) == hub.queued;
-        let f = workers_fit(hub, merged);
+        let f = workers_fit(hub, merged, least(size, most), least(4 * size, most));
         return (((a & b) & (c & d)) & (e & f)) & linked;
     }
     false

@@ -32,6 +32,7 @@ pub mod Fresh
 pub mod Below
 pub mod Setup
 pub mod Scans
+pub mod Ranges
 pub mod Ready
 pub mod Again
 pub mod Ends

@@ -1,40 +1,44 @@
--- Memory in which a sound store lies counts as set up: each entry that the test of lent memory looks at is one of the store's, and the
--- store's numbers are in range.
+-- Memory in which a sound store lies counts as set up: each entry that has a range is one of the store's, and the store's numbers are in
+-- range.
 use mathlib.Core.Path.{_≡_, refl, sym, ap, _∙_, subst}
 use mathlib.Core.Bool.{true}
 use mathlib.Core.List.{List, [], _∷_, map, reverse}
-use Prim.Native.Nat.{ℕ, _+_, _*_, _≤_, _<_}
+use Prim.Native.Nat.{ℕ, _+_, _*_, _-_, _≤_, _<_}
 use native.Mathlib.Omega.{arith}
 use lib.Dec.{leb}
 use lib.ListN.{length, getD, drop, length-map, length-append, length-reverse}
 use lib.Seq.{getD-take, getD-drop}
-use borrow.Author.Tests.{lt-ltb, le-ltb, le-leb, lt-leb}
+use borrow.Author.Tests.{lt-ltb, le-leb, lt-leb}
 use Rattle.lists.specs.Over.{over}
 use Rattle.lists.proofs.Over.{getD-over-in}
 use Rattle.model.specs.Store as Model
-use Rattle.model.specs.Store.{Store, Range, absent, workerAt, newestOf}
+use Rattle.model.specs.Store.{Store, Range, absent, startWorker, workerAt, newestOf}
+use Rattle.model.specs.About.{about}
+use Rattle.model.specs.Batch.{batchOf}
 use Rattle.model.specs.Demand.{All}
-use Rattle.model.specs.Reached.{sumBy}
+use Rattle.model.specs.Reached.{sumBy, inHand, versionsHeld}
 use Rattle.model.proofs.Basic.{All-map, All-occurrences, getD-map, All-at}
+use Rattle.model.proofs.Count.{sumBy-one}
 use Rattle.worker.specs.About.{aboutOf}
 use Rattle.worker.specs.Rep.{padded, poolRep, doingRep}
 use Rattle.worker.proofs.Rep.{padded-at}
-use Rattle.slots.specs.Slots.{vacantSlot, linkedTo}
-use Rattle.state.specs.declared.Hub.{Hub}
+use Rattle.slots.specs.Slots.{vacantSlot}
 use Rattle.state.specs.State.{workerIn}
 use Rattle.ranges.specs.Words.{flat}
 use Rattle.ranges.proofs.WordLaws.{length-flat}
 use Rattle.queue.specs.Rep.{joinedRanges}
 use Rattle.flush.specs.Flush.{partOf}
-use Rattle.ready.specs.Ready.{poolFits, listFits, rangesFit, handFits, placeFits, workerFits, lensSum, readyOf}
-use Rattle.simulation.specs.Memory.{Memory, hubRep, handWords, inHandWords, write}
+use Rattle.ready.specs.Ready.{poolFits, listFits, rangesFit, handFits, placeFits, workerFits, lensSum}
+use Rattle.simulation.specs.Memory.{Memory, memory, hubRep, handWords, inHandWords, write}
 use Rattle.simulation.specs.Left.{Sized, ready}
+use Rattle.simulation.specs.Ranges.{InRanges}
 use Rattle.simulation.proofs.Each.{All-reverse, All-joined}
-use Rattle.simulation.proofs.Scans.{below-yes, slots-yes, ranges-below, NearIn, linked-yes, lens-yes, lens-sum, workers-yes, pool-yes}
-use Rattle.simulation.proofs.Scans.{SizesIn, sizes-yes, Passes, passes}
+use Rattle.simulation.proofs.Scans as Scans
+use Rattle.simulation.proofs.Scans.{ranges-below, NearIn, lens-sum}
+use Rattle.simulation.proofs.Ranges.{local, list, worker-tells, ready-exact}
 use Rattle.simulation.proofs.Laws.{getD-inside, slots-long}
 use Rattle.simulation.proofs.Sound.{RangeIn, PlaceIn, Sound}
-use Rattle.simulation.proofs.Laid.{hub-is, slots-is, newest-is, free-is, queue-is, lens-is, slot-is, worker-at, pool-short, list-is}
+use Rattle.simulation.proofs.Laid.{memory-path, hub-is, slots-is, newest-is, free-is, queue-is, lens-is, slot-is, worker-at, among, pool-short, list-is}
 
 ------------------------------------------------------------------------
 -- One worker
@@ -70,38 +74,38 @@ place-yes s t d a = go d a
     go (Model.ReadStand g c) a = rw (lt-ltb (g .register) v (a .0), lt-ltb c n (a .1), none)
     go (Model.GetShow r) a = rw (lt-ltb r v a, none)
 
--- a list of at most 256 ranges in a worker's part of the memory
-list-yes : (l : List Range) (n w : ℕ) (merged : List ℕ) → length l ≤ 256 → All (λ ρ. ρ .slot < n) l
-    → partOf merged w ≡ over (flat l) (partOf merged w) → listFits (length l) w merged n ≡ true
-list-yes l n w merged h t e = rw (le-ltb 256 (length l) h) (slots-yes merged (256 * w) n (length l) at)
+-- a list of ranges in a worker's part of the memory
+list-yes : (l : List Range) (n w : ℕ) (merged : List ℕ) (most : ℕ) → length l ≤ most → length l ≤ 256 → All (λ ρ. ρ .slot < n) l
+    → partOf merged w ≡ over (flat l) (partOf merged w) → listFits (length l) w merged most n ≡ true
+list-yes l n w merged most h g t e = Scans.list-yes w merged most n (length l) h at
   where
     at : (j : ℕ) → j < length l → getD merged (3 * (256 * w + j)) 0 < n
     at j b =
         let k : 768 * w + 3 * j ≡ 3 * (256 * w + j) = omega arith in
-        let g : getD (partOf merged w) (3 * j) 0 ≡ getD merged (3 * (256 * w + j)) 0 =
+        let f : getD (partOf merged w) (3 * j) 0 ≡ getD merged (3 * (256 * w + j)) 0 =
         getD-take 768 (drop (768 * w) merged) (3 * j) 0 (omega arith) ∙ getD-drop (768 * w) merged (3 * j) 0 ∙ ap (λ (i : ℕ). getD merged i 0) k in
-        omega (arith, g, ap (λ (d : List ℕ). getD d (3 * j) 0) e, ranges-below l (partOf merged w) n t j b)
+        omega (arith, f, ap (λ (d : List ℕ). getD d (3 * j) 0) e, ranges-below l (partOf merged w) n t j b)
 
 slots-of : (s : Store) (l : List Range) → All (RangeIn s) l → All (λ ρ. ρ .slot < s .site .N) l
 slots-of s l t = All-map (λ ρ a. a .0) l t
 
-hand-yes : (s : Store) (t : ℕ) (d : Model.Doing) (w : ℕ) (merged : List ℕ) → PlaceIn s t d
-    → partOf merged w ≡ over (inHandWords d) (partOf merged w) → rangesFit (aboutOf (doingRep d) .ranges) w merged (s .site .N) ≡ true
+hand-yes : (s : Store) (t : ℕ) (d : Model.Doing) (w : ℕ) (merged : List ℕ) (most : ℕ) → PlaceIn s t d → inHand (about d .hand) ≤ most
+    → partOf merged w ≡ over (inHandWords d) (partOf merged w) → rangesFit (aboutOf (doingRep d) .ranges) w merged most (s .site .N) ≡ true
 unfolding handWords
-hand-yes s t Model.Idle w merged a e = refl
-hand-yes s t (Model.PutPublish r x) w merged a e = refl
-hand-yes s t (Model.PutStamp r c) w merged a e = refl
-hand-yes s t (Model.PutHandIn r c) w merged a e = refl
-hand-yes s t Model.FlushTake w merged a e = refl
-hand-yes s t (Model.FlushRead m ts) w merged a e = list-yes m (s .site .N) w merged (a .0) (slots-of s m (a .1)) e
-hand-yes s t (Model.FlushFree m) w merged a e =
-    subst (λ (k : ℕ). listFits k w merged (s .site .N) ≡ true) (length-reverse m)
-    (list-yes (reverse m) (s .site .N) w merged (omega (arith, length-reverse m, a .0))
+hand-yes s t Model.Idle w merged most a h e = refl
+hand-yes s t (Model.PutPublish r x) w merged most a h e = refl
+hand-yes s t (Model.PutStamp r c) w merged most a h e = refl
+hand-yes s t (Model.PutHandIn r c) w merged most a h e = refl
+hand-yes s t Model.FlushTake w merged most a h e = refl
+hand-yes s t (Model.FlushRead m ts) w merged most a h e = list-yes m (s .site .N) w merged most h (a .0) (slots-of s m (a .1)) e
+hand-yes s t (Model.FlushFree m) w merged most a h e =
+    subst (λ (k : ℕ). listFits k w merged most (s .site .N) ≡ true) (length-reverse m)
+    (list-yes (reverse m) (s .site .N) w merged most (omega (arith, length-reverse m, h)) (omega (arith, length-reverse m, a .0))
     (All-reverse (λ (ρ : Range). ρ .slot < s .site .N) m (slots-of s m (a .1))) e)
-hand-yes s t (Model.OnTime y) w merged a e = refl
-hand-yes s t (Model.ReadEnter g) w merged a e = refl
-hand-yes s t (Model.ReadStand g c) w merged a e = refl
-hand-yes s t (Model.GetShow r) w merged a e = refl
+hand-yes s t (Model.OnTime y) w merged most a h e = refl
+hand-yes s t (Model.ReadEnter g) w merged most a h e = refl
+hand-yes s t (Model.ReadStand g c) w merged most a h e = refl
+hand-yes s t (Model.GetShow r) w merged most a h e = refl
 
 -- the list in hand fits the worker's part
 pub hand-short : (s : Store) (t : ℕ) (d : Model.Doing) → PlaceIn s t d → length (inHandWords d) ≤ 768
@@ -119,8 +123,9 @@ hand-short s t (Model.ReadStand g c) a = omega arith
 hand-short s t (Model.GetShow r) a = omega arith
 
 -- a local pool
-pool-fits : (s : Store) (l : List Range) → length l ≤ 64 → All (RangeIn s) l → poolFits (poolRep l) (s .site .N) ≡ true
-pool-fits s l h t = pool-yes (poolRep l) (s .site .N) h at
+pool-fits : (s : Store) (l : List Range) (most : ℕ) → length l ≤ most → length l ≤ 64 → All (RangeIn s) l
+    → poolFits (poolRep l) most (s .site .N) ≡ true
+pool-fits s l most h g t = Scans.pool-yes (poolRep l) most (s .site .N) h at
   where
     z : Range
     z = record { slot = 0; low = 0; high = 0 }
@@ -141,18 +146,43 @@ unfolding sumBy
 length-joined [] = refl
 length-joined (l ∷ q) = omega (arith, length-append l (joinedRanges q), length-joined q)
 
+-- pools of at least one range are no more than their ranges
+each-counted : (q : List (List Range)) → All (λ l. 1 ≤ length l) q → length q ≤ sumBy length q
+unfolding sumBy
+each-counted [] t = omega arith
+each-counted (l ∷ q) t = omega (arith, t .0, each-counted q (t .1))
+
 module _ {s : Store} (m : Memory) (S : Sound s) (Z : Sized m) (laid : m ≡ write s m) where
-  worker-yes : (w : ℕ) → w < s .site .P → workerFits (workerIn (hubRep s) w) w (m .merged) (s .site .P) (s .site .V') (s .site .N) ≡ true
+  -- the memory with the store's hub in place of its own, which is the same
+  abbrev same : Memory
+  same = memory (hubRep s) (m .slots) (m .newest) (m .free) (m .queue) (m .lens) (m .merged)
+
+  -- what a worker holds is no newest version
+  held : (w : ℕ) → w < s .site .P
+      → inHand (about (workerAt s w .doing) .hand) + length (workerAt s w .pool) ≤ s .site .N - s .site .V'
+  held w b = omega (arith, S .bounds .total, sumBy-one versionsHeld (s .workers) w startWorker (among s S w b))
+
+  hand-few : (w : ℕ) → w < s .site .P → inHand (about (workerAt s w .doing) .hand) ≤ 4 * batchOf (s .site .P)
+  hand-few w b =
+      let a = All-at (λ (x : Model.Worker). inHand (about (x .doing) .hand) ≤ 4 * s .site .B) (s .workers) w startWorker (among s S w b)
+      (S .bounds .merged) in
+      omega (arith, a, S .batch)
+
+  worker-yes : (w : ℕ) → w < s .site .P
+      → workerFits (workerIn (hubRep s) w) w (m .merged) (local same) (list same) (s .site .P) (s .site .V') (s .site .N) ≡ true
   unfolding workerFits handFits
   worker-yes w b =
       let t : ℕ = workerAt s w .announced in
       let d : Model.Doing = workerAt s w .doing in
+      let pool : length (workerAt s w .pool) ≤ local same = omega (arith, pool-short s S w b, S .batch, held w b) in
+      let hand : inHand (about d .hand) ≤ list same = omega (arith, hand-few w b, held w b) in
       rw (
         worker-at s S w b d refl,
         place-yes s t d (S .places w b),
-        pool-fits s (workerAt s w .pool) (omega (arith, S .bounds .batch .1, pool-short s S w b)) (S .pools w b),
+        pool-fits s (workerAt s w .pool) (local same) pool (omega (arith, S .bounds .batch .1, pool-short s S w b)) (S .pools w b),
         lt-leb 16 w (omega (arith, b, S .bounds .workers .1)),
-        hand-yes s t d w (m .merged) (S .places w b) (list-is s S w b m Z laid d refl (hand-short s t d (S .places w b))),
+        hand-yes s t d w (m .merged) (list same) (S .places w b) hand
+            (list-is s S w b m Z laid d refl (hand-short s t d (S .places w b))),
       )
 
   newest-below : (r : ℕ) → r < s .site .V' → getD (m .newest) r 0 < s .site .N
@@ -171,15 +201,13 @@ module _ {s : Store} (m : Memory) (S : Sound s) (Z : Sized m) (laid : m ≡ writ
       (All-occurrences (s .free) (S .free)) in
       omega (arith, e, All-at (λ (f : ℕ). f < s .site .N) (reverse (s .free)) i 0 h t)
 
-  queue-below : (j : ℕ) → j < length (joinedRanges (s .queue)) → getD (m .queue) (3 * (0 + j)) 0 < s .site .N
+  queue-below : (j : ℕ) → j < length (joinedRanges (s .queue)) → getD (m .queue) (3 * j) 0 < s .site .N
   queue-below j b =
       let l : List Range = joinedRanges (s .queue) in
-      let k : 3 * (0 + j) ≡ 3 * j = omega arith in
-      let e : getD (m .queue) (3 * (0 + j)) 0 ≡ getD (over (flat l) (m .queue)) (3 * j) 0 =
-      ap (λ (i : ℕ). getD (m .queue) i 0) k ∙ ap (λ (q : List ℕ). getD q (3 * j) 0) (queue-is s m laid) in
+      let e : getD (m .queue) (3 * j) 0 ≡ getD (over (flat l) (m .queue)) (3 * j) 0 = ap (λ (q : List ℕ). getD q (3 * j) 0) (queue-is s m laid) in
       omega (arith, e, ranges-below l (m .queue) (s .site .N) (slots-of s l (All-joined (RangeIn s) (s .queue) (S .queue))) j b)
 
-  lens-in : (i : ℕ) → i < length (s .queue) → (1 ≤ getD (m .lens) i 0) × (getD (m .lens) i 0 ≤ 128)
+  lens-in : (i : ℕ) → i < length (s .queue) → (1 ≤ getD (m .lens) i 0) × (getD (m .lens) i 0 ≤ 2 * batchOf (s .site .P))
   lens-in i b =
       let h : i < length (map length (s .queue)) = omega (arith, b, length-map (s .queue) length) in
       let e : getD (m .lens) i 0 ≡ length (getD (s .queue) i []) =
@@ -187,40 +215,37 @@ module _ {s : Store} (m : Memory) (S : Sound s) (Z : Sized m) (laid : m ≡ writ
       ∙ getD-over-in (map length (s .queue)) (m .lens) i 0 h
       ∙ getD-map length (s .queue) i [] 0 b in
       let a = All-at (λ (l : List Range). (1 ≤ length l) × (length l ≤ 2 * s .site .B)) (s .queue) i [] b (S .bounds .queued) in
-      (omega (arith, e, a .0), omega (arith, e, a .1, S .bounds .batch .1))
+      (omega (arith, e, a .0), omega (arith, e, a .1, S .batch))
 
   near-in : (c : ℕ) → c < s .site .N → NearIn (s .site .N) (getD (m .slots) c vacantSlot)
   near-in c b = subst (NearIn (s .site .N)) (sym (slot-is s m laid c (omega (arith, b, S .bounds .slots .2)))) (S .near c b)
 
-  sizes-in : SizesIn (hubRep s) (length (m .slots))
-  sizes-in =
-      let long : length (s .slots) ≤ length (m .slots) = slots-long (s .slots) (m .slots) (slots-is s m laid) in
-      record {
-        p = (S .bounds .workers .0, S .bounds .workers .1);
-        v = (S .bounds .registers .0, S .bounds .registers .1);
-        n = (S .bounds .slots .0, S .bounds .slots .1, omega (arith, S .bounds .slots .2));
-        free = omega (arith, S .bounds .total, S .bounds .slots .1);
-        pools = omega (arith, S .bounds .pools, S .bounds .slots .1);
-        queued = omega (arith, S .bounds .total, S .bounds .slots .1, length-joined (s .queue));
-      }
+  -- its pools have at least one range each
+  pools-few : length (s .queue) ≤ length (joinedRanges (s .queue))
+  pools-few = omega (arith, length-joined (s .queue), each-counted (s .queue) (All-map (λ l a. a .0) (s .queue) (S .bounds .queued)))
 
-  parts : Passes (hubRep s) m
-  parts =
-      record {
-        sizes = sizes-yes (hubRep s) (length (m .slots)) sizes-in;
-        newest = below-yes (m .newest) (s .site .N) (s .site .V') newest-below;
-        free = below-yes (m .free) (s .site .N) (length (s .free)) free-below;
-        queue = slots-yes (m .queue) 0 (s .site .N) (length (joinedRanges (s .queue))) queue-below;
-        lens = lens-yes (m .lens) (length (s .queue)) lens-in;
-        sum = ap (λ (l : List ℕ). lensSum l (length (s .queue))) (lens-is s m laid) ∙ lens-sum (s .queue) (m .lens);
-        workers = workers-yes (hubRep s) (m .merged) (s .site .P) worker-yes;
-        linked = linked-yes (m .slots) (s .site .N) (s .site .N) near-in;
-      }
+  pub ranges-left : InRanges m
+  ranges-left = subst InRanges (sym (memory-path (hub-is s m laid) refl refl refl refl refl refl)) in-ranges
+    where
+      in-ranges : InRanges same
+      in-ranges =
+          let long : length (s .slots) ≤ length (m .slots) = slots-long (s .slots) (m .slots) (slots-is s m laid) in
+          record {
+            p = (S .bounds .workers .0, S .bounds .workers .1);
+            v = (S .bounds .registers .0, S .bounds .registers .1);
+            n = (S .bounds .slots .0, S .bounds .slots .1, omega (arith, S .bounds .slots .2));
+            free = omega (arith, S .bounds .total);
+            queued = omega (arith, S .bounds .total, length-joined (s .queue));
+            pools = pools-few;
+            lengths = lens-in;
+            sum = ap (λ (l : List ℕ). lensSum l (length (s .queue))) (lens-is s m laid) ∙ lens-sum (s .queue) (m .lens);
+            newest = newest-below;
+            freeSlots = free-below;
+            queueSlots = queue-below;
+            neighbours = near-in;
+            workers = λ w b. worker-tells same w (omega (arith, b, S .bounds .workers .1)) (workerIn (hubRep s) w) (worker-yes w b);
+          }
 
   -- memory in which a sound store lies counts as set up
   pub ready-left : ready m ≡ true
-  unfolding ready
-  ready-left =
-      ap (λ (h : Hub). readyOf h (m .newest) (m .free) (m .queue) (m .lens) (m .merged) (linkedTo (m .slots) (h .n) (h .n)) (length (m .slots)))
-      (hub-is s m laid)
-      ∙ passes (hubRep s) m parts
+  ready-left = ready-exact m .1 ranges-left

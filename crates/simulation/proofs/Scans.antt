@@ -1,44 +1,102 @@
--- The scans of the test of lent memory (crate `ready`) pass where each entry that they look at is in range.
-use mathlib.Core.Path.{_≡_, refl, _∙_}
-use mathlib.Core.Bool.{Bool, true, false, _||_}
-use mathlib.Core.Logic.{_⊎_, ⊎-elim}
+-- The scans of the test of lent memory (crate `ready`) pass where each entry that they look at is in range, and nowhere else.
+use mathlib.Core.Path.{_≡_, refl, sym, _∙_, subst}
+use mathlib.Core.Bool.{Bool, true, false, cond, _&&_, _||_, true≢false}
+use mathlib.Core.Logic.{_⊎_, inl, inr, ⊎-elim}
 use mathlib.Core.List.{List, [], _∷_, _++_, map}
 use Prim.Native.Nat.{ℕ, zero, suc, _+_, _*_, _≤_, _<_}
 use native.Mathlib.Nat.{not-suc-le-zero, le-of-suc-le-suc}
 use native.Mathlib.Omega.{arith}
-use lib.Dec.{ltb, eqb}
+use lib.Dec.{ltb, leb, eqb}
 use lib.ListN.{length, getD, length-append}
-use borrow.Author.Tests.{lt-ltb, le-ltb, le-leb, eq-eqb}
+use borrow.Author.Tests.{lt-ltb, le-ltb, le-leb, eq-eqb, ltb-true, ltb-false, leb-true, eqb-true}
 use Rattle.lists.specs.Over.{over}
 use Rattle.lists.proofs.Over.{getD-over-in}
 use Rattle.model.specs.Store.{Range, absent}
-use Rattle.model.proofs.Basic.{All-at}
+use Rattle.model.proofs.Basic.{All-at, eq-cases}
 use Rattle.model.specs.Demand.{All}
 use Rattle.slots.specs.declared.Slot.{Slot}
 use Rattle.slots.specs.Slots as Slots
 use Rattle.slots.specs.Slots.{vacantSlot, linkedTo}
 use Rattle.worker.specs.declared.Pool.{Pool}
+use Rattle.worker.specs.declared.Named.{Named}
+use Rattle.worker.specs.declared.Named.the-variants.{Nothing, Is}
 use Rattle.state.specs.declared.Hub.{Hub}
 use Rattle.state.specs.State.{workerIn}
 use Rattle.ranges.specs.Words.{flat}
 use Rattle.ranges.proofs.WordLaws.{length-flat}
 use Rattle.queue.specs.Rep.{joinedRanges}
-use Rattle.ready.specs.Ready.{belowTo, slotsBelow, poolFits, workerFits, workersFit, lensFit, lensSum, sizesFit, readyOf}
-use Rattle.simulation.specs.Memory.{Memory}
+use Rattle.ready.specs.Ready.{
+  belowTo,
+  slotsBelow,
+  poolFits,
+  listFits,
+  rangesFit,
+  namedBelow,
+  workerFits,
+  workersFit,
+  lensFit,
+  lensSum,
+}
+use Rattle.ready.proofs.Sizes.{and-both}
+
+------------------------------------------------------------------------
+-- A test of all below k
+
+-- f is the conjunction of the tests t of the numbers below k
+module _ (f t : ℕ → Bool) (next : (k : ℕ) → f (suc k) ≡ f k && t k) where
+  all-yes : f zero ≡ true → (k : ℕ) → ((i : ℕ) → i < k → t i ≡ true) → f k ≡ true
+  all-yes z zero g = z
+  all-yes z (suc k) g = next k ∙ both-yes (f k) (t k) (all-yes z k (λ i h. g i (omega (arith, h)))) (g k (omega arith))
+    where
+      both-yes : (a b : Bool) → a ≡ true → b ≡ true → a && b ≡ true
+      both-yes true b p q = q
+      both-yes false b p q = p
+
+  all-tell : (k : ℕ) → f k ≡ true → (i : ℕ) → i < k → t i ≡ true
+  all-tell zero e i h = absurd (not-suc-le-zero h)
+  all-tell (suc k) e i h =
+      let q = and-both (f k) (t k) (sym (next k) ∙ e) in
+      ⊎-elim (λ u. subst (λ (j : ℕ). t j ≡ true) (sym (u .0)) (q .1)) (λ u. all-tell k (q .0) i (omega (arith, h, u .0))) (eq-cases i k)
+
+-- a test that is made where another fails
+pub unless : (t y : Bool) → cond t false y ≡ true → (t ≡ false) × (y ≡ true)
+unless true y e = absurd (true≢false (sym e))
+unless false y e = (refl, e)
 
 ------------------------------------------------------------------------
 -- Numbers below n
 
-pub below-yes : (l : List ℕ) (n k : ℕ) → ((i : ℕ) → i < k → getD l i 0 < n) → belowTo l n k ≡ true
-unfolding belowTo
-below-yes l n zero f = refl
-below-yes l n (suc k) f = rw (below-yes l n k (λ i h. f i (omega (arith, h))), lt-ltb (getD l k 0) n (f k (omega arith)))
+module _ (l : List ℕ) (n k : ℕ) where
+  test-below : ℕ → Bool
+  test-below i = ltb (getD l i 0) n
 
-pub slots-yes : (words : List ℕ) (i n k : ℕ) → ((j : ℕ) → j < k → getD words (3 * (i + j)) 0 < n) → slotsBelow words i n k ≡ true
-unfolding slotsBelow
-slots-yes words i n zero f = refl
-slots-yes words i n (suc k) f =
-    rw (slots-yes words i n k (λ j h. f j (omega (arith, h))), lt-ltb (getD words (3 * (i + k)) 0) n (f k (omega arith)))
+  pub below-yes : ((i : ℕ) → i < k → getD l i 0 < n) → belowTo l n k ≡ true
+  unfolding belowTo test-below
+  below-yes g = all-yes (belowTo l n) test-below (λ j. refl) refl k (λ i h. lt-ltb (getD l i 0) n (g i h))
+
+  pub below-tells : belowTo l n k ≡ true → (i : ℕ) → i < k → getD l i 0 < n
+  unfolding belowTo test-below
+  below-tells e i h = ltb-true (getD l i 0) n (all-tell (belowTo l n) test-below (λ j. refl) k e i h)
+
+module _ (words : List ℕ) (i n k : ℕ) where
+  test-slot : ℕ → Bool
+  test-slot j = ltb (getD words (3 * (i + j)) 0) n
+
+  pub slots-yes : ((j : ℕ) → j < k → getD words (3 * (i + j)) 0 < n) → slotsBelow words i n k ≡ true
+  unfolding slotsBelow test-slot
+  slots-yes g = all-yes (slotsBelow words i n) test-slot (λ j. refl) refl k (λ j h. lt-ltb (getD words (3 * (i + j)) 0) n (g j h))
+
+  pub slots-tell : slotsBelow words i n k ≡ true → (j : ℕ) → j < k → getD words (3 * (i + j)) 0 < n
+  unfolding slotsBelow test-slot
+  slots-tell e j h = ltb-true (getD words (3 * (i + j)) 0) n (all-tell (slotsBelow words i n) test-slot (λ u. refl) k e j h)
+
+-- a number that a place names, if it names one
+pub named-yes : (y : Named) (n : ℕ) → ((i : ℕ) → y ≡ Is i → i < n) → namedBelow y n ≡ true
+named-yes Nothing n g = refl
+named-yes (Is i) n g = lt-ltb i n (g i refl)
+
+pub named-tells : (y : Named) (n : ℕ) → namedBelow y n ≡ true → (i : ℕ) → y ≡ Is i → i < n
+named-tells y n e i q = ltb-true i n (subst (λ (z : Named). namedBelow z n ≡ true) q e)
 
 -- the slot of the j-th range in memory at whose front the ranges l lie
 flat-slot : (l : List Range) (j : ℕ) (z : Range) → j < length l → getD (flat l) (3 * j) 0 ≡ getD l j z .slot
@@ -60,38 +118,69 @@ ranges-below l d n t j h =
 ------------------------------------------------------------------------
 -- Neighbours
 
-near-yes : (n o : ℕ) → (o ≡ absent) ⊎ (o < n) → Slots.near n o ≡ true
-near-yes n o u = ⊎-elim (λ e. other (ltb o n) (eq-eqb o absent e)) (λ h. rw (lt-ltb o n h)) u
-  where
-    other : (t : Bool) → eqb o absent ≡ true → t || eqb o absent ≡ true
-    other true e = refl
-    other false e = e
+module _ (n o : ℕ) where
+  near-yes : (o ≡ absent) ⊎ (o < n) → Slots.near n o ≡ true
+  near-yes u = ⊎-elim (λ e. other (ltb o n) (eq-eqb o absent e)) (λ h. rw (lt-ltb o n h)) u
+    where
+      other : (t : Bool) → eqb o absent ≡ true → t || eqb o absent ≡ true
+      other true e = refl
+      other false e = e
+
+  near-tells : Slots.near n o ≡ true → (o ≡ absent) ⊎ (o < n)
+  near-tells e = by (ltb o n) refl e
+    where
+      by : (t : Bool) → ltb o n ≡ t → t || eqb o absent ≡ true → (o ≡ absent) ⊎ (o < n)
+      by true h e = inr (ltb-true o n h)
+      by false h e = inl (eqb-true o absent e)
 
 -- the neighbours of a slot are slots below n or absent
 abbrev pub NearIn : ℕ → Slot → Type 0
 NearIn n v = ((v .older ≡ absent) ⊎ (v .older < n)) × ((v .newer ≡ absent) ⊎ (v .newer < n))
 
-pub linked-yes : (l : List Slot) (n k : ℕ) → ((c : ℕ) → c < k → NearIn n (getD l c vacantSlot)) → linkedTo l n k ≡ true
-unfolding linkedTo
-linked-yes l n zero f = refl
-linked-yes l n (suc k) f =
-    let a = f k (omega arith) in
-    rw (
-      linked-yes l n k (λ c h. f c (omega (arith, h))),
-      near-yes n (getD l k vacantSlot .older) (a .0),
-      near-yes n (getD l k vacantSlot .newer)
-          (a .1),
-    )
+module _ (l : List Slot) (n : ℕ) where
+  test-near : ℕ → Bool
+  test-near c = Slots.near n (getD l c vacantSlot .older) && Slots.near n (getD l c vacantSlot .newer)
+
+  next-linked : (k : ℕ) → linkedTo l n (suc k) ≡ linkedTo l n k && test-near k
+  unfolding linkedTo test-near
+  next-linked k = joined (linkedTo l n k) (Slots.near n (getD l k vacantSlot .older)) (Slots.near n (getD l k vacantSlot .newer))
+    where
+      joined : (a b c : Bool) → a && b && c ≡ a && (b && c)
+      joined true b c = refl
+      joined false b c = refl
+
+  pub linked-yes : (k : ℕ) → ((c : ℕ) → c < k → NearIn n (getD l c vacantSlot)) → linkedTo l n k ≡ true
+  unfolding linkedTo test-near
+  linked-yes k g =
+      all-yes (linkedTo l n) test-near next-linked refl k
+      (λ c h. rw (near-yes n (getD l c vacantSlot .older) (g c h .0), near-yes n (getD l c vacantSlot .newer) (g c h .1)))
+
+  pub linked-tells : (k : ℕ) → linkedTo l n k ≡ true → (c : ℕ) → c < k → NearIn n (getD l c vacantSlot)
+  unfolding test-near
+  linked-tells k e c h =
+      let v : Slot = getD l c vacantSlot in
+      let q = and-both (Slots.near n (v .older)) (Slots.near n (v .newer)) (all-tell (linkedTo l n) test-near next-linked k e c h) in
+      (near-tells n (v .older) (q .0), near-tells n (v .newer) (q .1))
 
 ------------------------------------------------------------------------
 -- The queued pools
 
-pub lens-yes : (lens : List ℕ) (k : ℕ) → ((i : ℕ) → i < k → (1 ≤ getD lens i 0) × (getD lens i 0 ≤ 128)) → lensFit lens k ≡ true
-unfolding lensFit
-lens-yes lens zero f = refl
-lens-yes lens (suc k) f =
-    let a = f k (omega arith) in
-    rw (lens-yes lens k (λ i h. f i (omega (arith, h))), le-leb 1 (getD lens k 0) (a .0), le-leb (getD lens k 0) 128 (a .1))
+module _ (lens : List ℕ) (most k : ℕ) where
+  test-len : ℕ → Bool
+  test-len i = leb 1 (getD lens i 0) && leb (getD lens i 0) most
+
+  pub lens-yes : ((i : ℕ) → i < k → (1 ≤ getD lens i 0) × (getD lens i 0 ≤ most)) → lensFit lens most k ≡ true
+  unfolding lensFit test-len
+  lens-yes g =
+      all-yes (lensFit lens most) test-len (λ j. refl) refl k
+      (λ i h. rw (le-leb 1 (getD lens i 0) (g i h .0), le-leb (getD lens i 0) most (g i h .1)))
+
+  pub lens-tell : lensFit lens most k ≡ true → (i : ℕ) → i < k → (1 ≤ getD lens i 0) × (getD lens i 0 ≤ most)
+  unfolding lensFit test-len
+  lens-tell e i h =
+      let q =
+      and-both (leb 1 (getD lens i 0)) (leb (getD lens i 0) most) (all-tell (lensFit lens most) test-len (λ j. refl) k e i h) in
+      (leb-true 1 (getD lens i 0) (q .0), leb-true (getD lens i 0) most (q .1))
 
 lensSum-cons : (x : ℕ) (l : List ℕ) (k : ℕ) → lensSum (x ∷ l) (suc k) ≡ x + lensSum l k
 unfolding lensSum
@@ -110,55 +199,46 @@ unfolding over
 lens-sum q d = lensSum-front q _
 
 ------------------------------------------------------------------------
--- Workers, sizes, and all of it
+-- Workers
 
-pub workers-yes : (h : Hub) (merged : List ℕ) (k : ℕ)
-    → ((w : ℕ) → w < k → workerFits (workerIn h w) w merged (h .p) (h .v) (h .n) ≡ true) → workersFit h merged k ≡ true
-unfolding workersFit
-workers-yes h merged zero f = refl
-workers-yes h merged (suc k) f = rw (workers-yes h merged k (λ w b. f w (omega (arith, b))), f k (omega arith))
+module _ (h : Hub) (merged : List ℕ) (local list k : ℕ) where
+  test-worker : ℕ → Bool
+  test-worker w = workerFits (workerIn h w) w merged local list (h .p) (h .v) (h .n)
 
-pub pool-yes : (q : Pool) (n : ℕ) → q .len ≤ 64 → ((i : ℕ) → i < q .len → getD (q .slots) i 0 < n) → poolFits q n ≡ true
-unfolding poolFits
-pool-yes q n h f = rw (le-ltb 64 (q .len) h) (below-yes (q .slots) n (q .len) f)
+  pub workers-yes : ((w : ℕ) → w < k → workerFits (workerIn h w) w merged local list (h .p) (h .v) (h .n) ≡ true)
+      → workersFit h merged local list k ≡ true
+  unfolding workersFit test-worker
+  workers-yes g = all-yes (workersFit h merged local list) test-worker (λ j. refl) refl k g
 
-pub record SizesIn (h : Hub) (long : ℕ) : Type 0 where
-  pub p : (1 ≤ h .p) × (h .p ≤ 16)
-  pub v : (1 ≤ h .v) × (h .v ≤ 256)
-  pub n : (h .v ≤ h .n) × (h .n ≤ 2048) × (h .n ≤ long)
-  pub free : h .free ≤ 2048
-  pub pools : h .pools ≤ 2048
-  pub queued : h .queued ≤ 2048
+  pub workers-tell : workersFit h merged local list k ≡ true
+      → (w : ℕ) → w < k → workerFits (workerIn h w) w merged local list (h .p) (h .v) (h .n) ≡ true
+  unfolding workersFit test-worker
+  workers-tell e w b = all-tell (workersFit h merged local list) test-worker (λ j. refl) k e w b
 
-pub sizes-yes : (h : Hub) (long : ℕ) → SizesIn h long → sizesFit h long ≡ true
-unfolding sizesFit
-sizes-yes h long z =
-    rw (
-      le-leb 1 (h .p) (z .p .0),
-      le-leb (h .p) 16 (z .p .1),
-      le-leb 1 (h .v) (z .v .0),
-      le-leb (h .v) 256 (z .v .1),
-      le-leb (h .v) (h .n) (z .n .0),
-      le-leb (h .n) 2048 (z .n .1),
-      le-leb (h .n) long (z .n .2),
-      le-leb (h .free) 2048 (z .free),
-      le-leb (h .pools) 2048 (z .pools),
-      le-leb (h .queued) 2048 (z .queued),
-    )
+-- a local pool
+module _ (q : Pool) (most n : ℕ) where
+  pub pool-yes : q .len ≤ most → ((i : ℕ) → i < q .len → getD (q .slots) i 0 < n) → poolFits q most n ≡ true
+  unfolding poolFits
+  pool-yes h g = rw (le-ltb most (q .len) h) (below-yes (q .slots) n (q .len) g)
 
--- the parts of the test of memory m, with the hub h by value
-pub record Passes (h : Hub) (m : Memory) : Type 0 where
-  pub sizes : sizesFit h (length (m .slots)) ≡ true
-  pub newest : belowTo (m .newest) (h .n) (h .v) ≡ true
-  pub free : belowTo (m .free) (h .n) (h .free) ≡ true
-  pub queue : slotsBelow (m .queue) 0 (h .n) (h .queued) ≡ true
-  pub lens : lensFit (m .lens) (h .pools) ≡ true
-  pub sum : lensSum (m .lens) (h .pools) ≡ h .queued
-  pub workers : workersFit h (m .merged) (h .p) ≡ true
-  pub linked : linkedTo (m .slots) (h .n) (h .n) ≡ true
+  pub pool-tells : poolFits q most n ≡ true → (q .len ≤ most) × ((i : ℕ) → i < q .len → getD (q .slots) i 0 < n)
+  unfolding poolFits
+  pool-tells e =
+      let u = unless (ltb most (q .len)) (belowTo (q .slots) n (q .len)) e in
+      (ltb-false most (q .len) (u .0), below-tells (q .slots) n (q .len) (u .1))
 
-pub passes : (h : Hub) (m : Memory) → Passes h m
-    → readyOf h (m .newest) (m .free) (m .queue) (m .lens) (m .merged) (linkedTo (m .slots) (h .n) (h .n)) (length (m .slots)) ≡ true
-unfolding readyOf
-passes h m a =
-    rw (a .sizes, a .newest, a .free, a .queue, a .lens, eq-eqb (lensSum (m .lens) (h .pools)) (h .queued) (a .sum), a .workers, a .linked)
+-- a list in hand
+module _ (w : ℕ) (merged : List ℕ) (most n : ℕ) where
+  pub list-yes : (k : ℕ) → k ≤ most → ((j : ℕ) → j < k → getD merged (3 * (256 * w + j)) 0 < n) → listFits k w merged most n ≡ true
+  list-yes k h g = rw (le-ltb most k h) (slots-yes merged (256 * w) n k g)
+
+  pub ranges-yes : (y : Named) → ((k : ℕ) → y ≡ Is k → k ≤ most)
+      → ((k : ℕ) → y ≡ Is k → (j : ℕ) → j < k → getD merged (3 * (256 * w + j)) 0 < n) → rangesFit y w merged most n ≡ true
+  ranges-yes Nothing h g = refl
+  ranges-yes (Is k) h g = list-yes k (h k refl) (g k refl)
+
+  pub ranges-tell : (y : Named) → rangesFit y w merged most n ≡ true → (k : ℕ) → y ≡ Is k
+      → (k ≤ most) × ((j : ℕ) → j < k → getD merged (3 * (256 * w + j)) 0 < n)
+  ranges-tell y e k q =
+      let u = unless (ltb most k) (slotsBelow merged (256 * w) n k) (subst (λ (z : Named). rangesFit z w merged most n ≡ true) q e) in
+      (ltb-false most k (u .0), slots-tell merged (256 * w) n k (u .1))

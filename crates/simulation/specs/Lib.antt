@@ -1,6 +1,7 @@
 pub mod Memory
 pub mod Left
 pub mod Holds
+pub mod Ranges
 pub mod Public
 pub mod Records
 pub mod Shell

@@ -9,10 +9,10 @@ use Rattle.ready.proofs.lens_fit.Statement.{statement}
 use Rattle.ready.proofs.lens_fit.Tie as tie
 
 abbrev Inv-loop : tie.InvT-loop
-Inv-loop lens k ok₀ i₀ ok i = (i ≤ k) × (ok ≡ lensFit lens i)
+Inv-loop lens k most ok₀ i₀ ok i = (i ≤ k) × (ok ≡ lensFit lens most i)
 
 abbrev μ-loop : tie.MeasureT-loop
-μ-loop lens k ok₀ i₀ ok i = k - i
+μ-loop lens k most ok₀ i₀ ok i = k - i
 
 loop-holds : tie.Need-loop-holds Inv-loop μ-loop
 unfolding lensFit

@@ -1,24 +1,25 @@
 -- `list_fits` meets its contract: the count is tested first, so that the scan stays within worker w's part of the memory.
+use mathlib.Core.Path.{sym}
 use borrow.Author.Needs.{needs}
 use borrow.Author.Tests.{lt-ltb, le-ltb}
 use Rattle.ready.proofs.list_fits.Statement.{statement}
 use Rattle.ready.proofs.list_fits.Tie as tie
 
+wide16-requires : tie.Need-wide16-requires
+wide16-requires c κs = search needs
+
 returns : tie.Need-returns
-returns c = rw (lt-ltb _ _ (c .if1 .taken))
+returns c = rw (← c .before .wide16 .ensures, lt-ltb _ _ (c .if1 .taken))
 
 mul-slots-below : tie.Need-mul-slots-below
 mul-slots-below c = search needs
-
-wide16-requires : tie.Need-wide16-requires
-wide16-requires c κs = search needs
 
 slots-below-requires : tie.Need-slots-below-requires
 slots-below-requires c κs = search needs
 
 returns-2 : tie.Need-returns-2
-returns-2 c = rw (le-ltb _ _ (c .before .before .before .if1 .left), ← c .before .wide16 .ensures, c .slots-below .ensures)
+returns-2 c = rw (← c .before .before .before .wide16 .ensures, le-ltb _ _ (c .before .before .if1 .left), c .slots-below .ensures)
 
 pub list-fits-spec : {M : Type 1} → statement M
 list-fits-spec =
-    tie.close (tie.spec returns mul-slots-below wide16-requires slots-below-requires returns-2)
+    tie.close (tie.spec wide16-requires returns mul-slots-below slots-below-requires returns-2)

@@ -4,12 +4,12 @@ use mathlib.Core.Path.{sym, _∙_}
 use native.Mathlib.Omega.{arith}
 use borrow.Author.Needs.{needs}
 use Rattle.ready.specs.Ready.{readyOf}
-use Rattle.ready.proofs.Sizes.{InRange, sizes-tell}
+use Rattle.ready.proofs.Sizes.{SizesIn, sizes-tell}
 use Rattle.ready.proofs.ready.Statement.{statement}
 use Rattle.ready.proofs.ready.Tie as tie
 
 -- what is known once the sizes were tested
-told : (c : tie.Then1) → InRange (c .before .before .args .hub)
+told : (c : tie.Then1) → SizesIn (c .before .before .args .hub) (c .before .before .args .long)
 told c = sizes-tell _ _ (sym (c .before .sizes-fit .ensures) ∙ c .if1 .taken)
 
 sizes-fit-requires : tie.Need-sizes-fit-requires
@@ -18,42 +18,76 @@ sizes-fit-requires c κs = search needs
 cast-n : tie.Need-cast-n
 cast-n c = omega (arith, told (c .before))
 
+batch-of-requires : tie.Need-batch-of-requires
+batch-of-requires c κs = let z = told (c .before) .p in (omega (arith, z .0), omega (arith, z .1))
+
+besides-requires : tie.Need-besides-requires
+besides-requires c κs = search needs
+
 all-below-requires : tie.Need-all-below-requires
-all-below-requires c κs = omega (arith, told (c .before .before))
+all-below-requires c κs = omega (arith, told (c .before .before .before .before))
 
 all-below-requires-2 : tie.Need-all-below-requires-2
-all-below-requires-2 c κs = omega (arith, told (c .before .before .before .before))
+all-below-requires-2 c κs = omega (arith, told (c .before .before .before .before .before .before))
 
 cast-slots-below : tie.Need-cast-slots-below
-cast-slots-below c = omega (arith, told (c .before .before .before .before .before .before))
+cast-slots-below c = omega (arith, told (c .before .before .before .before .before .before .before .before))
 
 slots-below-requires : tie.Need-slots-below-requires
-slots-below-requires c κs = omega (arith, told (c .before .before .before .before .before .before))
+slots-below-requires c κs = omega (arith, told (c .before .before .before .before .before .before .before .before))
+
+mul-lens-fit : tie.Need-mul-lens-fit
+mul-lens-fit c = search needs
+
+cast-lens-fit : tie.Need-cast-lens-fit
+cast-lens-fit c = search needs
 
 lens-fit-requires : tie.Need-lens-fit-requires
-lens-fit-requires c κs = omega (arith, told (c .before .before .before .before .before .before .before))
+lens-fit-requires c κs = omega (arith, told (c .before .before .before .before .before .before .before .before .before))
 
 lens-sum-requires : tie.Need-lens-sum-requires
-lens-sum-requires c κs = omega (arith, told (c .before .before .before .before .before .before .before .before))
+lens-sum-requires c κs = omega (arith, told (c .before .before .before .before .before .before .before .before .before .before))
+
+least-requires : tie.Need-least-requires
+least-requires c κs = search needs
+
+mul-least : tie.Need-mul-least
+mul-least c = search needs
+
+least-requires-2 : tie.Need-least-requires-2
+least-requires-2 c κs = search needs
 
 workers-fit-requires : tie.Need-workers-fit-requires
-workers-fit-requires c κs = omega (arith, told (c .before .before .before .before .before .before .before .before .before .before))
+workers-fit-requires c κs =
+    let z = told (c .before .before .before .before .before .before .before .before .before .before .before .before .before .before) in
+    let size = (c .before .before .before .before .before .before .before .before .before .before .before .before) .batch-of .ensures in (
+      omega (arith, z .p .1),
+      omega (arith, z .v .1),
+      omega (arith, z .n .1),
+      omega (arith, size .1, c .before .least .ensures),
+      omega (arith, size .1, c .least2 .ensures),
+    )
 
 returns : tie.Need-returns
 unfolding readyOf
 returns c =
     let scanned = c .before .before .before .before in
-    let free = scanned .before .before in
+    let free = c .before .before .before .before .before .before .before .before in
     let newest = free .before .before in
-    let sizes = newest .before .before .before in
+    let size = newest .before .before .before in
+    let sizes = size .before .before in
     rw (
       ← sizes .before .sizes-fit .ensures,
       sizes .if1 .taken,
       newest .all-below .ensures,
       free .all-below2 .ensures,
-      scanned .slots-below .ensures,
-      c .before .before .before .lens-fit .ensures,
-      c .before .before .lens-sum .ensures,
+      scanned .before .before .slots-below .ensures,
+      scanned .before .lens-fit .ensures,
+      scanned .lens-sum .ensures,
+      ← size .batch-of .ensures .0,
+      ← newest .before .before .besides .ensures,
+      ← c .before .before .least .ensures,
+      ← c .before .least2 .ensures,
       c .workers-fit .ensures,
     )
 
@@ -67,12 +101,19 @@ ready-spec =
     (tie.spec
     sizes-fit-requires
     cast-n
+    batch-of-requires
+    besides-requires
     all-below-requires
     all-below-requires-2
     cast-slots-below
     slots-below-requires
+    mul-lens-fit
+    cast-lens-fit
     lens-fit-requires
     lens-sum-requires
+    least-requires
+    mul-least
+    least-requires-2
     workers-fit-requires
     returns
     returns-2)

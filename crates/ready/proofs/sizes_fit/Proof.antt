@@ -1,12 +1,15 @@
 -- `sizes_fit` meets its contract: the code has the definition's tests in the definition's order.
-use mathlib.Core.Path.{refl}
+use borrow.Author.Needs.{needs}
 use Rattle.ready.specs.Ready.{sizesFit}
 use Rattle.ready.proofs.sizes_fit.Statement.{statement}
 use Rattle.ready.proofs.sizes_fit.Tie as tie
 
+besides-requires : tie.Need-besides-requires
+besides-requires c κs = search needs
+
 returns : tie.Need-returns
 unfolding sizesFit
-returns c = refl
+returns c = rw (c .before .before .before .besides .ensures)
 
 pub sizes-fit-spec : {M : Type 1} → statement M
-sizes-fit-spec = tie.close (tie.spec returns)
+sizes-fit-spec = tie.close (tie.spec besides-requires returns)

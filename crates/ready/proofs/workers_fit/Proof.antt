@@ -10,10 +10,10 @@ use Rattle.ready.proofs.workers_fit.Statement.{statement}
 use Rattle.ready.proofs.workers_fit.Tie as tie
 
 abbrev Inv-loop : tie.InvT-loop
-Inv-loop merged hub k p v n ok₀ w₀ ok w = (w ≤ k) × (ok ≡ workersFit hub merged w)
+Inv-loop merged local list hub k p v n ok₀ w₀ ok w = (w ≤ k) × (ok ≡ workersFit hub merged local list w)
 
 abbrev μ-loop : tie.MeasureT-loop
-μ-loop merged hub k p v n ok₀ w₀ ok w = k - w
+μ-loop merged local list hub k p v n ok₀ w₀ ok w = k - w
 
 cast-p : tie.Need-cast-p Inv-loop μ-loop
 cast-p c = omega arith

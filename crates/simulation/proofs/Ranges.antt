@@ -1,0 +1,173 @@
+-- Lent memory counts as set up exactly where all of it is in its ranges: the test is a conjunction of scans, and each scan passes exactly where
+-- the entries that it looks at are in range.
+use mathlib.Core.Path.{_≡_, refl, sym, subst}
+use mathlib.Core.Bool.{Bool, true, false, cond, _&&_, true≢false}
+use Prim.Native.Nat.{ℕ, _+_, _*_, _≤_, _<_, min}
+use native.Mathlib.Omega.{arith}
+use lib.Dec.{leb, eqb}
+use lib.ListN.{length, getD}
+use borrow.Author.Tests.{le-leb, lt-leb, eq-eqb, leb-true, eqb-true}
+use Rattle.worker.specs.declared.Facts.{Facts}
+use Rattle.worker.specs.declared.Worker.{Worker}
+use Rattle.worker.specs.About.{aboutOf}
+use Rattle.slots.specs.Slots.{vacantSlot, linkedTo}
+use Rattle.state.specs.State.{workerIn}
+use Rattle.ready.specs.Ready.{
+  belowTo,
+  slotsBelow,
+  poolFits,
+  rangesFit,
+  handFits,
+  namedBelow,
+  placeFits,
+  workerFits,
+  workersFit,
+  lensFit,
+  lensSum,
+  besides,
+  sizesFit,
+  readyOf,
+}
+use Rattle.ready.proofs.Sizes.{and-both, sizes-tell, sizes-yes}
+use Rattle.simulation.specs.Memory.{Memory}
+use Rattle.simulation.specs.Left.{ready}
+use Rattle.simulation.specs.Ranges.{batchIn, PlaceInRange, WorkerInRange, InRanges, ReadyExactly}
+use Rattle.simulation.proofs.Scans as Scans
+
+-- a test that is made where another passes
+where-both : (t y : Bool) → cond t y false ≡ true → (t ≡ true) × (y ≡ true)
+where-both true y e = (refl, e)
+where-both false y e = absurd (true≢false (sym e))
+
+-- the queue is scanned from its first range on
+from-zero : (j : ℕ) → 0 + j ≡ j
+from-zero j = omega arith
+
+------------------------------------------------------------------------
+-- One worker
+
+module _ (m : Memory) where
+  -- the most ranges of a local pool, and of a list in hand
+  abbrev pub local : ℕ
+  local = min (batchIn (m .hub)) (besides (m .hub))
+
+  abbrev pub list : ℕ
+  list = min (4 * batchIn (m .hub)) (besides (m .hub))
+
+  module _ (w : ℕ) (few : w < 16) where
+    -- the tests of a worker's place and of its list
+    Place : Facts → Type 0
+    Place y =
+        (placeFits y (m .hub .p) (m .hub .v) (m .hub .n) ≡ true) × (handFits (y .ranges) w (m .merged) list (m .hub .n) ≡ true)
+
+    place-tells : (y : Facts) → Place y → PlaceInRange m w y
+    unfolding placeFits handFits Place
+    place-tells y e =
+        let R : Bool = namedBelow (y .register) (m .hub .v) in
+        let C : Bool = namedBelow (y .slot) (m .hub .n) in
+        let all = and-both (R && C) (leb (y .read) (m .hub .p)) (e .0) in
+        let both = and-both R C (all .0) in
+        let hand : rangesFit (y .ranges) w (m .merged) list (m .hub .n) ≡ true = rw (lt-leb 16 w few) at (e .1) in
+        let ranges = Scans.ranges-tell w (m .merged) list (m .hub .n) (y .ranges) hand in
+        record {
+          register = Scans.named-tells (y .register) (m .hub .v) (both .0);
+          slot = Scans.named-tells (y .slot) (m .hub .n) (both .1);
+          read = leb-true (y .read) (m .hub .p) (all .1);
+          list = λ k q. (omega (arith, ranges k q .0), omega (arith, ranges k q .0));
+          listSlots = λ k q. ranges k q .1;
+        }
+
+    place-yes : (y : Facts) → PlaceInRange m w y → Place y
+    unfolding placeFits handFits Place
+    place-yes y P = (
+      rw (
+        Scans.named-yes (y .register) (m .hub .v) (P .register),
+        Scans.named-yes (y .slot) (m .hub .n) (P .slot),
+        le-leb (y .read) (m .hub .p) (P .read),
+      ),
+      rw (lt-leb 16 w few)
+          (Scans.ranges-yes w (m .merged) list (m .hub .n) (y .ranges) (λ k q. omega (arith, P .list k q .0, P .list k q .1)) (P .listSlots)),
+    )
+
+    pub worker-tells : (x : Worker) → workerFits x w (m .merged) local list (m .hub .p) (m .hub .v) (m .hub .n) ≡ true → WorkerInRange m w x
+    unfolding workerFits Place
+    worker-tells x e =
+        let y : Facts = aboutOf (x .doing) in
+        let Y : Bool = placeFits y (m .hub .p) (m .hub .v) (m .hub .n) in
+        let Q : Bool = poolFits (x .pool) local (m .hub .n) in
+        let all = and-both (Y && Q) (handFits (y .ranges) w (m .merged) list (m .hub .n)) e in
+        let both = and-both Y Q (all .0) in
+        let pool = Scans.pool-tells (x .pool) local (m .hub .n) (both .1) in
+        record {
+          place = place-tells y (both .0, all .1);
+          pool = (omega (arith, pool .0), omega (arith, pool .0));
+          poolSlots = pool .1;
+        }
+
+    worker-yes : (x : Worker) → WorkerInRange m w x → workerFits x w (m .merged) local list (m .hub .p) (m .hub .v) (m .hub .n) ≡ true
+    unfolding workerFits Place
+    worker-yes x W =
+        let place = place-yes (aboutOf (x .doing)) (W .place) in
+        let few : x .pool .len ≤ local = omega (arith, W .pool .0, W .pool .1) in
+        rw (place .0, Scans.pool-yes (x .pool) local (m .hub .n) few (W .poolSlots), place .1)
+
+  ------------------------------------------------------------------------
+  -- All of the memory
+
+  tells : ready m ≡ true → InRanges m
+  unfolding ready readyOf
+  tells e =
+      let h = m .hub in
+      let A : Bool = belowTo (m .newest) (h .n) (h .v) in
+      let B : Bool = belowTo (m .free) (h .n) (h .free) in
+      let C : Bool = slotsBelow (m .queue) 0 (h .n) (h .queued) in
+      let D : Bool = lensFit (m .lens) (2 * batchIn h) (h .pools) in
+      let E : Bool = eqb (lensSum (m .lens) (h .pools)) (h .queued) in
+      let F : Bool = workersFit h (m .merged) local list (h .p) in
+      let G : Bool = linkedTo (m .slots) (h .n) (h .n) in
+      let all = where-both (sizesFit h (length (m .slots))) (A && B && (C && D) && (E && F) && G) e in
+      let z = sizes-tell h (length (m .slots)) (all .0) in
+      let parts = and-both (A && B && (C && D) && (E && F)) G (all .1) in
+      let front = and-both (A && B && (C && D)) (E && F) (parts .0) in
+      let scans = and-both (A && B) (C && D) (front .0) in
+      let ab = and-both A B (scans .0) in
+      let cd = and-both C D (scans .1) in
+      let ef = and-both E F (front .1) in
+      record {
+        p = z .p;
+        v = z .v;
+        n = z .n;
+        free = z .free;
+        queued = z .queued;
+        pools = z .pools;
+        lengths = Scans.lens-tell (m .lens) (2 * batchIn h) (h .pools) (cd .1);
+        sum = eqb-true (lensSum (m .lens) (h .pools)) (h .queued) (ef .0);
+        newest = Scans.below-tells (m .newest) (h .n) (h .v) (ab .0);
+        freeSlots = Scans.below-tells (m .free) (h .n) (h .free) (ab .1);
+        queueSlots = λ j b. subst (λ (i : ℕ). getD (m .queue) (3 * i) 0 < h .n) (from-zero j) (Scans.slots-tell (m .queue) 0 (h .n) (h .queued) (cd .0) j b);
+        neighbours = Scans.linked-tells (m .slots) (h .n) (h .n) (parts .1);
+        workers =
+            λ w b.
+            worker-tells w (omega (arith, b, z .p .1)) (workerIn h w)
+            (Scans.workers-tell h (m .merged) local list (h .p) (ef .1) w b);
+      }
+
+  yes : InRanges m → ready m ≡ true
+  unfolding ready readyOf
+  yes R =
+      let h = m .hub in
+      rw (
+        sizes-yes h (length (m .slots))
+            (record { p = R .p; v = R .v; n = R .n; free = R .free; pools = R .pools; queued = R .queued }),
+        Scans.below-yes (m .newest) (h .n) (h .v) (R .newest),
+        Scans.below-yes (m .free) (h .n) (h .free) (R .freeSlots),
+        Scans.slots-yes (m .queue) 0 (h .n) (h .queued)
+            (λ j b. subst (λ (i : ℕ). getD (m .queue) (3 * i) 0 < h .n) (sym (from-zero j)) (R .queueSlots j b)),
+        Scans.lens-yes (m .lens) (2 * batchIn h) (h .pools) (R .lengths),
+        eq-eqb (lensSum (m .lens) (h .pools)) (h .queued) (R .sum),
+        Scans.workers-yes h (m .merged) local list (h .p) (λ w b. worker-yes w (omega (arith, b, R .p .1)) (workerIn h w) (R .workers w b)),
+        Scans.linked-yes (m .slots) (h .n) (h .n) (R .neighbours),
+      )
+
+pub ready-exact : ReadyExactly
+ready-exact m = (tells m, yes m)

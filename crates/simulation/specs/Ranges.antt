@@ -1,0 +1,87 @@
+-- When lent memory counts as set up (H8.3), in words: every slot, register, place and count in it is in its range. The test that the code makes
+-- (`ready`) is passed exactly there.
+use mathlib.Core.Path.{_≡_}
+use mathlib.Core.Bool.{true}
+use mathlib.Core.Logic.{_⊎_, _↔_}
+use Prim.Native.Nat.{ℕ, _+_, _*_, _-_, _≤_, _<_}
+use lib.ListN.{length, getD}
+use Rattle.model.specs.Store.{absent}
+use Rattle.model.specs.Batch.{batchOf}
+use Rattle.worker.specs.declared.Facts.{Facts}
+use Rattle.worker.specs.declared.Named.the-variants.{Is}
+use Rattle.worker.specs.declared.Worker.{Worker}
+use Rattle.worker.specs.About.{aboutOf}
+use Rattle.slots.specs.declared.Slot.{Slot}
+use Rattle.slots.specs.Slots.{vacantSlot}
+use Rattle.state.specs.declared.Hub.{Hub}
+use Rattle.state.specs.State.{workerIn}
+use Rattle.ready.specs.Ready.{lensSum}
+use Rattle.simulation.specs.Memory.{Memory}
+use Rattle.simulation.specs.Left.{ready}
+
+-- B for the hub's workers (H1.24)
+abbrev pub batchIn : Hub → ℕ
+batchIn h = batchOf (h .p)
+
+-- so many ranges are at most b, and at most as many as there are slots besides the newest versions
+abbrev pub Few : Hub → ℕ → ℕ → Type 0
+Few h k b = (k ≤ b) × (k ≤ h .n - h .v)
+
+-- a neighbour is absent (H1.8) or a slot
+abbrev pub Neighbour : Hub → ℕ → Type 0
+Neighbour h o = (o ≡ absent) ⊎ (o < h .n)
+
+-- what worker w's place names: a register, a slot, a list in hand of so many ranges, a count of times read
+pub record PlaceInRange (m : Memory) (w : ℕ) (y : Facts) : Type 0 where
+  -- its register is one of the V (H8.3 "places")
+  pub register : (r : ℕ) → y .register ≡ Is r → r < m .hub .v
+  -- its slot is one of the N (H8.3 "places")
+  pub slot : (c : ℕ) → y .slot ≡ Is c → c < m .hub .n
+  -- it has read at most P times (H8.3 "places")
+  pub read : y .read ≤ m .hub .p
+  -- its list has at most 4B ranges (H8.3 "pools")
+  pub list : (k : ℕ) → y .ranges ≡ Is k → Few (m .hub) k (4 * batchIn (m .hub))
+  -- their slots are below N (H8.3 "slots"); worker w's list starts at range 256 w, and a range has three words
+  pub listSlots : (k : ℕ) → y .ranges ≡ Is k → (j : ℕ) → j < k → getD (m .merged) (3 * (256 * w + j)) 0 < m .hub .n
+
+-- worker w's record
+pub record WorkerInRange (m : Memory) (w : ℕ) (x : Worker) : Type 0 where
+  pub place : PlaceInRange m w (aboutOf (x .doing))
+  -- its local pool has at most B ranges (H8.3 "pools")
+  pub pool : Few (m .hub) (x .pool .len) (batchIn (m .hub))
+  -- their slots are below N (H8.3 "slots")
+  pub poolSlots : (i : ℕ) → i < x .pool .len → getD (x .pool .slots) i 0 < m .hub .n
+
+-- all of the memory
+pub record InRanges (m : Memory) : Type 0 where
+  -- P is 1 to 16 (H1.1)
+  pub p : (1 ≤ m .hub .p) × (m .hub .p ≤ 16)
+  -- V is 1 to 256 (H1.2)
+  pub v : (1 ≤ m .hub .v) × (m .hub .v ≤ 256)
+  -- N is V to 2048 (H1.3), and the row is not too short for it
+  pub n : (m .hub .v ≤ m .hub .n) × (m .hub .n ≤ 2048) × (m .hub .n ≤ length (m .slots))
+  -- there are at most N - V free slots (H8.3 "counts")
+  pub free : m .hub .free ≤ m .hub .n - m .hub .v
+  -- at most N - V ranges are queued (H8.3 "counts")
+  pub queued : m .hub .queued ≤ m .hub .n - m .hub .v
+  -- there are no more pools than ranges in them (H8.3 "counts")
+  pub pools : m .hub .pools ≤ m .hub .queued
+  -- a queued pool has 1 to 2B ranges (H8.3 "pools")
+  pub lengths : (i : ℕ) → i < m .hub .pools → (1 ≤ getD (m .lens) i 0) × (getD (m .lens) i 0 ≤ 2 * batchIn (m .hub))
+  -- the pools' lengths add up to the queued ranges (H8.3 "counts")
+  pub sum : lensSum (m .lens) (m .hub .pools) ≡ m .hub .queued
+  -- slots are below N (H8.3 "slots"): the newest of each register,
+  pub newest : (r : ℕ) → r < m .hub .v → getD (m .newest) r 0 < m .hub .n
+  -- each free one,
+  pub freeSlots : (i : ℕ) → i < m .hub .free → getD (m .free) i 0 < m .hub .n
+  -- that of each queued range, which has three words,
+  pub queueSlots : (j : ℕ) → j < m .hub .queued → getD (m .queue) (3 * j) 0 < m .hub .n
+  -- and each neighbour of a slot below N, if it has one (H8.3 "neighbours")
+  pub neighbours : (c : ℕ) → c < m .hub .n
+      → Neighbour (m .hub) (getD (m .slots) c vacantSlot .older) × Neighbour (m .hub) (getD (m .slots) c vacantSlot .newer)
+  -- and so is the record of each worker below P
+  pub workers : (w : ℕ) → w < m .hub .p → WorkerInRange m w (workerIn (m .hub) w)
+
+-- Lent memory counts as set up exactly where all of it is in its ranges. Proved in proofs/Ranges.antt.
+abbrev pub ReadyExactly : Type 0
+ReadyExactly = (m : Memory) → ready m ≡ true ↔ InRanges m
