@@ -1,5 +1,5 @@
--- When lent memory counts as set up (H8.3), in words: every slot, register, place and count in it is in its range. The test that the code makes
--- (`ready`) is passed exactly there.
+-- When lent memory counts as set up (H8.3): every slot, register, place and count in it is in its range. The test that the code makes (`ready`)
+-- is passed exactly there.
 use mathlib.Core.Path.{_≡_}
 use mathlib.Core.Bool.{true}
 use mathlib.Core.Logic.{_⊎_, _↔_}
@@ -23,63 +23,63 @@ use Rattle.simulation.specs.Left.{ready}
 abbrev pub batchIn : Hub → ℕ
 batchIn h = batchOf (h .p)
 
--- so many ranges are at most b, and at most as many as there are slots besides the newest versions
+-- k ranges are at most b, and at most as many as there are slots besides the newest versions (H8.15, H8.16)
 abbrev pub Few : Hub → ℕ → ℕ → Type 0
 Few h k b = (k ≤ b) × (k ≤ h .n - h .v)
 
--- a neighbour is absent (H1.8) or a slot
+-- a neighbour is absent (H8.9) or a slot
 abbrev pub Neighbour : Hub → ℕ → Type 0
 Neighbour h o = (o ≡ absent) ⊎ (o < h .n)
 
 -- what worker w's place names: a register, a slot, a list in hand of so many ranges, a count of times read
 pub record PlaceInRange (m : Memory) (w : ℕ) (y : Facts) : Type 0 where
-  -- its register is one of the V (H8.3 "places")
+  -- its register is one of the V (H8.18)
   pub register : (r : ℕ) → y .register ≡ Is r → r < m .hub .v
-  -- its slot is one of the N (H8.3 "places")
+  -- its slot is one of the N (H8.17)
   pub slot : (c : ℕ) → y .slot ≡ Is c → c < m .hub .n
-  -- it has read at most P times (H8.3 "places")
+  -- it has read at most P times (H8.18)
   pub read : y .read ≤ m .hub .p
-  -- its list has at most 4B ranges (H8.3 "pools")
+  -- its list in hand has at most 4B ranges (H8.16)
   pub list : (k : ℕ) → y .ranges ≡ Is k → Few (m .hub) k (4 * batchIn (m .hub))
-  -- their slots are below N (H8.3 "slots"); worker w's list starts at range 256 w, and a range has three words
+  -- their slots are below N (H8.17); worker w's list starts at range 256 w, and a range has three words, the slot first
   pub listSlots : (k : ℕ) → y .ranges ≡ Is k → (j : ℕ) → j < k → getD (m .merged) (3 * (256 * w + j)) 0 < m .hub .n
 
 -- worker w's record
 pub record WorkerInRange (m : Memory) (w : ℕ) (x : Worker) : Type 0 where
   pub place : PlaceInRange m w (aboutOf (x .doing))
-  -- its local pool has at most B ranges (H8.3 "pools")
+  -- its local pool has at most B ranges (H8.15)
   pub pool : Few (m .hub) (x .pool .len) (batchIn (m .hub))
-  -- their slots are below N (H8.3 "slots")
+  -- their slots are below N (H8.17)
   pub poolSlots : (i : ℕ) → i < x .pool .len → getD (x .pool .slots) i 0 < m .hub .n
 
 -- all of the memory
 pub record InRanges (m : Memory) : Type 0 where
-  -- P is 1 to 16 (H1.1)
+  -- P is 1 to 16 (H8.11)
   pub p : (1 ≤ m .hub .p) × (m .hub .p ≤ 16)
-  -- V is 1 to 256 (H1.2)
+  -- V is 1 to 256 (H8.11)
   pub v : (1 ≤ m .hub .v) × (m .hub .v ≤ 256)
-  -- N is V to 2048 (H1.3), and the row is not too short for it
+  -- N is V to 2048, and the row is not too short for it (H8.11)
   pub n : (m .hub .v ≤ m .hub .n) × (m .hub .n ≤ 2048) × (m .hub .n ≤ length (m .slots))
-  -- there are at most N - V free slots (H8.3 "counts")
+  -- there are at most N - V free slots (H8.12)
   pub free : m .hub .free ≤ m .hub .n - m .hub .v
-  -- at most N - V ranges are queued (H8.3 "counts")
+  -- at most N - V ranges are queued (H8.13)
   pub queued : m .hub .queued ≤ m .hub .n - m .hub .v
-  -- there are no more pools than ranges in them (H8.3 "counts")
+  -- there are no more pools than ranges in them (H8.13)
   pub pools : m .hub .pools ≤ m .hub .queued
-  -- a queued pool has 1 to 2B ranges (H8.3 "pools")
+  -- a queued pool has 1 to 2B ranges (H8.14)
   pub lengths : (i : ℕ) → i < m .hub .pools → (1 ≤ getD (m .lens) i 0) × (getD (m .lens) i 0 ≤ 2 * batchIn (m .hub))
-  -- the pools' lengths add up to the queued ranges (H8.3 "counts")
+  -- the pools' lengths add up to the queued ranges (H8.13)
   pub sum : lensSum (m .lens) (m .hub .pools) ≡ m .hub .queued
-  -- slots are below N (H8.3 "slots"): the newest of each register,
+  -- slots are below N (H8.17): the newest of each register,
   pub newest : (r : ℕ) → r < m .hub .v → getD (m .newest) r 0 < m .hub .n
   -- each free one,
   pub freeSlots : (i : ℕ) → i < m .hub .free → getD (m .free) i 0 < m .hub .n
-  -- that of each queued range, which has three words,
+  -- that of each queued range, which has three words, the slot first
   pub queueSlots : (j : ℕ) → j < m .hub .queued → getD (m .queue) (3 * j) 0 < m .hub .n
-  -- and each neighbour of a slot below N, if it has one (H8.3 "neighbours")
+  -- each neighbour of a slot below N, if there is one, is below N (H8.19)
   pub neighbours : (c : ℕ) → c < m .hub .n
       → Neighbour (m .hub) (getD (m .slots) c vacantSlot .older) × Neighbour (m .hub) (getD (m .slots) c vacantSlot .newer)
-  -- and so is the record of each worker below P
+  -- the record of each worker below P is in range (H8.20)
   pub workers : (w : ℕ) → w < m .hub .p → WorkerInRange m w (workerIn (m .hub) w)
 
 -- Lent memory counts as set up exactly where all of it is in its ranges. Proved in proofs/Ranges.antt.
