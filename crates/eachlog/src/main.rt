@@ -55,10 +55,7 @@ fn write_answer(k: u64, answer: Answer) -> bool {
     let text: &mut [u8] = &mut text_space;
     let used = lines::write_lines(text, k, kinds, numbers, 1);
     let line = &text[..];
-    if used <= line.len() {
-        return io::write_all(libc::STDOUT_FILENO, &line[0..used]);
-    }
-    false
+    io::write_all(libc::STDOUT_FILENO, &line[0..used])
 }
 
 fn main() {

@@ -1,15 +1,14 @@
 -- What a text that is written into lent memory leaves behind: it is written in parts, and is known under other names.
 use mathlib.Core.Path.{_≡_, sym, ap, subst, _∙_}
 use mathlib.Core.List.{List, _++_, append-assoc}
-use Prim.Native.Nat.{ℕ, _+_, _-_, _≤_}
+use Prim.Native.Nat.{ℕ, suc, _+_, _-_, _≤_}
 use native.Mathlib.Omega.{arith}
 use lib.ListN.{length, take, drop, length-append, length-take, length-drop, take-append-drop}
 use lib.Seq.{take-all, take-at, take-add, drop-append-add, drop-drop, length-take-le}
 use Rattle.lists.specs.Over.{overAt}
-use Rattle.model.specs.Log.{decimal, words}
-use Rattle.values.specs.declared.Answer.{Answer}
-use Rattle.values.specs.Meaning.{answerOf}
+use Rattle.model.specs.Log.{decimal}
 use Rattle.lines.specs.Digits.{Spelled}
+use Rattle.lines.specs.Words.{wordsFrom}
 use Rattle.lines.specs.Written.{Appended}
 use Rattle.lines.proofs.Decimal.{spelled-decimal}
 
@@ -81,9 +80,16 @@ append-then {p} {q} {d} {e} {f} {i} {j} {k} h a b =
       next = omega (arith, a .next, b .next, length-append p q);
     }
 
--- the words of an answer whose case is known
-pub append-words : {a b : Answer} {d e : List ℕ} {i j : ℕ} → a ≡ b → Appended (words (answerOf b)) i d e j → Appended (words (answerOf a)) i d e j
-append-words {d = d} {e = e} {i = i} {j = j} h w = subst (λ (x : Answer). Appended (words (answerOf x)) i d e j) (sym h) w
+-- the words of an answer whose kind is known
+pub append-words : {k j : ℕ} (x : ℕ) {d e : List ℕ} {i n : ℕ} → k ≡ j → Appended (wordsFrom j x) i d e n → Appended (wordsFrom k x) i d e n
+append-words x {d = d} {e = e} {i = i} {n = n} h w = subst (λ (l : ℕ). Appended (wordsFrom l x) i d e n) (sym h) w
+
+-- the words of a kind that is none of the first six
+pub append-refusal : {k : ℕ} (x : ℕ) {d e : List ℕ} {i n : ℕ} → 6 ≤ k → Appended (wordsFrom 6 x) i d e n → Appended (wordsFrom k x) i d e n
+unfolding wordsFrom
+append-refusal {k} x {d} {e} {i} {n} h w =
+    let m : k ≡ suc (suc (suc (suc (suc (suc (k - 6)))))) = omega arith in
+    subst (λ (l : ℕ). Appended (wordsFrom l x) i d e n) (sym m) w
 
 -- the rest of a text, from index k on
 pub append-rest : (l : List ℕ) (k n : ℕ) {d e : List ℕ} {i j : ℕ} → length l ≤ k + n → Appended (take n (drop k l)) i d e j

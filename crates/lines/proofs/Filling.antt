@@ -5,10 +5,9 @@ use Prim.Native.Nat.{ℕ, _+_, _≤_, _<_}
 use native.Mathlib.Numerals.{add-one}
 use native.Mathlib.Omega.{arith}
 use lib.ListN.{length, getD}
-use Rattle.values.specs.declared.Answer.{Answer}
-use Rattle.answers.specs.Numbers.{answerFrom}
 use Rattle.lines.specs.Digits.{Spelled}
-use Rattle.lines.specs.Written.{LineAppended, nextLine, answerAt, writtenLines}
+use Rattle.lines.specs.Written.{LineAppended, nextLine, counted, writtenLines, LinesWritten}
+use Rattle.lines.proofs.Inside.{lines-inside}
 
 module _ (out₀ : List ℕ) (first : ℕ) (kinds numbers : List ℕ) where
   -- before turn k: k lines are written, and the places spell the next number
@@ -26,29 +25,30 @@ module _ (out₀ : List ℕ) (first : ℕ) (kinds numbers : List ℕ) where
       record { within = omega arith; kept = refl; memory = refl; used = refl; number = subst (λ (x : ℕ). Spelled x places start) e s }
 
   pub filling-turn :
-      {most : ℕ} {out places : List ℕ} {start at k : ℕ} {out′ places′ : List ℕ} {start′ at′ : ℕ} {a : Answer}
+      {most : ℕ} {out places : List ℕ} {start at k : ℕ} {out′ places′ : List ℕ} {start′ at′ : ℕ}
       → Filling most out places start at k
       → k < most
-      → a ≡ answerFrom (getD kinds k 0) (getD numbers k 0)
       → length out′ ≡ length out
-      → ((n : ℕ) → Spelled n places start → LineAppended n a at out out′ at′)
+      → ((n : ℕ) → Spelled n places start → LineAppended n (getD kinds k 0) (getD numbers k 0) at out out′ at′)
       → ((x : ℕ) → Spelled x places start → Spelled (x + 1) places′ start′)
       → Filling most out′ places′ start′ at′ (k + 1)
-  unfolding writtenLines nextLine answerAt
-  filling-turn {most} {out} {places} {start} {at} {k} {out′} {places′} {start′} {at′} {a} f h e l w u =
+  unfolding writtenLines nextLine
+  filling-turn {most} {out} {places} {start} {at} {k} {out′} {places′} {start′} {at′} f h l w u =
       let r = w (first + k) (f .number) in
       let m : first + k + 1 ≡ first + (k + 1) = omega arith in
       record {
         within = omega arith;
         kept = l ∙ f .kept;
-        memory = rw (add-one k, ← f .memory, ← f .used, ← e) (r .memory);
-        used = rw (add-one k, ← f .memory, ← f .used, ← e) (r .next);
+        memory = rw (add-one k, ← f .memory, ← f .used) (r .memory);
+        used = rw (add-one k, ← f .memory, ← f .used) (r .next);
         number = subst (λ (x : ℕ). Spelled x places′ start′) m (u (first + k) (f .number));
       }
 
-  pub filling-end :
-      {most : ℕ} {out places : List ℕ} {start at k : ℕ} {n : ℕ}
-      → Filling most out places start at k
-      → k ≡ n
-      → (at ≡ writtenLines out₀ first kinds numbers n .used) × (out ≡ writtenLines out₀ first kinds numbers n .memory)
-  filling-end f e = rw (← e) (f .used, f .memory)
+  pub filling-end : {most : ℕ} {out places : List ℕ} {start at k : ℕ} {count : ℕ} → Filling most out places start at k
+      → k ≡ counted count kinds numbers → LinesWritten out₀ first kinds numbers count at out
+  filling-end {k = k} f e =
+      record {
+        bytes = rw (← e) (f .used);
+        memory = rw (← e) (f .memory);
+        inside = omega (arith, f .used, f .kept, lines-inside out₀ first kinds numbers k .ends);
+      }

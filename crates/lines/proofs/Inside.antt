@@ -6,11 +6,10 @@ use Prim.Native.Nat.{ℕ, zero, suc, _+_, _≤_}
 use native.Mathlib.Omega.{arith}
 use borrow.Author.Tests.{leb-true}
 use lib.Dec.{leb}
-use lib.ListN.{length, length-append, length-take, length-drop}
+use lib.ListN.{length, getD, length-append, length-take, length-drop}
 use Rattle.lists.specs.Over.{overAt}
-use Rattle.model.specs.Log.{line}
-use Rattle.values.specs.Meaning.{answerOf}
-use Rattle.lines.specs.Written.{longest, room, writtenLine, afterLine, Written, nextLine, answerAt, writtenLines}
+use Rattle.lines.specs.Words.{lineFrom}
+use Rattle.lines.specs.Written.{longest, room, writtenLine, afterLine, Written, nextLine, writtenLines}
 use Rattle.lines.proofs.Longest.{line-length}
 
 pub record Inside (out : List ℕ) (w : Written) : Type 0 where
@@ -38,6 +37,7 @@ unfolding writtenLines nextLine writtenLine afterLine room
 lines-inside out n kinds numbers zero = record { kept = refl; ends = omega arith }
 lines-inside out n kinds numbers (suc k) =
     let w = writtenLines out n kinds numbers k in
-    let a = answerOf (answerAt kinds numbers k) in
-    appended-inside out (w .memory) (line (n + k) a) (w .used) (leb (w .used + longest) (length (w .memory))) refl
-    (line-length (n + k) a) (lines-inside out n kinds numbers k)
+    let x = getD kinds k 0 in
+    let y = getD numbers k 0 in
+    appended-inside out (w .memory) (lineFrom (n + k) x y) (w .used) (leb (w .used + longest) (length (w .memory))) refl
+    (line-length (n + k) x y) (lines-inside out n kinds numbers k)

@@ -1,5 +1,6 @@
 pub mod Appending
 pub mod Text
+pub mod Words
 pub mod Decimal
 pub mod Spelling
 pub mod Raising
@@ -8,3 +9,4 @@ pub mod Room
 pub mod Filling
 pub mod Inside
 pub mod Whole
+pub mod Examples

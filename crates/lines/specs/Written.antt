@@ -2,14 +2,15 @@
 use mathlib.Core.Path.{_≡_}
 use mathlib.Core.Bool.{Bool, cond}
 use mathlib.Core.List.{List, [], _∷_, _++_, map}
-use Prim.Native.Nat.{ℕ, zero, suc, _+_, _*_, _≤_, min}
+use Prim.Native.Nat.{ℕ, zero, suc, _+_, _*_, _≤_, _<_, min}
 use lib.Dec.{leb}
 use lib.ListN.{length, getD}
 use Rattle.lists.specs.Over.{over, overAt}
-use Rattle.model.specs.Log.{line, lines}
+use Rattle.model.specs.Log.{lines}
 use Rattle.values.specs.declared.Answer.{Answer}
 use Rattle.values.specs.Meaning.{answerOf}
-use Rattle.answers.specs.Numbers.{answerFrom}
+use Rattle.answers.specs.Numbers.{kindOf, numberOf}
+use Rattle.lines.specs.Words.{lineFrom}
 
 -- e is the memory d with the text p written from index i on, and j is the index after the text
 pub record Appended (p : List ℕ) (i : ℕ) (d e : List ℕ) (j : ℕ) : Type 0 where
@@ -24,18 +25,19 @@ longest = 48
 unfoldable pub room : List ℕ → ℕ → Bool
 room out at = leb (at + longest) (length out)
 
--- the memory after the line of record n with answer a: the line from index `at` on, or as it was where there is no room
-unfoldable pub writtenLine : List ℕ → ℕ → ℕ → Answer → List ℕ
-writtenLine out at n a = cond (room out at) (overAt at (line n (answerOf a)) out) out
+-- the memory after the line of record n with an answer of this kind and number: the line from index `at` on, or as it was where there
+-- is no room
+unfoldable pub writtenLine : List ℕ → ℕ → ℕ → ℕ → ℕ → List ℕ
+writtenLine out at n kind number = cond (room out at) (overAt at (lineFrom n kind number) out) out
 
 -- the index after the line, or `at` where there is no room
-unfoldable pub afterLine : List ℕ → ℕ → ℕ → Answer → ℕ
-afterLine out at n a = cond (room out at) (at + length (line n (answerOf a))) at
+unfoldable pub afterLine : List ℕ → ℕ → ℕ → ℕ → ℕ → ℕ
+afterLine out at n kind number = cond (room out at) (at + length (lineFrom n kind number)) at
 
--- e is the memory d after the line of record n with answer a from index i on, and j is the index after the line
-pub record LineAppended (n : ℕ) (a : Answer) (i : ℕ) (d e : List ℕ) (j : ℕ) : Type 0 where
-  pub memory : e ≡ writtenLine d i n a
-  pub next : j ≡ afterLine d i n a
+-- e is the memory d after the line of record n from index i on, and j is the index after the line
+pub record LineAppended (n kind number : ℕ) (i : ℕ) (d e : List ℕ) (j : ℕ) : Type 0 where
+  pub memory : e ≡ writtenLine d i n kind number
+  pub next : j ≡ afterLine d i n kind number
 
 -- memory with lines at its start, and how many bytes they have
 pub record Written : Type 0 where
@@ -43,35 +45,54 @@ pub record Written : Type 0 where
   pub used : ℕ
 
 -- one line more
-unfoldable pub nextLine : Written → ℕ → Answer → Written
-nextLine w n a = record { memory = writtenLine (w .memory) (w .used) n a; used = afterLine (w .memory) (w .used) n a }
-
--- answer k of a buffer of answers
-unfoldable pub answerAt : List ℕ → List ℕ → ℕ → Answer
-answerAt kinds numbers k = answerFrom (getD kinds k 0) (getD numbers k 0)
+unfoldable pub nextLine : Written → ℕ → ℕ → ℕ → Written
+nextLine w n kind number =
+    record { memory = writtenLine (w .memory) (w .used) n kind number; used = afterLine (w .memory) (w .used) n kind number }
 
 -- how many answers are written of those asked for: no more than the buffer has
 abbrev pub counted : ℕ → List ℕ → List ℕ → ℕ
 counted count kinds numbers = min count (min (length kinds) (length numbers))
 
--- the lines of the first k answers, written from the start of `out`; the first record has number n
+-- the lines of the first k answers of a buffer, written from the start of `out`; the first record has number n
 unfoldable pub writtenLines : List ℕ → ℕ → List ℕ → List ℕ → ℕ → Written
 writtenLines out n kinds numbers zero = record { memory = out; used = 0 }
-writtenLines out n kinds numbers (suc k) = nextLine (writtenLines out n kinds numbers k) (n + k) (answerAt kinds numbers k)
+writtenLines out n kinds numbers (suc k) = nextLine (writtenLines out n kinds numbers k) (n + k) (getD kinds k 0) (getD numbers k 0)
 
--- the first k answers of a buffer
-unfoldable pub answersIn : List ℕ → List ℕ → ℕ → List Answer
-answersIn kinds numbers zero = []
-answersIn kinds numbers (suc k) = answersIn kinds numbers k ++ (answerAt kinds numbers k ∷ [])
+-- The lines of the first `count` answers of a buffer, or of all where it has fewer, were written from the start of `out`, which is out′ then;
+-- they have `used` bytes.
+pub record LinesWritten (out : List ℕ) (n : ℕ) (kinds numbers : List ℕ) (count used : ℕ) (out′ : List ℕ) : Type 0 where
+  pub bytes : used ≡ writtenLines out n kinds numbers (counted count kinds numbers) .used
+  pub memory : out′ ≡ writtenLines out n kinds numbers (counted count kinds numbers) .memory
+  pub inside : used ≤ length out′
+
+------------------------------------------------------------------------
+-- The text where there is room
+
+-- the lines of the first k answers of a buffer; the first record has number n
+unfoldable pub linesFrom : ℕ → List ℕ → List ℕ → ℕ → List ℕ
+linesFrom n kinds numbers zero = []
+linesFrom n kinds numbers (suc k) = linesFrom n kinds numbers k ++ lineFrom (n + k) (getD kinds k 0) (getD numbers k 0)
 
 -- a text at the start of `out`, and its length
 abbrev pub atStart : List ℕ → List ℕ → Written
 atStart text out = record { memory = over text out; used = length text }
 
--- where `out` has room for the longest line for each answer, the text written is the model's for these answers, and the bytes
--- after it keep their contents
+-- where `out` has room for the longest line for each answer, every line is written, and the bytes after them keep their contents
 abbrev pub WholeText : Type 0
 WholeText =
     (out : List ℕ) (n : ℕ) (kinds numbers : List ℕ) (k : ℕ)
     → longest * k ≤ length out
-    → writtenLines out n kinds numbers k ≡ atStart (lines n (map answerOf (answersIn kinds numbers k))) out
+    → writtenLines out n kinds numbers k ≡ atStart (linesFrom n kinds numbers k) out
+
+-- the first k of f 0, f 1, ..
+unfoldable pub firstOf : {A : Type 0} → (ℕ → A) → ℕ → List A
+firstOf f zero = []
+firstOf f (suc k) = firstOf f k ++ (f k ∷ [])
+
+-- where the buffer has the kinds and the numbers of these answers, the lines are the model's for them
+abbrev pub ModelText : Type 0
+ModelText =
+    (n : ℕ) (kinds numbers : List ℕ) (f : ℕ → Answer) (k : ℕ)
+    → ((i : ℕ) → i < k → getD kinds i 0 ≡ kindOf (f i))
+    → ((i : ℕ) → i < k → getD numbers i 0 ≡ numberOf (f i))
+    → linesFrom n kinds numbers k ≡ lines n (map answerOf (firstOf f k))

@@ -3,11 +3,10 @@ ghost use mathlib.Core.Path.{_≡_};
 ghost use mathlib.Core.List.{_++_};
 ghost use Prim.Native.Nat.{ℕ, _+_, _*_, _≤_, min};
 ghost use lib.ListN.{length, drop, replicate};
-ghost use Rattle.model.specs.Log.{decimal, words};
-ghost use Rattle.values.specs.Meaning.{answerOf};
+ghost use Rattle.model.specs.Log.{decimal};
 ghost use Rattle.lines.specs.Digits.{Spelled};
-ghost use Rattle.lines.specs.Written.{Appended, LineAppended, counted, writtenLines};
-use values::Answer;
+ghost use Rattle.lines.specs.Words.{wordsFrom};
+ghost use Rattle.lines.specs.Written.{Appended, LineAppended, LinesWritten};
 
 // Writes a text at index `at` of out; answers the index after it.
 fn put_text(out: &mut [u8], at: usize, t: &[u8]) -> usize
@@ -123,27 +122,34 @@ fn put_numbered(out: &mut [u8], at: usize, t: &[u8], x: u64) -> usize
     put_decimal(out, next, x)
 }
 
-// Writes the words of an answer, at most 26 bytes, at index `at` of out; answers the index after them.
-fn put_words(out: &mut [u8], at: usize, answer: Answer) -> usize
+// Writes the words of the answer of this kind and number, at most 26 bytes, at index `at` of out; answers the index after them.
+fn put_words(out: &mut [u8], at: usize, kind: u8, number: u64) -> usize
     requires { ⌜ at + 26 ≤ length (now out) ⌝ }
-    ensures { λ r. ⌜ Appended (words (answerOf answer)) at (now (out .entry)) (now (out .exit)) r ⌝ }
+    ensures { λ r. ⌜ Appended (wordsFrom kind number) at (now (out .entry)) (now (out .exit)) r ⌝ }
 {
-    match answer {
-        Answer::Ok => put_text(out, at, b"ok"),
-        Answer::Going => put_text(out, at, b"going"),
-        Answer::Freed(slot) => put_numbered(out, at, b"freed ", slot as u64),
-        Answer::At(time) => put_numbered(out, at, b"at ", time as u64),
-        Answer::Value(reading) => put_numbered(out, at, b"value ", reading.count),
-        Answer::Done => put_text(out, at, b"done"),
-        Answer::No(refusal) => put_numbered(out, at, b"no ", refusal as u64),
+    match kind {
+        0 => put_text(out, at, b"ok"),
+        1 => put_text(out, at, b"going"),
+        2 => put_numbered(out, at, b"freed ", number),
+        3 => put_numbered(out, at, b"at ", number),
+        4 => put_numbered(out, at, b"value ", number),
+        5 => put_text(out, at, b"done"),
+        _ => put_numbered(out, at, b"no ", number),
     }
 }
 
-// Writes the line of the record whose number the places spell, with its answer, at index `at` of out; answers the index after it.
-// Where fewer than 48 bytes, the longest line, are left from `at` on, writes nothing and answers `at`.
-fn write_line(out: &mut [u8], at: usize, places: &[u8; 20], start: usize, answer: Answer) -> usize
+// Writes the line of the record whose number the places spell, with its answer's kind and number, at index `at` of out; answers the index
+// after it. Where fewer than 48 bytes, the longest line, are left from `at` on, writes nothing and answers `at`.
+fn write_line(
+    out: &mut [u8],
+    at: usize,
+    places: &[u8; 20],
+    start: usize,
+    kind: u8,
+    number: u64,
+) -> usize
     requires { ⌜ start ≤ 20 ⌝ }
-    ensures { λ r. ⌜ ((n : ℕ) → Spelled n (now (places .entry)) start → LineAppended n answer at (now (out .entry)) (now (out .exit)) r) ⌝ }
+    ensures { λ r. ⌜ ((n : ℕ) → Spelled n (now (places .entry)) start → LineAppended n kind number at (now (out .entry)) (now (out .exit)) r) ⌝ }
 {
     if out.len() < at {
         return at;
@@ -153,7 +159,7 @@ fn write_line(out: &mut [u8], at: usize, places: &[u8; 20], start: usize, answer
     }
     let space = put_digits(out, at, places, start);
     let word = put_text(out, space, b" ");
-    let end = put_words(out, word, answer);
+    let end = put_words(out, word, kind, number);
     put_text(out, end, b"\n")
 }
 
@@ -169,8 +175,7 @@ fn least(a: usize, b: usize) -> usize
 // Writes the lines of the first `count` answers of a buffer, or of all where it has fewer, from the start of out, the first with the
 // number `first`; answers how many bytes they have. The number is kept as its digits, so that each line only adds one.
 pub fn write_lines(out: &mut [u8], first: u64, kinds: &[u8], numbers: &[u64], count: usize) -> usize
-    ensures { λ r. ⌜ r ≡ writtenLines (now (out .entry)) first (now (kinds .entry)) (now (numbers .entry)) (counted count (now (kinds .entry)) (now (numbers .entry))) .used ⌝ }
-    ensures { λ _. ⌜ now (out .exit) ≡ writtenLines (now (out .entry)) first (now (kinds .entry)) (now (numbers .entry)) (counted count (now (kinds .entry)) (now (numbers .entry))) .memory ⌝ }
+    ensures { λ r. ⌜ LinesWritten (now (out .entry)) first (now (kinds .entry)) (now (numbers .entry)) count r (now (out .exit)) ⌝ }
 {
     let most = least(count, least(kinds.len(), numbers.len()));
     let mut places = [48u8; 20];
@@ -178,8 +183,7 @@ pub fn write_lines(out: &mut [u8], first: u64, kinds: &[u8], numbers: &[u64], co
     let mut at = 0;
     let mut k = 0;
     while k < most {
-        let answer = answers::answer(kinds[k], numbers[k]);
-        at = write_line(out, at, &places, start, answer);
+        at = write_line(out, at, &places, start, kinds[k], numbers[k]);
         start = count_up(&mut places, start);
         k += 1;
     }

@@ -88,9 +88,7 @@ fn main() {
     let text: &mut [u8] = &mut text_space;
     let used = lines::write_lines(text, 0, kinds, numbers, done.count);
     let log = &text[..];
-    if used <= log.len() {
-        if io::write_all(libc::STDOUT_FILENO, &log[0..used]) {
-            return;
-        }
+    if io::write_all(libc::STDOUT_FILENO, &log[0..used]) {
+        return;
     }
 }

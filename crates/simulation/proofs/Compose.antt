@@ -29,7 +29,7 @@ events-append h (b ∷ l) n =
     let a = applyRuled h b in
     ap (λ (es : List Event). record { bytes = b .bytes; before = h; answer = a .answer; after = a .hub } ∷ es) (events-append (a .hub) l n)
 
-hub-append : (h : Hub) (l n : List Ruled) → hubAfter h (l ++ n) ≡ hubAfter (hubAfter h l) n
+pub hub-append : (h : Hub) (l n : List Ruled) → hubAfter h (l ++ n) ≡ hubAfter (hubAfter h l) n
 unfolding hubAfter
 hub-append h [] n = refl
 hub-append h (b ∷ l) n = hub-append (applyRuled h b .hub) l n

@@ -29,7 +29,8 @@ cut-records (suc n) bytes (x ∷ l) k e h =
     cut-records n bytes r (k + 1) on (omega (arith, h, length-drop 16 (x ∷ l))) in
     ap (λ (j : ℕ). map (recordAt bytes) (upFrom k j)) one ∙ (λ i. take 16 (e i) ∷ rest i)
 
-whole : (bytes : List ℕ) → map (recordAt bytes) (upFrom 0 (recordsIn bytes)) ≡ recordsOf bytes
+-- the records of a buffer are the model's records of its bytes
+pub whole : (bytes : List ℕ) → map (recordAt bytes) (upFrom 0 (recordsIn bytes)) ≡ recordsOf bytes
 unfolding recordsOf
 whole bytes = cut-records (length bytes) bytes bytes 0 refl (omega arith)
 
@@ -62,7 +63,7 @@ cut-parts (suc n) (suc p) (x ∷ l) r (suc k) e h g =
     (λ i. take-append-le 16 s r long i ∷ cut n (drop-append-le 16 s r long i)) ∙ ap (λ (q : List (List ℕ)). take 16 s ∷ q) rest
 
 -- a part of whole records, or the last one
-in-parts : (l r : List ℕ) → (length l % 16 ≡ 0) ⊎ (r ≡ []) → recordsOf (l ++ r) ≡ recordsOf l ++ recordsOf r
+pub in-parts : (l r : List ℕ) → (length l % 16 ≡ 0) ⊎ (r ≡ []) → recordsOf (l ++ r) ≡ recordsOf l ++ recordsOf r
 unfolding recordsOf cut
 in-parts l r (inl e) =
     let whole-records : length l ≡ 16 * (length l / 16) = omega (arith, e) in
@@ -82,7 +83,7 @@ one-record (x ∷ l) h k =
     ap (cut (length l)) (drop-of-length-le (x ∷ l) k) ∙ cut-enough (length l) 0 [] (omega arith) (omega arith) in
     λ i. sym (take-all 16 (x ∷ l) k) i ∷ sym none i
 
-call-records : (c : CallIn) → AppliedAll c → map (λ (e : Exchange). e .bytes) (exchanged c) ≡ recordsOf (bytesIn c)
+pub call-records : (c : CallIn) → AppliedAll c → map (λ (e : Exchange). e .bytes) (exchanged c) ≡ recordsOf (bytesIn c)
 call-records (ForRecord b y m) (h, k) = one-record b h k
 call-records (ForBuffer bytes kinds numbers n kinds′ numbers′ m) e =
     sym (map-map (λ (x : Exchange). x .bytes) (exchangeAt bytes kinds′ numbers′) (upFrom 0 n))

@@ -1,8 +1,10 @@
--- `write_line` meets its contract: without room nothing is written; else the number, a space, the words and the line's end are appended one after the other.
+-- `write_line` meets its contract: without room nothing is written; else the number, a space, the words and the line's end are appended one
+-- after the other.
 use Prim.Native.Nat.{_≤_}
 use lib.ListN.{length}
 use native.Mathlib.Omega.{arith}
-use Rattle.model.specs.Log.{text, line}
+use Rattle.model.specs.Log.{text}
+use Rattle.lines.specs.Words.{lineFrom}
 use Rattle.lines.proofs.Appending.{append-then, append-spelled}
 use Rattle.lines.proofs.Longest.{after-words}
 use Rattle.lines.proofs.Room.{no-room, line-appended}
@@ -11,13 +13,13 @@ use Rattle.lines.proofs.write_line.Statement.{statement}
 use Rattle.lines.proofs.write_line.Tie as tie
 
 returns : tie.Need-returns
-returns c n s = no-room _ _ _ _ (omega arith)
+returns c n s = no-room _ _ _ _ _ (omega arith)
 
 sub-if2 : tie.Need-sub-if2
 sub-if2 c = search needs
 
 returns-2 : tie.Need-returns-2
-returns-2 c n s = no-room _ _ _ _ (omega arith)
+returns-2 c n s = no-room _ _ _ _ _ (omega arith)
 
 put-digits-requires : tie.Need-put-digits-requires
 put-digits-requires c κs = omega arith
@@ -41,7 +43,7 @@ same-length : tie.Need-same-length
 same-length c = search needs
 
 returns-3 : tie.Need-returns-3
-unfolding text line
+unfolding text lineFrom
 returns-3 c n s =
     let e = c .before .before .before .before .before .before .before .before .before .before .before .before .before .before .before
     .before .before .before in

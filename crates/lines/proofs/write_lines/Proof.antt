@@ -25,20 +25,17 @@ spell-requires c κs = search needs
 loop-holds : tie.Need-loop-holds Inv-loop μ-loop
 loop-holds c = filling-start _ _ _ _ _ (c .spell .ensures)
 
-shared-slice-read-answer : tie.Need-shared-slice-read-answer Inv-loop μ-loop
-shared-slice-read-answer c = search needs
+shared-slice-read-write-line : tie.Need-shared-slice-read-write-line Inv-loop μ-loop
+shared-slice-read-write-line c = search needs
 
-mul-answer : tie.Need-mul-answer Inv-loop μ-loop
-mul-answer c = search needs
+mul-write-line : tie.Need-mul-write-line Inv-loop μ-loop
+mul-write-line c = search needs
 
-shared-slice-read-answer-2 : tie.Need-shared-slice-read-answer-2 Inv-loop μ-loop
-shared-slice-read-answer-2 c = search needs
-
-answer-requires : tie.Need-answer-requires Inv-loop μ-loop
-answer-requires c κs = search needs
+shared-slice-read-write-line-2 : tie.Need-shared-slice-read-write-line-2 Inv-loop μ-loop
+shared-slice-read-write-line-2 c = search needs
 
 write-line-requires : tie.Need-write-line-requires Inv-loop μ-loop
-write-line-requires c κs = spelled-start (c .before .before .before .before .before .before .loop .inv .number)
+write-line-requires c κs = spelled-start (c .before .before .before .before .before .loop .inv .number)
 
 count-up-requires : tie.Need-count-up-requires Inv-loop μ-loop
 count-up-requires c κs = search needs
@@ -51,10 +48,9 @@ loop-less c = search needs
 
 loop-again : tie.Need-loop-again Inv-loop μ-loop
 loop-again c =
-    filling-turn _ _ _ _ (c .before .before .before .before .before .before .before .before .before .before .before .loop .inv)
-    (c .before .before .before .before .before .before .before .before .before .before .loop-test .taken)
-    (c .before .before .before .before .before .before .before .answer .ensures) (search needs)
-    (c .before .before .before .before .write-line .ensures) (c .count-up .ensures)
+    filling-turn _ _ _ _ (c .before .before .before .before .before .before .before .before .before .before .loop .inv)
+    (c .before .before .before .before .before .before .before .before .before .loop-test .taken)
+    (search needs) (c .before .before .before .before .write-line .ensures) (c .count-up .ensures)
 
 same-length : tie.Need-same-length Inv-loop μ-loop
 same-length c = c .before .loop .inv .kept
@@ -72,10 +68,9 @@ write-lines-spec =
     least-requires-2
     spell-requires
     loop-holds
-    shared-slice-read-answer
-    mul-answer
-    shared-slice-read-answer-2
-    answer-requires
+    shared-slice-read-write-line
+    mul-write-line
+    shared-slice-read-write-line-2
     write-line-requires
     count-up-requires
     add-k

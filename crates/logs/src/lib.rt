@@ -1,0 +1,120 @@
+// The log of the records, part by part: the records of a part of the input are applied, and their lines are written as text.
+ghost use mathlib.Core.Path.{_≡_};
+ghost use mathlib.Core.Bool.{cond};
+ghost use Prim.Native.Nat.{_-_, _*_, _/_, _≤_, min};
+ghost use lib.ListN.{length};
+ghost use Rattle.lists.specs.Over.{shifted};
+ghost use Rattle.logs.specs.Part.{Logs};
+use slots::Slot;
+use state::Hub;
+
+// ---- the input, cut between records
+
+// How many of the n bytes read so far are to be logged: the whole records, and at the end of the input the rest too, which is one more (H3.6).
+pub fn to_log(n: usize, ended: bool) -> usize
+    ensures { λ r. ⌜ (r ≡ cond ended n (16 * (n / 16))) × (r ≤ n) ⌝ }
+{
+    if ended {
+        return n;
+    }
+    16 * (n / 16)
+}
+
+// Moves the bytes from index `from` to index n to the front; answers how many they are.
+pub fn keep_rest(buf: &mut [u8], from: usize, n: usize) -> usize
+    requires { ⌜ (from ≤ n) × (n ≤ length (now buf)) ⌝ }
+    ensures { λ r. ⌜ (r ≡ n - from) × (now (buf .exit) ≡ shifted (now (buf .entry)) from n) × (r ≤ length (now (buf .exit))) ⌝ }
+{
+    let rest = n - from;
+    for i in 0..rest {
+        buf[i] = buf[i + from];
+    }
+    rest
+}
+
+// ---- a part of the input
+
+// How many of so many bytes belong to records for whose lines there is room in `room` bytes of text.
+fn fitting(bytes: usize, room: usize) -> usize
+    ensures { λ r. ⌜ r ≡ min bytes (16 * (room / 48)) ⌝ }
+{
+    let most = 16 * (room / 48);
+    if bytes < most {
+        return bytes;
+    }
+    most
+}
+
+// What is left of the hub and of the row by value, how many records were applied, and how many bytes of text their lines have.
+pub struct Logged {
+    pub hub: Hub,
+    pub slots: [Slot; 2048],
+    pub count: usize,
+    pub used: usize,
+}
+
+// Applies the records of a part of the input, the first of which has the number `first`, and writes their lines from the start of the text.
+// No line is lost: as many records are applied as there is room for, with 48 bytes of text, a kind and a number for each.
+pub fn log_part(
+    row: [Slot; 2048],
+    hub: Hub,
+    bytes: &[u8],
+    first: u64,
+    text: &mut [u8],
+    kinds: &mut [u8],
+    numbers: &mut [u64],
+    newest: &mut [u16; 256],
+    free: &mut [u16; 2048],
+    queue: &mut [u32; 6144],
+    lens: &mut [u32; 2048],
+    merged: &mut [u32; 12288],
+) -> Logged
+    ensures { λ r. ⌜
+        Logs
+        (record {
+          hub = hub;
+          slots = row;
+          newest = now (newest .entry);
+          free = now (free .entry);
+          queue = now (queue .entry);
+          lens = now (lens .entry);
+          merged = now (merged .entry);
+        })
+        (now (bytes .entry)) first (now (text .entry)) (now (kinds .entry)) (now (numbers .entry)) (r .count) (r .used)
+        (record {
+          hub = r .hub;
+          slots = r .slots;
+          newest = now (newest .exit);
+          free = now (free .exit);
+          queue = now (queue .exit);
+          lens = now (lens .exit);
+          merged = now (merged .exit);
+        })
+        (now (text .exit)) (now (kinds .exit)) (now (numbers .exit))
+        ⌝ }
+    ensures { λ r. ⌜ r .used ≤ length (now (text .exit)) ⌝ }
+{
+    let n = fitting(bytes.len(), text.len());
+    let done = hub::apply_owned(
+        row,
+        hub,
+        &bytes[0..n],
+        kinds,
+        numbers,
+        newest,
+        free,
+        queue,
+        lens,
+        merged,
+    );
+    let count = done.count;
+    let used = lines::write_lines(text, first, kinds, numbers, count);
+    let left = done.hub;
+    let slots = done.slots;
+    Logged {
+        hub: left,
+        slots,
+        count,
+        used,
+    }
+}
