@@ -1,9 +1,9 @@
 -- Where bytes are cut into records: record k as sixteen bytes, as a rest, and past the end; and how many records there are.
-use mathlib.Core.Path.{_≡_, ap, sym, _∙_}
-use mathlib.Core.List.{List}
+use mathlib.Core.Path.{_≡_, refl, ap, sym, _∙_}
+use mathlib.Core.List.{List, [], _∷_}
 use Prim.Native.Nat.{ℕ, _+_, _-_, _*_, _/_, _<_, _≤_}
 use native.Mathlib.Omega.{arith}
-use lib.ListN.{length, take, drop, length-drop, drop-of-length-le}
+use lib.ListN.{length, getD, take, drop, length-drop, drop-of-length-le}
 use lib.Seq.{take-all, take-nil}
 
 -- past the end there is nothing
@@ -21,3 +21,9 @@ cut-rest l i h = take-all (length l - i) (drop i l) (omega (arith, length-drop i
 -- sixteen
 pub cut-whole : (l : List ℕ) (i : ℕ) → take (i + 16 - i) (drop i l) ≡ take 16 (drop i l)
 cut-whole l i = let sixteen : i + 16 - i ≡ 16 = omega arith in ap (λ (m : ℕ). take m (drop i l)) sixteen
+
+-- a record of fewer than two bytes has no byte 1
+pub short-second : (l : List ℕ) → length l < 2 → 0 ≡ getD l 1 0
+short-second [] h = refl
+short-second (x ∷ []) h = refl
+short-second (x ∷ y ∷ l) h = absurd (omega (arith, h))

@@ -35,7 +35,7 @@ use Rattle.gate.specs.declared.Gate.{Gate}
 use Rattle.gate.specs.declared.Gate.the-variants.{Refuse, Make, Start, Go}
 use Rattle.gate.specs.Gate.{decodedRep, decodedIn, gateOf, whoOf}
 use Rattle.gate.proofs.Decoded.{decoded-back}
-use Rattle.gate.proofs.Named.{Named, named}
+use Rattle.gate.proofs.Named.{Names, Named, named, byte-names}
 use Rattle.ready.specs.Ready.{readyOf}
 use Rattle.step.specs.declared.Outcome.{Outcome}
 use Rattle.step.specs.declared.Next.{Next}
@@ -93,21 +93,25 @@ emptyPool = record { slots = replicate 64 0; lows = replicate 64 0; highs = repl
 empty-is : poolRep [] ≡ emptyPool
 empty-is i = record { slots = padded-nil 64 i; lows = padded-nil 64 i; highs = padded-nil 64 i; len = 0 }
 
--- What is known once record k is decided: it reads as r and names worker w, and g is the decision.
+-- What is known once record k is decided: it reads as r, its byte 1 modulo sixteen is w, and g is the decision.
 pub record Decides (S : State) (bytes : List ℕ) (count k : ℕ) (T : State) (r : Decoded) (w : ℕ) (g : Gate) : Type 0 where
   pub soFar : SoFar S bytes count k T
   pub more : k < count
   pub reads : decodedOf r ≡ Model.decode (recordAt bytes k)
-  pub worker : w ≡ whoOf r % 16
+  pub worker : w ≡ getD (recordAt bytes k) 1 0 % 16
   pub decided : g
       ≡ gateOf r (T .up) (T .memory .hub .p) (T .memory .hub .v) (length (T .memory .slots)) (workerIn (T .memory .hub) w .doing)
       (workerIn (T .memory .hub) w .announced)
+
+-- the worker's number by the record's bytes
+pub named-by : {v : ℕ} {b c : List ℕ} → v ≡ getD b 1 0 → b ≡ c → v % 16 ≡ getD c 1 0 % 16
+named-by e f = ap (λ (z : ℕ). z % 16) e ∙ ap (λ (d : List ℕ). getD d 1 0 % 16) f
 
 -- by what the loop's locals and its calls are known to be
 pub deciding : (row : List (List ℕ)) {S : State} {bytes : List ℕ} {count k : ℕ} {up : Bool} {h : Hub}
     {newest free queue lens merged kinds numbers : List ℕ} {last : Answer} {r : Decoded} {w : ℕ} {g : Gate}
     → SoFar S bytes count k (stateOf up h row newest free queue lens merged kinds numbers last) → k < count
-    → decodedOf r ≡ Model.decode (recordAt bytes k) → w ≡ whoOf r % 16
+    → decodedOf r ≡ Model.decode (recordAt bytes k) → w ≡ getD (recordAt bytes k) 1 0 % 16
     → g ≡ gateOf r up (h .p) (h .v) (length row) (getD (h .workers) w nobody .doing) (getD (h .workers) w nobody .announced)
     → Decides S bytes count k (stateOf up h row newest free queue lens merged kinds numbers last) r w g
 deciding row {up = up} {h = h} {r = r} {w = w} R more reads worker decided =
@@ -138,6 +142,13 @@ module _ {S : State} {bytes : List ℕ} {count k : ℕ} {T : State} {r : Decoded
   R : SoFar S bytes count k T
   R = D .soFar
 
+  -- the worker that the record names, if it names one
+  abbrev u : ℕ
+  u = getD b 1 0
+
+  names : Names r u
+  names = byte-names r b (D .reads)
+
   read-as : r ≡ decodedIn b
   read-as = decoded-back r ∙ ap decodedRep (D .reads)
 
@@ -146,15 +157,15 @@ module _ {S : State} {bytes : List ℕ} {count k : ℕ} {T : State} {r : Decoded
   gate =
       sym (D .decided
       ∙ ap (λ (v : ℕ). gateOf r (T .up) (h .p) (h .v) (length (m .slots)) (workerIn h v .doing) (workerIn h v .announced)) (D .worker)
-      ∙ gate-at h r (T .up) (length (m .slots)) (R .few)
+      ∙ gate-at h r u names (T .up) (length (m .slots)) (R .few)
       ∙ ap (λ (z : Decoded). gateOf z (T .up) (h .p) (h .v) (length (m .slots)) (workerIn h (whoOf z) .doing) (workerIn h (whoOf z) .announced))
       read-as)
 
   -- what it says of the worker
-  says : Named (T .up) (whoOf r) (h .p) (length (m .slots)) g
+  says : Named (T .up) u (h .p) (length (m .slots)) g
   says =
-      subst (Named (T .up) (whoOf r) (h .p) (length (m .slots))) (sym (D .decided))
-      (named r (T .up) (h .p) (h .v) (length (m .slots)) (x .doing) (x .announced))
+      subst (Named (T .up) u (h .p) (length (m .slots))) (sym (D .decided))
+      (named r u names (T .up) (h .p) (h .v) (length (m .slots)) (x .doing) (x .announced))
 
   -- the answer y is written
   abbrev pub Wrote : Answer → List ℕ → List ℕ → Answer → Type 0
@@ -197,7 +208,7 @@ module _ {S : State} {bytes : List ℕ} {count k : ℕ} {T : State} {r : Decoded
   on-refuse n kinds numbers last e z = on-gate (Refuse n) (T .up) _ kinds numbers last e (or-false (T .up)) refl (R .few) refl (R .sixteen) z
 
   pub make-few : (p v n t : ℕ) → g ≡ Make p v n t → (p ≤ 16) × (n ≤ 2048) × (v ≤ n)
-  make-few p v n t e = sizes-few p v n t (length (m .slots)) (subst (Named (T .up) (whoOf r) (h .p) (length (m .slots))) e says .1)
+  make-few p v n t e = sizes-few p v n t (length (m .slots)) (subst (Named (T .up) u (h .p) (length (m .slots))) e says .1)
 
   pub on-make : (p v n t : ℕ) (h′ : Hub) (slots newest free : List _) (kinds numbers : List ℕ) (last : Answer) → g ≡ Make p v n t
       → h′ ≡ freshHub p v n t → slots ≡ madeTo (m .slots) v n → newest ≡ fillTo (m .newest) short v
@@ -216,11 +227,11 @@ module _ {S : State} {bytes : List ℕ} {count k : ℕ} {T : State} {r : Decoded
       (ap length es ∙ length-madeTo (m .slots) v n) (ap (λ (y : Hub). length (y .workers)) eh) z
 
   -- the worker of a begin or a step
-  named-worker : (v : ℕ) → (T .up ≡ true) × (v ≡ whoOf r) × (whoOf r < h .p) → (v ≡ w) × (w < 16)
+  named-worker : (v : ℕ) → (T .up ≡ true) × (v ≡ u) × (u < h .p) → (v ≡ w) × (w < 16)
   named-worker v n =
       let p = R .few (n .0) in
       let e = D .worker in
-      let l : whoOf r < 16 = omega (arith, n .2) in
+      let l : u < 16 = omega (arith, n .2) in
       (n .1 ∙ omega arith, omega arith)
 
   pub on-start : (v : ℕ) (d : Doing) (kinds numbers : List ℕ) (last : Answer) → g ≡ Start v d → Wrote Ok kinds numbers last
@@ -228,7 +239,7 @@ module _ {S : State} {bytes : List ℕ} {count k : ℕ} {T : State} {r : Decoded
       (record { up = T .up; memory = withHub m (withWorkersIn h (set (h .workers) w (atPlace x d))); kinds = kinds; numbers = numbers; last = last })
   unfolding obeyIn
   on-start v d kinds numbers last e z =
-      let n = named-worker v (subst (Named (T .up) (whoOf r) (h .p) (length (m .slots))) e says) in
+      let n = named-worker v (subst (Named (T .up) u (h .p) (length (m .slots))) e says) in
       on-gate (Start w d) (T .up) _ kinds numbers last (e ∙ ap (λ (y : ℕ). Start y d) (n .0)) (or-false (T .up)) refl (R .few) refl
       (length-set (h .workers) w _ ∙ R .sixteen) z
 
@@ -243,13 +254,13 @@ module _ {S : State} {bytes : List ℕ} {count k : ℕ} {T : State} {r : Decoded
         ∙ length-step (x .doing) (x .announced) (h .clock) (h .free) (h .p) (m .slots) (m .newest) (m .free)
 
     of-worker : (v ≡ w) × (w < 16)
-    of-worker = named-worker v (subst (Named (T .up) (whoOf r) (h .p) (length (m .slots))) e says)
+    of-worker = named-worker v (subst (Named (T .up) u (h .p) (length (m .slots))) e says)
 
     pub below : w < 16
     below = of-worker .1
 
     pub workers : h .p ≤ 16
-    workers = R .few (subst (Named (T .up) (whoOf r) (h .p) (length (m .slots))) e says .0)
+    workers = R .few (subst (Named (T .up) u (h .p) (length (m .slots))) e says .0)
 
     pub told : (s′ : Next) → s ≡ s′ → Said (h .p) s′
     told s′ f =

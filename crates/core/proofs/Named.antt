@@ -1,5 +1,5 @@
 -- The sixteen workers' records can be looked at by the worker's number modulo sixteen: where it matters, the worker is below sixteen.
-use mathlib.Core.Path.{_≡_, ap}
+use mathlib.Core.Path.{_≡_, sym, ap, _∙_}
 use mathlib.Core.Bool.{Bool, true}
 use Prim.Native.Nat.{ℕ, _<_, _≤_, _%_}
 use native.Mathlib.Omega.{arith}
@@ -9,17 +9,17 @@ use Rattle.record.specs.declared.Decoded.{Decoded}
 use Rattle.state.specs.declared.Hub.{Hub}
 use Rattle.state.specs.State.{nobody, workerIn}
 use Rattle.gate.specs.Gate.{gateOf, whoOf}
-use Rattle.gate.proofs.Named.{same-gate}
+use Rattle.gate.proofs.Named.{Names, same-gate}
 
 -- a worker below sixteen
 worker-at : (h : Hub) (w : ℕ) → w < 16 → getD (h .workers) (w % 16) nobody ≡ workerIn h w
 worker-at h w l = let e : w % 16 ≡ w = omega arith in rw e
 
-pub gate-at : (h : Hub) (r : Decoded) (up : Bool) (long : ℕ) → (up ≡ true → h .p ≤ 16)
-    → gateOf r up (h .p) (h .v) long (getD (h .workers) (whoOf r % 16) nobody .doing) (getD (h .workers) (whoOf r % 16) nobody .announced)
+pub gate-at : (h : Hub) (r : Decoded) (u : ℕ) → Names r u → (up : Bool) (long : ℕ) → (up ≡ true → h .p ≤ 16)
+    → gateOf r up (h .p) (h .v) long (getD (h .workers) (u % 16) nobody .doing) (getD (h .workers) (u % 16) nobody .announced)
     ≡ gateOf r up (h .p) (h .v) long (workerIn h (whoOf r) .doing) (workerIn h (whoOf r) .announced)
-gate-at h r up long few =
-    same-gate r up (h .p) (h .v) long _ _ _ _
-    (λ u l. let p = few u in
-    let e = worker-at h (whoOf r) (omega arith) in
-    (ap (λ (x : Worker). x .doing) e, ap (λ (x : Worker). x .announced) e))
+gate-at h r u n up long few =
+    same-gate r u n up (h .p) (h .v) long _ _ _ _
+    (λ t l e. let p = few t in
+    let s = worker-at h u (omega arith) ∙ ap (workerIn h) (sym e) in
+    (ap (λ (x : Worker). x .doing) s, ap (λ (x : Worker). x .announced) s))

@@ -1,7 +1,8 @@
 // The loop over the records. It owns the hub while it runs, so that a record moves only what its step names; everything else is lent. The
 // slots are a lent row of words. Every public call goes through it.
 ghost use mathlib.Core.Path.{_≡_};
-ghost use lib.ListN.{set};
+ghost use Prim.Native.Nat.{_≤_};
+ghost use lib.ListN.{getD, set};
 ghost use Rattle.answers.specs.Numbers.{kindOf, numberOf};
 ghost use Rattle.versions.specs.Versions.{rowOf};
 ghost use Rattle.simulation.specs.Loop.{Ran};
@@ -14,20 +15,38 @@ use values::Answer;
 use worker::Doing;
 use worker::Worker;
 
+fn wide(x: u8) -> usize
+    ensures { λ r. ⌜ (r ≡ x) × (r ≤ 255) ⌝ }
+{
+    x as usize
+}
+
 // Record k of the bytes: sixteen from byte 16 k on, or as many as are left there.
 fn record_at(bytes: &[u8], k: usize) -> &[u8]
     ensures { λ r. ⌜ now r ≡ recordAt (now (bytes .entry)) k ⌝ }
 {
     let most = bytes.len();
-    if most / 16 < k {
+    let whole = most / 16;
+    if k < whole {
+        let from = 16 * k;
+        let end = from + 16;
+        return &bytes[from..end];
+    }
+    if whole < k {
         return &bytes[most..most];
     }
     let from = 16 * k;
-    if most - from < 16 {
-        return &bytes[from..most];
+    &bytes[from..most]
+}
+
+// The worker that a record names, in its byte 1; 0 where it has none.
+fn worker_byte(rec: &[u8]) -> usize
+    ensures { λ r. ⌜ (r ≡ getD (now (rec .entry)) 1 0) × (r ≤ 255) ⌝ }
+{
+    if rec.len() < 2 {
+        return 0;
     }
-    let end = from + 16;
-    &bytes[from..end]
+    wide(rec[1])
 }
 
 // The answer to record k: its kind and its number at k. Past the end of a row nothing is written.
@@ -112,12 +131,12 @@ pub fn run(
     let mut k: usize = 0;
     while k < count {
         let rec = record_at(bytes, k);
-        let r = record::decode(rec);
         // The record that is looked at is the worker's own where there are more than w workers; elsewhere it does not matter.
-        let w = gate::who(r) % 16;
+        let w = worker_byte(rec) % 16;
         let x = hub.workers[w];
         let d = x.doing;
         let t = x.announced;
+        let r = record::decode(rec);
         let g = gate::gate_for(r, up, hub.p, hub.v, row.len(), d, t);
         match g {
             Gate::Refuse(refusal) => {

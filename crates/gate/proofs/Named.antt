@@ -1,10 +1,15 @@
 -- What the decision on a record says of the worker: an operation begins, and a step is taken, only where the memory counts as set up and of a
 -- worker below p; the record of another worker does not matter.
-use mathlib.Core.Path.{_≡_, refl}
+use mathlib.Core.Path.{_≡_, refl, sym, subst}
 use mathlib.Core.Bool.{Bool, true, false, cond}
-use Prim.Native.Nat.{ℕ, _<_}
+use mathlib.Core.List.{List}
+use Prim.Native.Nat.{ℕ, zero, suc, _<_}
+use native.Mathlib.Omega.{arith}
 use lib.Dec.{ltb}
+use lib.ListN.{length, getD}
 use borrow.Author.Tests.{ltb-true}
+use Rattle.model.specs.Record as Model
+use Rattle.model.proofs.Basic.{cond-both}
 use Rattle.worker.specs.declared.Announced.{Announced}
 use Rattle.worker.specs.declared.Doing.{Doing}
 use Rattle.worker.specs.About.{aboutOf}
@@ -12,6 +17,7 @@ use Rattle.record.specs.declared.Operation.{Operation}
 use Rattle.record.specs.declared.Command.the-variants.{SetUp, Begin, Step}
 use Rattle.record.specs.declared.Decoded.{Decoded}
 use Rattle.record.specs.declared.Decoded.the-variants.{Asks, Refuses}
+use Rattle.record.specs.Meaning.{decodedOf}
 use Rattle.gate.specs.declared.Gate.{Gate}
 use Rattle.gate.specs.declared.Gate.the-variants.{Refuse, Make, Start, Go}
 use Rattle.gate.specs.Gate.{termsOf, registerOk, openOk, timeOk, beginGate, sizesOk, gateOf, whoOf}
@@ -39,18 +45,28 @@ named-make : (w p long x y n k : ℕ) (t : Bool) → sizesOk x y n k long ≡ t 
 named-make w p long x y n k true e = (refl, e)
 named-make w p long x y n k false e = tt
 
-pub named : (r : Decoded) (up : Bool) (p v long : ℕ) (d : Doing) (t : Announced) → Named up (whoOf r) p long (gateOf r up p v long d t)
-unfolding gateOf whoOf beginGate
-named (Refuses k) up p v long d t = tt
-named (Asks (SetUp x y n k)) true p v long d t = tt
-named (Asks (SetUp x y n k)) false p v long d t = named-make 0 p long x y n k (sizesOk x y n k long) refl
-named (Asks (Begin w o)) false p v long d t = tt
-named (Asks (Begin w o)) true p v long d t =
+-- the worker, if a record names one, is u
+abbrev pub Names : Decoded → ℕ → Type 0
+Names (Refuses k) u = Unit {0}
+Names (Asks (SetUp x y n k)) u = Unit {0}
+Names (Asks (Begin w o)) u = w ≡ u
+Names (Asks (Step w)) u = w ≡ u
+
+pub named : (r : Decoded) (u : ℕ) → Names r u → (up : Bool) (p v long : ℕ) (d : Doing) (t : Announced) → Named up u p long (gateOf r up p v long d t)
+unfolding gateOf beginGate
+named (Refuses k) u e up p v long d t = tt
+named (Asks (SetUp x y n k)) u e true p v long d t = tt
+named (Asks (SetUp x y n k)) u e false p v long d t = named-make u p long x y n k (sizesOk x y n k long) refl
+named (Asks (Begin w o)) u e false p v long d t = tt
+named (Asks (Begin w o)) u e true p v long d t =
     let x = termsOf o in
-    named-worker w p long _
-    (λ h. named-begin w p long (x .first) h (registerOk (x .register) v) (aboutOf d .idle) (openOk (x .time) t) (timeOk (x .time) t)) (ltb w p) refl
-named (Asks (Step w)) false p v long d t = tt
-named (Asks (Step w)) true p v long d t = named-worker w p long (Go w) (λ h. (refl, refl, h)) (ltb w p) refl
+    subst (λ (i : ℕ). Named true i p long (gateOf (Asks (Begin w o)) true p v long d t)) e
+    (named-worker w p long _
+    (λ h. named-begin w p long (x .first) h (registerOk (x .register) v) (aboutOf d .idle) (openOk (x .time) t) (timeOk (x .time) t)) (ltb w p) refl)
+named (Asks (Step w)) u e false p v long d t = tt
+named (Asks (Step w)) u e true p v long d t =
+    subst (λ (i : ℕ). Named true i p long (gateOf (Asks (Step w)) true p v long d t)) e
+    (named-worker w p long (Go w) (λ h. (refl, refl, h)) (ltb w p) refl)
 
 ------------------------------------------------------------------------
 -- The worker's record matters only there
@@ -63,11 +79,50 @@ same-begin p v w o d e t u f true h =
     λ i. beginGate p v w o (s .0 i) (s .1 i)
 same-begin p v w o d e t u f false h = rw h
 
-pub same-gate : (r : Decoded) (up : Bool) (p v long : ℕ) (d e : Doing) (t u : Announced) → (up ≡ true → whoOf r < p → (d ≡ e) × (t ≡ u))
-    → gateOf r up p v long d t ≡ gateOf r up p v long e u
+pub same-gate : (r : Decoded) (w : ℕ) → Names r w → (up : Bool) (p v long : ℕ) (d e : Doing) (t u : Announced)
+    → (up ≡ true → w < p → whoOf r ≡ w → (d ≡ e) × (t ≡ u)) → gateOf r up p v long d t ≡ gateOf r up p v long e u
 unfolding gateOf whoOf
-same-gate (Refuses k) up p v long d e t u f = refl
-same-gate (Asks (SetUp x y n k)) up p v long d e t u f = refl
-same-gate (Asks (Begin w o)) false p v long d e t u f = refl
-same-gate (Asks (Begin w o)) true p v long d e t u f = same-begin p v w o d e t u (f refl) (ltb w p) refl
-same-gate (Asks (Step w)) up p v long d e t u f = refl
+same-gate (Refuses k) w n up p v long d e t u f = refl
+same-gate (Asks (SetUp x y a k)) w n up p v long d e t u f = refl
+same-gate (Asks (Begin i o)) w n false p v long d e t u f = refl
+same-gate (Asks (Begin i o)) w n true p v long d e t u f =
+    same-begin p v i o d e t u (λ h. f refl (subst (λ (k : ℕ). k < p) n h) n) (ltb i p) refl
+same-gate (Asks (Step i)) w n up p v long d e t u f = refl
+
+------------------------------------------------------------------------
+-- The worker that a record names stands in its byte 1 (H3.3)
+
+abbrev ModelNames : Model.Decoded → ℕ → Type 0
+ModelNames (Model.Refuses k) u = Unit {0}
+ModelNames (Model.Asks (Model.SetUp z)) u = Unit {0}
+ModelNames (Model.Asks (Model.Begin w o)) u = w ≡ u
+ModelNames (Model.Asks (Model.Step w)) u = w ≡ u
+
+command-names : (b : List ℕ) (k : ℕ) → ModelNames (Model.Asks (Model.commandOf b k)) (getD b 1 0)
+unfolding Model.commandOf
+command-names b zero = tt
+command-names b (suc zero) = omega arith
+command-names b (suc (suc zero)) = omega arith
+command-names b (suc (suc (suc zero))) = omega arith
+command-names b (suc (suc (suc (suc zero)))) = omega arith
+command-names b (suc (suc (suc (suc (suc zero))))) = omega arith
+command-names b (suc (suc (suc (suc (suc (suc zero)))))) = omega arith
+command-names b (suc (suc (suc (suc (suc (suc (suc n))))))) = omega arith
+
+decode-names : (b : List ℕ) → ModelNames (Model.decode b) (getD b 1 0)
+unfolding Model.decode
+decode-names b =
+    let c = Model.commandOf b (getD b 0 0) in
+    let P : Model.Decoded → Type 0 = λ x. ModelNames x (getD b 1 0) in
+    cond-both P (ltb (length b) 16) _ _ (λ e. tt)
+    (λ e. cond-both P (ltb 7 (getD b 0 0)) _ _ (λ f. tt)
+    (λ f. cond-both P (Model.unusedZero b c) _ _ (λ g. command-names b (getD b 0 0)) (λ g. tt)))
+
+names-as : (r : Decoded) (u : ℕ) → ModelNames (decodedOf r) u → Names r u
+names-as (Refuses k) u n = tt
+names-as (Asks (SetUp x y a k)) u n = tt
+names-as (Asks (Begin w o)) u n = n
+names-as (Asks (Step w)) u n = n
+
+pub byte-names : (r : Decoded) (b : List ℕ) → decodedOf r ≡ Model.decode b → Names r (getD b 1 0)
+byte-names r b e = names-as r (getD b 1 0) (subst (λ (x : Model.Decoded). ModelNames x (getD b 1 0)) (sym e) (decode-names b))

@@ -1,7 +1,7 @@
 // What is decided before a record is carried out: which refusal it meets, or what is to be done.
 ghost use mathlib.Core.Path.{_≡_};
 ghost use Prim.Native.Nat.{_≤_};
-ghost use Rattle.gate.specs.Gate.{termsOf, registerOk, hasTime, openOk, timeOk, beginGate, sizesOk, gateOf, whoOf};
+ghost use Rattle.gate.specs.Gate.{termsOf, registerOk, hasTime, openOk, timeOk, beginGate, sizesOk, gateOf};
 use record::Command;
 use record::Decoded;
 use record::Operation;
@@ -217,28 +217,6 @@ pub fn gate_for(
                 }
                 return Gate::Refuse(8);
             }
-        },
-    }
-}
-
-// The worker that a record names, 0 where it names none.
-pub fn who(r: Decoded) -> usize
-    ensures { λ w. ⌜ (w ≡ whoOf r) × (w ≤ 255) ⌝ }
-{
-    match r {
-        Decoded::Refuses(_) => 0,
-        Decoded::Asks(c) => match c {
-            Command::SetUp {
-                p: _,
-                v: _,
-                n: _,
-                clock: _,
-            } => 0,
-            Command::Begin {
-                worker,
-                operation: _,
-            } => wide8(worker),
-            Command::Step { worker } => wide8(worker),
         },
     }
 }

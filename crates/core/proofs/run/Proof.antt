@@ -13,7 +13,7 @@ use Rattle.simulation.specs.Loop.{after}
 use Rattle.lists.proofs.Mapped.{mapped, length-mapped}
 use Rattle.core.proofs.Moving.{move-one, move-none}
 use Rattle.core.proofs.Tested.{ready-few}
-use Rattle.core.proofs.Loop.{stateOf, SoFar, words-long, deciding, below, workers, told, on-refuse}
+use Rattle.core.proofs.Loop.{stateOf, SoFar, words-long, named-by, deciding, below, workers, told, on-refuse}
 use Rattle.core.proofs.Loop.{on-make, on-start, on-taken, on-hand-in, on-take, on-read, on-split, on-free, ready-is, finished}
 use Rattle.core.proofs.run.Statement.{statement}
 use Rattle.core.proofs.run.Tie as tie
@@ -64,17 +64,17 @@ loop-holds c =
 record-at-requires : tie.Need-record-at-requires Inv-loop2 μ-loop2 Inv-loop μ-loop
 record-at-requires c κs = tt
 
-decode-requires : tie.Need-decode-requires Inv-loop2 μ-loop2 Inv-loop μ-loop
-decode-requires c κs = tt
-
-who-requires : tie.Need-who-requires Inv-loop2 μ-loop2 Inv-loop μ-loop
-who-requires c κs = tt
+worker-byte-requires : tie.Need-worker-byte-requires Inv-loop2 μ-loop2 Inv-loop μ-loop
+worker-byte-requires c κs = tt
 
 mul-x : tie.Need-mul-x Inv-loop2 μ-loop2 Inv-loop μ-loop
 mul-x c = omega arith
 
 element-copy-out-x : tie.Need-element-copy-out-x Inv-loop2 μ-loop2 Inv-loop μ-loop
 element-copy-out-x c = omega arith
+
+decode-requires : tie.Need-decode-requires Inv-loop2 μ-loop2 Inv-loop μ-loop
+decode-requires c κs = tt
 
 gate-for-requires : tie.Need-gate-for-requires Inv-loop2 μ-loop2 Inv-loop μ-loop
 gate-for-requires c κs = tt
@@ -103,8 +103,8 @@ loop-again c =
     let G = K .before .before in
     on-refuse (deciding (G .before .before .before .before .before .before .loop .row) (G .before .before .before .before .before .before .loop .inv)
     (G .before .before .before .before .before .loop-test .taken)
-    (G .before .before .before .decode .ensures ∙ ap Model.decode (G .before .before .before .before .record-at .ensures))
-    (ap (λ (z : ℕ). z % 16) (G .before .before .who .ensures .0)) (G .gate-for .ensures))
+    (G .before .decode .ensures ∙ ap Model.decode (G .before .before .before .before .record-at .ensures))
+    (named-by (G .before .before .before .worker-byte .ensures .0) (G .before .before .before .before .record-at .ensures)) (G .gate-for .ensures))
     _ _ _ _ (K .g .given .1) (P .put-answer .ensures)
 
 enum-known-g-2 : tie.Need-enum-known-g-2 Inv-loop2 μ-loop2 Inv-loop μ-loop
@@ -172,8 +172,8 @@ loop-again-2 c =
     let G = K .before .before in
     on-make (deciding (G .before .before .before .before .before .before .loop .row) (G .before .before .before .before .before .before .loop .inv)
     (G .before .before .before .before .before .loop-test .taken)
-    (G .before .before .before .decode .ensures ∙ ap Model.decode (G .before .before .before .before .record-at .ensures))
-    (ap (λ (z : ℕ). z % 16) (G .before .before .who .ensures .0)) (G .gate-for .ensures))
+    (G .before .decode .ensures ∙ ap Model.decode (G .before .before .before .before .record-at .ensures))
+    (named-by (G .before .before .before .worker-byte .ensures .0) (G .before .before .before .before .record-at .ensures)) (G .gate-for .ensures))
     _ _ _ _ _ _ _ _ _ _ _ (K .g2 .given .1) (H .fresh .ensures) (W .set-up .ensures) (N .fill-newest .ensures) (F .fill-free .ensures)
     (P .put-answer2 .ensures)
 
@@ -209,8 +209,8 @@ loop-again-3 c =
     let G = K .before .before in
     on-start (deciding (G .before .before .before .before .before .before .loop .row) (G .before .before .before .before .before .before .loop .inv)
     (G .before .before .before .before .before .loop-test .taken)
-    (G .before .before .before .decode .ensures ∙ ap Model.decode (G .before .before .before .before .record-at .ensures))
-    (ap (λ (z : ℕ). z % 16) (G .before .before .who .ensures .0)) (G .gate-for .ensures))
+    (G .before .decode .ensures ∙ ap Model.decode (G .before .before .before .before .record-at .ensures))
+    (named-by (G .before .before .before .worker-byte .ensures .0) (G .before .before .before .before .record-at .ensures)) (G .gate-for .ensures))
     _ _ _ _ _ (K .g3 .given .1) (P .put-answer3 .ensures)
 
 enum-told : tie.Need-enum-told Inv-loop2 μ-loop2 Inv-loop μ-loop
@@ -253,8 +253,8 @@ loop-again-4 c =
     let G = E .before .before in
     on-taken (deciding (G .before .before .before .before .before .before .loop .row) (G .before .before .before .before .before .before .loop .inv)
     (G .before .before .before .before .before .loop-test .taken)
-    (G .before .before .before .decode .ensures ∙ ap Model.decode (G .before .before .before .before .record-at .ensures))
-    (ap (λ (z : ℕ). z % 16) (G .before .before .who .ensures .0)) (G .gate-for .ensures))
+    (G .before .decode .ensures ∙ ap Model.decode (G .before .before .before .before .record-at .ensures))
+    (named-by (G .before .before .before .worker-byte .ensures .0) (G .before .before .before .before .record-at .ensures)) (G .gate-for .ensures))
     _ (E .enum-told .given .1) _ _ _ (T .step .ensures)
     _ _ _ _ (K .s .given .1) (P .put-answer4 .ensures)
 
@@ -296,8 +296,8 @@ loop-again-5 c =
     let G = E .before .before in
     on-hand-in (deciding (G .before .before .before .before .before .before .loop .row) (G .before .before .before .before .before .before .loop .inv)
     (G .before .before .before .before .before .loop-test .taken)
-    (G .before .before .before .decode .ensures ∙ ap Model.decode (G .before .before .before .before .record-at .ensures))
-    (ap (λ (z : ℕ). z % 16) (G .before .before .who .ensures .0)) (G .gate-for .ensures))
+    (G .before .decode .ensures ∙ ap Model.decode (G .before .before .before .before .record-at .ensures))
+    (named-by (G .before .before .before .worker-byte .ensures .0) (G .before .before .before .before .record-at .ensures)) (G .gate-for .ensures))
     _ (E .enum-told .given .1) _ _ _ (T .step .ensures)
     _ _ _ _ _ (K .s2 .given .1) (H .put-hand-in .ensures) (P .put-answer5 .ensures)
 
@@ -311,8 +311,8 @@ flush-take-requires c κs =
     let G = E .before .before in
     below (deciding (G .before .before .before .before .before .before .loop .row) (G .before .before .before .before .before .before .loop .inv)
     (G .before .before .before .before .before .loop-test .taken)
-    (G .before .before .before .decode .ensures ∙ ap Model.decode (G .before .before .before .before .record-at .ensures))
-    (ap (λ (z : ℕ). z % 16) (G .before .before .who .ensures .0)) (G .gate-for .ensures))
+    (G .before .decode .ensures ∙ ap Model.decode (G .before .before .before .before .record-at .ensures))
+    (named-by (G .before .before .before .worker-byte .ensures .0) (G .before .before .before .before .record-at .ensures)) (G .gate-for .ensures))
     _ (E .enum-told .given .1) _ _ _ (T .step .ensures)
 
 cast-t146 : tie.Need-cast-t146 Inv-loop2 μ-loop2 Inv-loop μ-loop
@@ -350,8 +350,8 @@ loop-again-6 c =
     let G = E .before .before in
     on-take (deciding (G .before .before .before .before .before .before .loop .row) (G .before .before .before .before .before .before .loop .inv)
     (G .before .before .before .before .before .loop-test .taken)
-    (G .before .before .before .decode .ensures ∙ ap Model.decode (G .before .before .before .before .record-at .ensures))
-    (ap (λ (z : ℕ). z % 16) (G .before .before .who .ensures .0)) (G .gate-for .ensures))
+    (G .before .decode .ensures ∙ ap Model.decode (G .before .before .before .before .record-at .ensures))
+    (named-by (G .before .before .before .worker-byte .ensures .0) (G .before .before .before .before .record-at .ensures)) (G .gate-for .ensures))
     _ (E .enum-told .given .1) _ _ _ (T .step .ensures)
     _ _ _ _ _ _ _ (K .enum-told2 .given .1) (H .flush-take .ensures) (P .put-answer6 .ensures)
 
@@ -378,8 +378,8 @@ add-t159 c =
     let G = E .before .before in
     let D = (deciding (G .before .before .before .before .before .before .loop .row) (G .before .before .before .before .before .before .loop .inv)
     (G .before .before .before .before .before .loop-test .taken)
-    (G .before .before .before .decode .ensures ∙ ap Model.decode (G .before .before .before .before .record-at .ensures))
-    (ap (λ (z : ℕ). z % 16) (G .before .before .who .ensures .0)) (G .gate-for .ensures)) in
+    (G .before .decode .ensures ∙ ap Model.decode (G .before .before .before .before .record-at .ensures))
+    (named-by (G .before .before .before .worker-byte .ensures .0) (G .before .before .before .before .record-at .ensures)) (G .gate-for .ensures)) in
     let l = told D _ (E .enum-told .given .1) _ _ _ (T .step .ensures) _ (K .s3 .given .1) in
     let p = workers D _ (E .enum-told .given .1) _ _ _ (T .step .ensures) in
     omega (arith, l, p)
@@ -416,8 +416,8 @@ loop-again-7 c =
     let G = E .before .before in
     on-read (deciding (G .before .before .before .before .before .before .loop .row) (G .before .before .before .before .before .before .loop .inv)
     (G .before .before .before .before .before .loop-test .taken)
-    (G .before .before .before .decode .ensures ∙ ap Model.decode (G .before .before .before .before .record-at .ensures))
-    (ap (λ (z : ℕ). z % 16) (G .before .before .who .ensures .0)) (G .gate-for .ensures))
+    (G .before .decode .ensures ∙ ap Model.decode (G .before .before .before .before .record-at .ensures))
+    (named-by (G .before .before .before .worker-byte .ensures .0) (G .before .before .before .before .record-at .ensures)) (G .gate-for .ensures))
     _ (E .enum-told .given .1) _ _ _ (T .step .ensures)
     _ _ _ _ _ _ (K .s3 .given .1) (H .flush-read .ensures) (P .put-answer7 .ensures)
 
@@ -459,8 +459,8 @@ loop-again-8 c =
     let G = E .before .before in
     on-split (deciding (G .before .before .before .before .before .before .loop .row) (G .before .before .before .before .before .before .loop .inv)
     (G .before .before .before .before .before .loop-test .taken)
-    (G .before .before .before .decode .ensures ∙ ap Model.decode (G .before .before .before .before .record-at .ensures))
-    (ap (λ (z : ℕ). z % 16) (G .before .before .who .ensures .0)) (G .gate-for .ensures))
+    (G .before .decode .ensures ∙ ap Model.decode (G .before .before .before .before .record-at .ensures))
+    (named-by (G .before .before .before .worker-byte .ensures .0) (G .before .before .before .before .record-at .ensures)) (G .gate-for .ensures))
     _ (E .enum-told .given .1) _ _ _ (T .step .ensures)
     _ _ _ _ _ _ _ _ (K .s4 .given .1) (H .flush-split .ensures .0) (H .flush-split .ensures .1 .0) (H .flush-split .ensures .1 .1 .0)
     (P .put-answer8 .ensures)
@@ -476,8 +476,8 @@ flush-free-requires c κs =
     let G = E .before .before in
     let D = (deciding (G .before .before .before .before .before .before .loop .row) (G .before .before .before .before .before .before .loop .inv)
     (G .before .before .before .before .before .loop-test .taken)
-    (G .before .before .before .decode .ensures ∙ ap Model.decode (G .before .before .before .before .record-at .ensures))
-    (ap (λ (z : ℕ). z % 16) (G .before .before .who .ensures .0)) (G .gate-for .ensures)) in
+    (G .before .decode .ensures ∙ ap Model.decode (G .before .before .before .before .record-at .ensures))
+    (named-by (G .before .before .before .worker-byte .ensures .0) (G .before .before .before .before .record-at .ensures)) (G .gate-for .ensures)) in
     (below D _ (E .enum-told .given .1) _ _ _ (T .step .ensures), told D _ (E .enum-told .given .1) _ _ _ (T .step .ensures) _ (K .s5 .given .1))
 
 sub-t203 : tie.Need-sub-t203 Inv-loop2 μ-loop2 Inv-loop μ-loop
@@ -489,8 +489,8 @@ sub-t203 c =
     let l = told
     (deciding (G .before .before .before .before .before .before .loop .row) (G .before .before .before .before .before .before .loop .inv)
     (G .before .before .before .before .before .loop-test .taken)
-    (G .before .before .before .decode .ensures ∙ ap Model.decode (G .before .before .before .before .record-at .ensures))
-    (ap (λ (z : ℕ). z % 16) (G .before .before .who .ensures .0)) (G .gate-for .ensures))
+    (G .before .decode .ensures ∙ ap Model.decode (G .before .before .before .before .record-at .ensures))
+    (named-by (G .before .before .before .worker-byte .ensures .0) (G .before .before .before .before .record-at .ensures)) (G .gate-for .ensures))
     _ (E .enum-told .given .1) _ _ _ (T .step .ensures) _ (K .s5 .given .1) in
     omega (arith, l)
 
@@ -505,7 +505,7 @@ loop2-holds c =
     let J = c .before .before .before .before .before .before .before .before .before .before in
     let W = J .before .before .before .before .before .before .before .before .before in
     let I = W .before .before .before .before in
-    (omega arith, refl, length-set (I .loop .hub .workers) (W .who .result % 16) _ ∙ I .loop .inv .sixteen)
+    (omega arith, refl, length-set (I .loop .hub .workers) (W .before .worker-byte .result % 16) _ ∙ I .loop .inv .sixteen)
 
 mul-z-2 : tie.Need-mul-z-2 Inv-loop2 μ-loop2 Inv-loop μ-loop
 mul-z-2 c = omega arith
@@ -589,8 +589,8 @@ loop-again-9 c =
     let G = E .before .before in
     on-free (deciding (G .before .before .before .before .before .before .loop .row) (G .before .before .before .before .before .before .loop .inv)
     (G .before .before .before .before .before .loop-test .taken)
-    (G .before .before .before .decode .ensures ∙ ap Model.decode (G .before .before .before .before .record-at .ensures))
-    (ap (λ (z : ℕ). z % 16) (G .before .before .who .ensures .0)) (G .gate-for .ensures))
+    (G .before .decode .ensures ∙ ap Model.decode (G .before .before .before .before .record-at .ensures))
+    (named-by (G .before .before .before .worker-byte .ensures .0) (G .before .before .before .before .record-at .ensures)) (G .gate-for .ensures))
     _ (E .enum-told .given .1) _ _ _ (T .step .ensures)
     _ _ _ _ _ _ _ _ _ (K .s5 .given .1) (H .flush-free .ensures .0) (H .flush-free .ensures .1 .0) (H .flush-free .ensures .1 .1)
     (J .loop2 .inv .0) (X .loop2-test .left) (J .loop2 .inv .1) (P .put-answer9 .ensures)
@@ -628,10 +628,10 @@ run-spec =
     ready-requires
     loop-holds
     record-at-requires
-    decode-requires
-    who-requires
+    worker-byte-requires
     mul-x
     element-copy-out-x
+    decode-requires
     gate-for-requires
     enum-known-g
     put-answer-requires
