@@ -14,7 +14,6 @@ use Rattle.model.specs.Log.{line, lines}
 use Rattle.model.specs.Answer as Model
 use Rattle.values.specs.declared.Answer.{Answer}
 use Rattle.values.specs.Meaning.{answerOf}
-use Rattle.answers.specs.Numbers.{kindOf, numberOf}
 use Rattle.lines.specs.Words.{lineFrom}
 use Rattle.lines.specs.Written.{longest, room, writtenLine, afterLine, nextLine, writtenLines}
 use Rattle.lines.specs.Written.{linesFrom, atStart, WholeText, firstOf, ModelText}

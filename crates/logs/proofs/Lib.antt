@@ -1,3 +1,4 @@
 pub mod Part
 pub mod Model
 pub mod Whole
+pub mod Pieces

@@ -1,6 +1,6 @@
 -- Records one after the other in the model: what two lists of them leave and answer.
 use mathlib.Core.Path.{_≡_, refl, ap}
-use mathlib.Core.List.{List, [], _∷_, _++_, map}
+use mathlib.Core.List.{List, [], _∷_, _++_}
 use Prim.Native.Nat.{ℕ, suc}
 use lib.ListN.{length}
 use Rattle.model.specs.Store.{Hub}

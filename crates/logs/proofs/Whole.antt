@@ -20,9 +20,7 @@ use Rattle.values.specs.declared.Answer.{Answer}
 use Rattle.values.specs.Meaning.{answerOf}
 use Rattle.answers.specs.Numbers.{kindOf, numberOf}
 use Rattle.slots.specs.Slots.{slotOf}
-use Rattle.ready.specs.Ready.{sizesFit, readyOf}
 use Rattle.simulation.specs.Memory.{Memory}
-use Rattle.simulation.specs.Left.{ready}
 use Rattle.simulation.specs.Holds.{Holds, sent, memoryAfter, AsModel}
 use Rattle.simulation.specs.Records.{recordAt, recordsIn}
 use Rattle.simulation.specs.Buffer.{answerAt, exchangeAt, Applies}
@@ -33,7 +31,7 @@ use Rattle.lines.specs.Written.{linesFrom, firstOf}
 use Rattle.lines.proofs.Whole.{lines-append, model-text}
 use Rattle.logs.specs.Part.{inRoom}
 use Rattle.logs.specs.OnePart.{Call, LoggedAs, OnePart}
-use Rattle.logs.specs.File.{Part, HandedIn, CutBetweenRecords, WholeFile, StartsBlank}
+use Rattle.logs.specs.File.{Part, HandedIn, CutBetweenRecords, WholeFile}
 use Rattle.logs.proofs.Model.{under-append, answers-append, answers-length}
 
 ------------------------------------------------------------------------
@@ -117,25 +115,28 @@ one-part = part-logged
 ------------------------------------------------------------------------
 -- The file
 
+abbrev parted : List Part → List (List ℕ)
+parted ps = map (λ (p : Part). p .bytes) ps
+
 abbrev bytesOf : List Part → List ℕ
-bytesOf ps = flatten (map (λ (p : Part). p .bytes) ps)
+bytesOf ps = flatten (parted ps)
 
 abbrev printedOf : List Part → List ℕ
 printedOf ps = flatten (map (λ (p : Part). p .printed) ps)
 
-cut-rest : (p : Part) (ps : List Part) → CutBetweenRecords (p ∷ ps) → CutBetweenRecords ps
+cut-rest : (p : List ℕ) (ps : List (List ℕ)) → CutBetweenRecords (p ∷ ps) → CutBetweenRecords ps
 unfolding CutBetweenRecords
 cut-rest p [] c = tt
 cut-rest p (q ∷ ps) c = c .1
 
 -- the records of a file are those of its first part and those of the others
-records-parts : (p : Part) (ps : List Part) → CutBetweenRecords (p ∷ ps)
-    → recordsOf (bytesOf (p ∷ ps)) ≡ recordsOf (p .bytes) ++ recordsOf (bytesOf ps)
+records-parts : (p : List ℕ) (ps : List (List ℕ)) → CutBetweenRecords (p ∷ ps)
+    → recordsOf (p ++ flatten ps) ≡ recordsOf p ++ recordsOf (flatten ps)
 unfolding CutBetweenRecords flatten recordsOf cut
-records-parts p [] c = ap recordsOf (append-nil (p .bytes)) ∙ sym (append-nil (recordsOf (p .bytes)))
-records-parts p (q ∷ ps) c = in-parts (p .bytes) (bytesOf (q ∷ ps)) (inl (c .0))
+records-parts p [] c = ap recordsOf (append-nil p) ∙ sym (append-nil (recordsOf p))
+records-parts p (q ∷ ps) c = in-parts p (flatten (q ∷ ps)) (inl (c .0))
 
-parts : (ps : List Part) (h : Hub) (m : Memory) (first : ℕ) → Holds h m → CutBetweenRecords ps → HandedIn m first ps
+parts : (ps : List Part) (h : Hub) (m : Memory) (first : ℕ) → Holds h m → CutBetweenRecords (parted ps) → HandedIn m first ps
     → printedOf ps ≡ lines first (answersTo h (allUnder inForce (recordsOf (bytesOf ps))))
 unfolding HandedIn flatten recordsOf cut answersTo lines
 parts [] h m first L c H = refl
@@ -143,12 +144,12 @@ parts (p ∷ ps) h m first L c H =
     let a : List Ruled = allUnder inForce (recordsOf (p .bytes)) in
     let b : List Ruled = allUnder inForce (recordsOf (bytesOf ps)) in
     let o = one-part h m (p .bytes) first (p .printed) (p .after) L (H .0) in
-    let rest = parts ps (hubAfter h a) (p .after) (first + recordsIn (p .bytes)) (o .holds) (cut-rest p ps c) (H .1) in
+    let rest = parts ps (hubAfter h a) (p .after) (first + recordsIn (p .bytes)) (o .holds) (cut-rest (p .bytes) (parted ps) c) (H .1) in
     let count : length (answersTo h a) ≡ recordsIn (p .bytes) =
     answers-length h a ∙ length-map (recordsOf (p .bytes)) (under inForce) ∙ sym (ap length (whole (p .bytes)))
     ∙ map-long (recordAt (p .bytes)) (recordsIn (p .bytes)) in
     let all : allUnder inForce (recordsOf (bytesOf (p ∷ ps))) ≡ a ++ b =
-    ap (allUnder inForce) (records-parts p ps c) ∙ under-append inForce (recordsOf (p .bytes)) (recordsOf (bytesOf ps)) in
+    ap (allUnder inForce) (records-parts (p .bytes) (parted ps) c) ∙ under-append inForce (recordsOf (p .bytes)) (recordsOf (bytesOf ps)) in
     (λ i. o .text i ++ rest i)
     ∙ ap (λ (n : ℕ). lines first (answersTo h a) ++ lines (first + n) (answersTo (hubAfter h a) b)) (sym count)
     ∙ sym (lines-append first (answersTo h a) (answersTo (hubAfter h a) b))
@@ -158,7 +159,3 @@ parts (p ∷ ps) h m first L c H =
 pub whole-file : WholeFile
 unfolding logOf
 whole-file m ps e c H = parts ps (blank (map slotOf (m .slots))) m 0 (e, refl) c H
-
-pub starts-blank : StartsBlank
-unfolding ready readyOf sizesFit
-starts-blank slots newest free queue lens merged = refl

@@ -1,10 +1,10 @@
 -- What is printed for a whole file: the joined texts of its parts are the model's log of the file. This is the statement to read; it is proved
--- in proofs/Whole.antt.
+-- in proofs/Whole.antt, and what the program brings to it in proofs/Pieces.antt.
 use mathlib.Core.Path.{_≡_}
 use mathlib.Core.Bool.{false}
-use mathlib.Core.List.{List, [], _∷_, map, flatten}
+use mathlib.Core.List.{List, [], _∷_, _++_, map, flatten}
 use Prim.Native.Nat.{ℕ, _+_, _%_}
-use lib.ListN.{length}
+use lib.ListN.{length, take, drop}
 use Rattle.model.specs.Rules.{inForce}
 use Rattle.model.specs.Log.{logOf}
 use Rattle.slots.specs.Slots.{slotOf}
@@ -14,6 +14,7 @@ use Rattle.simulation.specs.Memory.{Memory, memory}
 use Rattle.simulation.specs.Left.{ready}
 use Rattle.simulation.specs.Records.{recordsIn}
 use Rattle.logs.specs.OnePart.{Call}
+use Rattle.logs.specs.Part.{wholeRecords}
 
 -- a part of a file: its bytes, the text that was printed for it, and the memory after it
 pub record Part : Type 0 where
@@ -22,16 +23,16 @@ pub record Part : Type 0 where
   pub after : Memory
 
 -- the parts of a file handed in one after the other, from the memory m and the number n on: each meets the memory as the last one left it, and
--- has the number of its first record
+-- has the number of its first record. A call takes a number of 64 bits, so fewer than 2^64 records come before the last part.
 unfoldable pub HandedIn : Memory → ℕ → List Part → Type 0
 HandedIn m n [] = Unit {0}
 HandedIn m n (p ∷ ps) = Call m (p .bytes) n (p .printed) (p .after) × HandedIn (p .after) (n + recordsIn (p .bytes)) ps
 
--- the file is cut between records: every part but the last is a multiple of sixteen bytes
-unfoldable pub CutBetweenRecords : List Part → Type 0
+-- a list of parts is cut between records: every part but the last is a multiple of sixteen bytes
+unfoldable pub CutBetweenRecords : List (List ℕ) → Type 0
 CutBetweenRecords [] = Unit {0}
 CutBetweenRecords (p ∷ []) = Unit {0}
-CutBetweenRecords (p ∷ q ∷ ps) = (length (p .bytes) % 16 ≡ 0) × CutBetweenRecords (q ∷ ps)
+CutBetweenRecords (p ∷ q ∷ ps) = (length p % 16 ≡ 0) × CutBetweenRecords (q ∷ ps)
 
 -- Any file, cut anywhere between records and handed in part by part from memory that does not count as set up: what was printed is, put together,
 -- the model's log of the file.
@@ -39,12 +40,28 @@ abbrev pub WholeFile : Type 0
 WholeFile =
     (m : Memory) (ps : List Part)
     → ready m ≡ false
-    → CutBetweenRecords ps
+    → CutBetweenRecords (map (λ p. p .bytes) ps)
     → HandedIn m 0 ps
     → flatten (map (λ p. p .printed) ps) ≡ logOf inForce (map slotOf (m .slots)) (flatten (map (λ p. p .bytes) ps))
 
--- The memory that `hublog` starts with does not count as set up: its hub has no worker, no register and no slot.
+------------------------------------------------------------------------
+-- How `hublog` meets this
+
+-- The memory that it starts with does not count as set up: its hub has no worker, no register and no slot.
 abbrev pub StartsBlank : Type 0
 StartsBlank =
     (slots : List Slot) (newest free queue lens merged : List ℕ)
     → ready (memory (freshHub 0 0 0 0) slots newest free queue lens merged) ≡ false
+
+-- The parts that it makes of what its reads bring (`to_log`, `keep_rest`): the whole records of what was kept and what comes are a part, and the
+-- rest is kept. At the end of the input what is kept is the last part.
+unfoldable pub partsOf : List ℕ → List (List ℕ) → List (List ℕ)
+partsOf kept [] = kept ∷ []
+partsOf kept (r ∷ rs) =
+    let b = kept ++ r in
+    take (wholeRecords (length b)) b ∷ partsOf (drop (wholeRecords (length b)) b) rs
+
+-- Whatever the reads bring, the parts are cut between records, and together they are what was read.
+pub record AnyReads : Type 0 where
+  pub between : (rs : List (List ℕ)) → CutBetweenRecords (partsOf [] rs)
+  pub together : (rs : List (List ℕ)) → flatten (partsOf [] rs) ≡ flatten rs

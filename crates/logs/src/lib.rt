@@ -4,7 +4,7 @@ ghost use mathlib.Core.Bool.{cond};
 ghost use Prim.Native.Nat.{_-_, _*_, _/_, _≤_, min};
 ghost use lib.ListN.{length};
 ghost use Rattle.lists.specs.Over.{shifted};
-ghost use Rattle.logs.specs.Part.{Logs};
+ghost use Rattle.logs.specs.Part.{wholeRecords, Logs};
 use slots::Slot;
 use state::Hub;
 
@@ -12,7 +12,7 @@ use state::Hub;
 
 // How many of the n bytes read so far are to be logged: the whole records, and at the end of the input the rest too, which is one more (H3.6).
 pub fn to_log(n: usize, ended: bool) -> usize
-    ensures { λ r. ⌜ (r ≡ cond ended n (16 * (n / 16))) × (r ≤ n) ⌝ }
+    ensures { λ r. ⌜ (r ≡ cond ended n (wholeRecords n)) × (r ≤ n) ⌝ }
 {
     if ended {
         return n;
