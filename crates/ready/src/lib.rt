@@ -88,7 +88,7 @@ fn pool_fits(q: Pool, most: usize, n: u16) -> bool
     all_below(&slots, len, n)
 }
 
-// Whether the list in hand of worker w has at most so many ranges, of which there are m, and its slots are in range.
+// Whether the list in hand of worker w, which has m ranges, has at most so many, and its slots are in range.
 fn list_fits(m: u16, w: usize, merged: &[u32; 12288], most: usize, n: u32) -> bool
     requires { ⌜ (w < 16) × (most ≤ 256) ⌝ }
     ensures { λ r. ⌜ r ≡ listFits m w (now (merged .entry)) most n ⌝ }

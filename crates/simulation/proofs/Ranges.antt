@@ -10,7 +10,7 @@ use borrow.Author.Tests.{le-leb, lt-leb, eq-eqb, leb-true, eqb-true}
 use Rattle.worker.specs.declared.Facts.{Facts}
 use Rattle.worker.specs.declared.Worker.{Worker}
 use Rattle.worker.specs.About.{aboutOf}
-use Rattle.slots.specs.Slots.{vacantSlot, linkedTo}
+use Rattle.slots.specs.Slots.{linkedTo}
 use Rattle.state.specs.State.{workerIn}
 use Rattle.ready.specs.Ready.{
   belowTo,
@@ -144,7 +144,9 @@ module _ (m : Memory) where
         sum = eqb-true (lensSum (m .lens) (h .pools)) (h .queued) (ef .0);
         newest = Scans.below-tells (m .newest) (h .n) (h .v) (ab .0);
         freeSlots = Scans.below-tells (m .free) (h .n) (h .free) (ab .1);
-        queueSlots = λ j b. subst (λ (i : ℕ). getD (m .queue) (3 * i) 0 < h .n) (from-zero j) (Scans.slots-tell (m .queue) 0 (h .n) (h .queued) (cd .0) j b);
+        queueSlots =
+            λ j b.
+            subst (λ (i : ℕ). getD (m .queue) (3 * i) 0 < h .n) (from-zero j) (Scans.slots-tell (m .queue) 0 (h .n) (h .queued) (cd .0) j b);
         neighbours = Scans.linked-tells (m .slots) (h .n) (h .n) (parts .1);
         workers =
             λ w b.

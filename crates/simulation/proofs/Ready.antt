@@ -38,7 +38,8 @@ use Rattle.simulation.proofs.Scans.{ranges-below, NearIn, lens-sum}
 use Rattle.simulation.proofs.Ranges.{local, list, worker-tells, ready-exact}
 use Rattle.simulation.proofs.Laws.{getD-inside, slots-long}
 use Rattle.simulation.proofs.Sound.{RangeIn, PlaceIn, Sound}
-use Rattle.simulation.proofs.Laid.{memory-path, hub-is, slots-is, newest-is, free-is, queue-is, lens-is, slot-is, worker-at, among, pool-short, list-is}
+use Rattle.simulation.proofs.Laid.{memory-path, hub-is, slots-is, newest-is, free-is, queue-is, lens-is, slot-is}
+use Rattle.simulation.proofs.Laid.{worker-at, among, pool-short, list-is}
 
 ------------------------------------------------------------------------
 -- One worker

@@ -59,7 +59,7 @@ module _ (f t : ℕ → Bool) (next : (k : ℕ) → f (suc k) ≡ f k && t k) wh
       ⊎-elim (λ u. subst (λ (j : ℕ). t j ≡ true) (sym (u .0)) (q .1)) (λ u. all-tell k (q .0) i (omega (arith, h, u .0))) (eq-cases i k)
 
 -- a test that is made where another fails
-pub unless : (t y : Bool) → cond t false y ≡ true → (t ≡ false) × (y ≡ true)
+unless : (t y : Bool) → cond t false y ≡ true → (t ≡ false) × (y ≡ true)
 unless true y e = absurd (true≢false (sym e))
 unless false y e = (refl, e)
 

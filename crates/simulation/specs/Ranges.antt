@@ -11,7 +11,6 @@ use Rattle.worker.specs.declared.Facts.{Facts}
 use Rattle.worker.specs.declared.Named.the-variants.{Is}
 use Rattle.worker.specs.declared.Worker.{Worker}
 use Rattle.worker.specs.About.{aboutOf}
-use Rattle.slots.specs.declared.Slot.{Slot}
 use Rattle.slots.specs.Slots.{vacantSlot}
 use Rattle.state.specs.declared.Hub.{Hub}
 use Rattle.state.specs.State.{workerIn}
@@ -24,8 +23,8 @@ abbrev pub batchIn : Hub → ℕ
 batchIn h = batchOf (h .p)
 
 -- k ranges are at most b, and at most as many as there are slots besides the newest versions (H8.15, H8.16)
-abbrev pub Few : Hub → ℕ → ℕ → Type 0
-Few h k b = (k ≤ b) × (k ≤ h .n - h .v)
+abbrev pub FewRanges : Hub → ℕ → ℕ → Type 0
+FewRanges h k b = (k ≤ b) × (k ≤ h .n - h .v)
 
 -- a neighbour is absent (H8.9) or a slot
 abbrev pub Neighbour : Hub → ℕ → Type 0
@@ -40,7 +39,7 @@ pub record PlaceInRange (m : Memory) (w : ℕ) (y : Facts) : Type 0 where
   -- it has read at most P times (H8.18)
   pub read : y .read ≤ m .hub .p
   -- its list in hand has at most 4B ranges (H8.16)
-  pub list : (k : ℕ) → y .ranges ≡ Is k → Few (m .hub) k (4 * batchIn (m .hub))
+  pub list : (k : ℕ) → y .ranges ≡ Is k → FewRanges (m .hub) k (4 * batchIn (m .hub))
   -- their slots are below N (H8.17); worker w's list starts at range 256 w, and a range has three words, the slot first
   pub listSlots : (k : ℕ) → y .ranges ≡ Is k → (j : ℕ) → j < k → getD (m .merged) (3 * (256 * w + j)) 0 < m .hub .n
 
@@ -48,7 +47,7 @@ pub record PlaceInRange (m : Memory) (w : ℕ) (y : Facts) : Type 0 where
 pub record WorkerInRange (m : Memory) (w : ℕ) (x : Worker) : Type 0 where
   pub place : PlaceInRange m w (aboutOf (x .doing))
   -- its local pool has at most B ranges (H8.15)
-  pub pool : Few (m .hub) (x .pool .len) (batchIn (m .hub))
+  pub pool : FewRanges (m .hub) (x .pool .len) (batchIn (m .hub))
   -- their slots are below N (H8.17)
   pub poolSlots : (i : ℕ) → i < x .pool .len → getD (x .pool .slots) i 0 < m .hub .n
 

@@ -1,5 +1,5 @@
 -- `batch_of` meets its contract: it is the batch size of crate `batch`, which the model has between 1 and 64 for 1 to 16 workers.
-use mathlib.Core.Path.{refl, _∙_}
+use mathlib.Core.Path.{refl}
 use native.Mathlib.Omega.{arith}
 use borrow.Author.Needs.{needs}
 use Rattle.model.specs.Rules.{document01}

@@ -1,5 +1,4 @@
 -- `list_fits` meets its contract: the count is tested first, so that the scan stays within worker w's part of the memory.
-use mathlib.Core.Path.{sym}
 use borrow.Author.Needs.{needs}
 use borrow.Author.Tests.{lt-ltb, le-ltb}
 use Rattle.ready.proofs.list_fits.Statement.{statement}

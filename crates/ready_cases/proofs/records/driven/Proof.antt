@@ -2,8 +2,8 @@
 use lib.ListN.{length}
 use Prim.Native.Nat.{_-_}
 use borrow.Author.Needs.{needs}
-use Rattle.ready_cases.proofs.driven.Statement.{statement}
-use Rattle.ready_cases.proofs.driven.Tie as tie
+use Rattle.ready_cases.proofs.records.driven.Statement.{statement}
+use Rattle.ready_cases.proofs.records.driven.Tie as tie
 
 abbrev Inv-loop : tie.InvT-loop
 Inv-loop script left₀ k₀ k-end left k = Unit {0}

@@ -1,8 +1,8 @@
 -- `stepped` is safe and ends: the steps that are left fall.
 use Prim.Native.Nat.{_-_}
 use borrow.Author.Needs.{needs}
-use Rattle.ready_cases.proofs.stepped.Statement.{statement}
-use Rattle.ready_cases.proofs.stepped.Tie as tie
+use Rattle.ready_cases.proofs.records.stepped.Statement.{statement}
+use Rattle.ready_cases.proofs.records.stepped.Tie as tie
 
 abbrev Inv-loop : tie.InvT-loop
 Inv-loop worker n left₀ i₀ left i = Unit {0}

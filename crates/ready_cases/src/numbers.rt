@@ -1,0 +1,351 @@
+// The numbers in memory that have a range: their kinds, how many there are of each, one past the range, and memory with one replaced.
+use crate::records::Memory;
+use slots::Slot;
+use state::Hub;
+use worker::Doing;
+use worker::Goal;
+use worker::Named;
+use worker::Worker;
+
+// The kinds of numbers. Those from POOL_LENGTH on stand in a worker's record.
+pub const WORKERS: u8 = 0;
+
+pub const REGISTERS: u8 = 1;
+
+pub const SLOTS: u8 = 2;
+
+pub const FREE: u8 = 3;
+
+pub const POOLS: u8 = 4;
+
+pub const QUEUED: u8 = 5;
+
+pub const LENGTH: u8 = 6;
+// One pool in the queue that has all of its ranges: three numbers that fit each other.
+pub const ONE_POOL: u8 = 7;
+
+pub const NEWEST: u8 = 8;
+
+pub const FREE_SLOT: u8 = 9;
+
+pub const QUEUED_SLOT: u8 = 10;
+
+pub const OLDER: u8 = 11;
+
+pub const NEWER: u8 = 12;
+
+pub const POOL_LENGTH: u8 = 13;
+
+pub const POOL_SLOT: u8 = 14;
+
+pub const REGISTER: u8 = 15;
+
+pub const SLOT: u8 = 16;
+
+pub const READ: u8 = 17;
+
+pub const HAND: u8 = 18;
+
+pub const HAND_SLOT: u8 = 19;
+
+pub const KINDS: u8 = 20;
+
+// The sizes and counts of a memory, N - V, the most ranges of a local pool, of a queued one and of a list in hand, and an idle worker.
+pub struct Sizes {
+    pub p: usize,
+    pub v: usize,
+    pub n: usize,
+    pub free: usize,
+    pub pools: usize,
+    pub queued: usize,
+    pub rest: usize,
+    pub local: usize,
+    pub pool: usize,
+    pub list: usize,
+    pub idle: u8,
+}
+
+// One past the range of a number.
+pub fn past(kind: u8, z: Sizes) -> usize {
+    let most = match kind {
+        WORKERS => 16,
+        REGISTERS => 256,
+        SLOTS => 2048,
+        FREE => z.rest,
+        POOLS => z.queued,
+        QUEUED => z.rest,
+        LENGTH => z.pool,
+        ONE_POOL => z.pool,
+        POOL_LENGTH => z.local,
+        READ => z.p,
+        HAND => z.list,
+        REGISTER => return z.v,
+        _ => return z.n,
+    };
+    std::num::wrapping_add_usize(most, 1)
+}
+
+// Whether the largest value in range does not make another number fall outside its own.
+pub fn is_alone(kind: u8) -> bool {
+    match kind {
+        REGISTERS | POOLS | QUEUED | LENGTH => false,
+        _ => true,
+    }
+}
+
+// Whether there may be several of this kind.
+pub fn is_many(kind: u8) -> bool {
+    match kind {
+        LENGTH | NEWEST | FREE_SLOT | QUEUED_SLOT | OLDER | NEWER | POOL_SLOT | HAND_SLOT => true,
+        _ => false,
+    }
+}
+
+// How many numbers of this kind the memory has outside the workers' records.
+pub fn in_memory(kind: u8, z: Sizes) -> usize {
+    match kind {
+        LENGTH => z.pools,
+        NEWEST => z.v,
+        FREE_SLOT => z.free,
+        QUEUED_SLOT => z.queued,
+        OLDER | NEWER => z.n,
+        _ => 1,
+    }
+}
+
+fn count_of(x: Named) -> usize {
+    match x {
+        Named::Nothing => 0,
+        Named::Is(k) => k as usize,
+    }
+}
+
+fn one_if_named(x: Named) -> usize {
+    match x {
+        Named::Nothing => 0,
+        Named::Is(_) => 1,
+    }
+}
+
+fn one_if_reading(d: Doing) -> usize {
+    match d {
+        Doing::FlushRead { merged: _, read: _ } => 1,
+        _ => 0,
+    }
+}
+
+// How many numbers of this kind a worker's record has.
+pub fn in_worker(kind: u8, x: Worker) -> usize {
+    let d = x.doing;
+    let y = worker::about(d);
+    let register = y.register;
+    let slot = y.slot;
+    let ranges = y.ranges;
+    let q = x.pool;
+    match kind {
+        POOL_LENGTH => 1,
+        POOL_SLOT => q.len,
+        REGISTER => one_if_named(register),
+        SLOT => one_if_named(slot),
+        READ => one_if_reading(d),
+        HAND => one_if_named(ranges),
+        _ => count_of(ranges),
+    }
+}
+
+// ---- memory with one number replaced
+
+pub fn pick(yes: bool, x: usize, y: usize) -> usize {
+    if yes {
+        return x;
+    }
+    y
+}
+
+// The place with another register, where it names one.
+fn with_register(d: Doing, r: u16) -> Doing {
+    match d {
+        Doing::PutPublish {
+            register: _,
+            reading,
+        } => Doing::PutPublish {
+            register: r,
+            reading,
+        },
+        Doing::PutStamp {
+            register: _,
+            covered,
+        } => Doing::PutStamp {
+            register: r,
+            covered,
+        },
+        Doing::PutHandIn {
+            register: _,
+            covered,
+        } => Doing::PutHandIn {
+            register: r,
+            covered,
+        },
+        Doing::ReadEnter { goal: _ } => Doing::ReadEnter {
+            goal: Goal { register: r },
+        },
+        Doing::ReadStand { goal: _, slot } => Doing::ReadStand {
+            goal: Goal { register: r },
+            slot,
+        },
+        Doing::GetShow { register: _ } => Doing::GetShow { register: r },
+        _ => d,
+    }
+}
+
+// The place with another slot, where it names one.
+fn with_slot(d: Doing, c: u16) -> Doing {
+    match d {
+        Doing::PutStamp {
+            register,
+            covered: _,
+        } => Doing::PutStamp {
+            register,
+            covered: c,
+        },
+        Doing::PutHandIn {
+            register,
+            covered: _,
+        } => Doing::PutHandIn {
+            register,
+            covered: c,
+        },
+        Doing::ReadStand { goal, slot: _ } => Doing::ReadStand { goal, slot: c },
+        _ => d,
+    }
+}
+
+// The place with another count of ranges in hand, where it has some.
+fn with_ranges(d: Doing, k: u16) -> Doing {
+    match d {
+        Doing::FlushRead { merged: _, read } => Doing::FlushRead { merged: k, read },
+        Doing::FlushFree { left: _ } => Doing::FlushFree { left: k },
+        _ => d,
+    }
+}
+
+// The place with another count of times read, where it reads some.
+fn with_read(d: Doing, j: u8) -> Doing {
+    match d {
+        Doing::FlushRead { merged, read: _ } => Doing::FlushRead { merged, read: j },
+        _ => d,
+    }
+}
+
+fn place_with(d: Doing, kind: u8, x: usize) -> Doing {
+    match kind {
+        REGISTER => with_register(d, (x % 65536) as u16),
+        SLOT => with_slot(d, (x % 65536) as u16),
+        READ => with_read(d, (x % 256) as u8),
+        HAND => with_ranges(d, (x % 65536) as u16),
+        _ => d,
+    }
+}
+
+fn worker_with(w: Worker, kind: u8, i: usize, x: usize) -> Worker {
+    let d = w.doing;
+    let doing = place_with(d, kind, x);
+    let mut pool = w.pool;
+    pool.len = pick(kind == POOL_LENGTH, x, pool.len);
+    if kind == POOL_SLOT {
+        pool.slots[i % 64] = (x % 65536) as u16;
+    }
+    Worker { doing, pool, ..w }
+}
+
+fn hub_with(h: Hub, kind: u8, w: usize, i: usize, x: usize) -> Hub {
+    let mut hub = h;
+    hub.p = pick(kind == WORKERS, x, hub.p);
+    hub.v = pick(kind == REGISTERS, x, hub.v);
+    hub.n = pick(kind == SLOTS, x, hub.n);
+    hub.free = pick(kind == FREE, x, hub.free);
+    hub.pools = pick(kind == POOLS, x, hub.pools);
+    hub.pools = pick(kind == ONE_POOL, 1, hub.pools);
+    hub.queued = pick((kind == QUEUED) | (kind == ONE_POOL), x, hub.queued);
+    let old = hub.workers[w % 16];
+    hub.workers[w % 16] = worker_with(old, kind, i, x);
+    hub
+}
+
+fn newest_with(l: [u16; 256], yes: bool, i: usize, x: usize) -> [u16; 256] {
+    let mut k = l;
+    if yes {
+        k[i % 256] = (x % 65536) as u16;
+    }
+    k
+}
+
+fn free_with(l: [u16; 2048], yes: bool, i: usize, x: usize) -> [u16; 2048] {
+    let mut k = l;
+    if yes {
+        k[i % 2048] = (x % 65536) as u16;
+    }
+    k
+}
+
+fn queue_with(l: [u32; 6144], yes: bool, i: usize, x: usize) -> [u32; 6144] {
+    let mut k = l;
+    if yes {
+        k[3 * (i % 2048)] = (x % 65536) as u32;
+    }
+    k
+}
+
+fn lens_with(l: [u32; 2048], yes: bool, i: usize, x: usize) -> [u32; 2048] {
+    let mut k = l;
+    if yes {
+        k[i % 2048] = (x % 65536) as u32;
+    }
+    k
+}
+
+fn merged_with(l: [u32; 12288], yes: bool, w: usize, i: usize, x: usize) -> [u32; 12288] {
+    let mut k = l;
+    if yes {
+        k[3 * (256 * (w % 16) + i % 256)] = (x % 65536) as u32;
+    }
+    k
+}
+
+fn slots_with(l: [Slot; 2048], kind: u8, i: usize, x: usize) -> [Slot; 2048] {
+    let mut k = l;
+    let s = k[i % 2048];
+    k[i % 2048] = Slot {
+        older: pick(kind == OLDER, x, s.older),
+        newer: pick(kind == NEWER, x, s.newer),
+        ..s
+    };
+    k
+}
+
+// The memory with the i-th number of this kind replaced: that of worker w, where it stands in a worker's record.
+pub fn memory_with(m: Memory, kind: u8, w: usize, i: usize, x: usize) -> Memory {
+    let h = m.hub;
+    let row = m.slots;
+    let a = m.newest;
+    let b = m.free;
+    let c = m.queue;
+    let d = m.lens;
+    let e = m.merged;
+    let hub = hub_with(h, kind, w, i, x);
+    let slots = slots_with(row, kind, i, x);
+    let newest = newest_with(a, kind == NEWEST, i, x);
+    let free = free_with(b, kind == FREE_SLOT, i, x);
+    let queue = queue_with(c, kind == QUEUED_SLOT, i, x);
+    let lens = lens_with(d, (kind == LENGTH) | (kind == ONE_POOL), i, x);
+    let merged = merged_with(e, kind == HAND_SLOT, w, i, x);
+    Memory {
+        hub,
+        slots,
+        newest,
+        free,
+        queue,
+        lens,
+        merged,
+    }
+}
