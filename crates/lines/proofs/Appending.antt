@@ -1,12 +1,13 @@
 -- What a text that is written into lent memory leaves behind: it is written in parts, and is known under other names.
-use mathlib.Core.Path.{_≡_, sym, ap, subst, _∙_}
-use mathlib.Core.List.{List, _++_, append-assoc}
-use Prim.Native.Nat.{ℕ, suc, _+_, _-_, _≤_}
+use mathlib.Core.Path.{_≡_, refl, sym, ap, subst, _∙_}
+use mathlib.Core.List.{List, [], _∷_, _++_, append-assoc}
+use Prim.Native.Nat.{ℕ, suc, _+_, _-_, _%_, _≤_, _<_}
 use native.Mathlib.Omega.{arith}
-use lib.ListN.{length, take, drop, length-append, length-take, length-drop, take-append-drop}
-use lib.Seq.{take-all, take-at, take-add, drop-append-add, drop-drop, length-take-le}
+use borrow.Author.Tests.{lt-ltb}
+use lib.ListN.{length, set, take, drop, length-append, length-take, length-drop, take-append-drop}
+use lib.Seq.{take-all, take-at, take-add, drop-append-add, drop-drop, length-take-le, set-split}
 use Rattle.lists.specs.Over.{overAt}
-use Rattle.model.specs.Log.{decimal}
+use Rattle.model.specs.Log.{digits, decimal}
 use Rattle.lines.specs.Digits.{Spelled}
 use Rattle.lines.specs.Words.{wordsFrom}
 use Rattle.lines.specs.Written.{Appended}
@@ -100,3 +101,13 @@ append-rest l k n {d = d} {e = e} {i = i} {j = j} h w =
 -- the digits of a number
 pub append-spelled : {x k : ℕ} {l d e : List ℕ} {i j : ℕ} → Spelled x l k → Appended (drop k l) i d e j → Appended (decimal x) i d e j
 append-spelled {d = d} {e = e} {i = i} {j = j} s w = subst (λ (p : List ℕ). Appended p i d e j) (spelled-decimal s) w
+
+-- one digit
+pub append-digit : (x : ℕ) (d : List ℕ) (i : ℕ) → x < 10 → i < length d → Appended (decimal x) i d (set d i (48 + x % 10)) (i + 1)
+unfolding decimal digits overAt
+append-digit x d i h k =
+    let v = 48 + x % 10 in
+    let one : i + 1 ≡ suc i = omega arith in
+    let is : set d i v ≡ overAt i (v ∷ []) d =
+    set-split d i v k ∙ sym (append-assoc (take i d) (v ∷ []) (drop (suc i) d)) ∙ ap (λ (n : ℕ). take i d ++ (v ∷ []) ++ drop n d) (sym one) in
+    rw (lt-ltb x 10 h) (record { memory = is; next = refl })

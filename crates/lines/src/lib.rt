@@ -108,6 +108,10 @@ fn put_decimal(out: &mut [u8], at: usize, x: u64) -> usize
     requires { ⌜ at + 20 ≤ length (now out) ⌝ }
     ensures { λ r. ⌜ Appended (decimal x) at (now (out .entry)) (now (out .exit)) r ⌝ }
 {
+    if x < 10 {
+        out[at] = 48 + (x % 10) as u8;
+        return at + 1;
+    }
     let mut places = [48u8; 20];
     let start = spell(&mut places, x);
     put_digits(out, at, &places, start)
