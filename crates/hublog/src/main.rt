@@ -3,14 +3,14 @@
 use state::Hub;
 
 fn main() {
-    // A read brings at most 16384 records; the text has room for as many lines of 48 bytes, the longest.
-    let mut block_space = [0u8; 262144];
+    // A read brings at most 32768 records; the text has room for as many lines of 48 bytes, the longest.
+    let mut block_space = [0u8; 524288];
     let block: &mut [u8] = &mut block_space;
-    let mut text_space = [0u8; 786432];
+    let mut text_space = [0u8; 1572864];
     let text: &mut [u8] = &mut text_space;
-    let mut kind_space = [0u8; 16384];
+    let mut kind_space = [0u8; 32768];
     let kinds: &mut [u8] = &mut kind_space;
-    let mut number_space = [0u64; 16384];
+    let mut number_space = [0u64; 32768];
     let numbers: &mut [u64] = &mut number_space;
     let mut newest = [0u16; 256];
     let mut free = [0u16; 2048];
@@ -36,6 +36,9 @@ fn main() {
         let n = got.n;
         let ended = n == kept;
         let end = logs::to_log(n, ended);
+        if ended & (end == 0) {
+            return;
+        }
         let done = logs::log_part(
             slots,
             hub,

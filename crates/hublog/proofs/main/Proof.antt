@@ -21,7 +21,7 @@ slice-aggregate-block : tie.Need-slice-aggregate-block Inv-loop μ-loop
 slice-aggregate-block c = search needs
 
 slice-aggregate-text : tie.Need-slice-aggregate-text Inv-loop μ-loop
-slice-aggregate-text c = sym (length-replicate {0} {A = ℕ} 786432 0)
+slice-aggregate-text c = sym (length-replicate {0} {A = ℕ} 1572864 0)
 
 slice-aggregate-kinds : tie.Need-slice-aggregate-kinds Inv-loop μ-loop
 slice-aggregate-kinds c = search needs
@@ -56,6 +56,9 @@ returns c = search needs
 to-log-requires : tie.Need-to-log-requires Inv-loop μ-loop
 to-log-requires c κs = search needs
 
+returns-2 : tie.Need-returns-2 Inv-loop μ-loop
+returns-2 c = search needs
+
 sub-log-part : tie.Need-sub-log-part Inv-loop μ-loop
 sub-log-part c = search needs
 
@@ -86,11 +89,11 @@ slice-aggregate-say-2 c = search needs
 say-requires-2 : tie.Need-say-requires-2 Inv-loop μ-loop
 say-requires-2 c κs = search needs
 
-returns-2 : tie.Need-returns-2 Inv-loop μ-loop
-returns-2 c = search needs
-
 returns-3 : tie.Need-returns-3 Inv-loop μ-loop
 returns-3 c = search needs
+
+returns-4 : tie.Need-returns-4 Inv-loop μ-loop
+returns-4 c = search needs
 
 wrapping-add-u64-requires : tie.Need-wrapping-add-u64-requires Inv-loop μ-loop
 wrapping-add-u64-requires c κs = search needs
@@ -98,7 +101,7 @@ wrapping-add-u64-requires c κs = search needs
 keep-rest-requires : tie.Need-keep-rest-requires Inv-loop μ-loop
 keep-rest-requires c κs =
     let w = c .before .before .before .before .before .before .before .before .before .before .before .before .before in
-    let t = w .before .before .before .before .before .before .before .before .before .before .before .before .before in
+    let t = w .before .before .before .before .before .before .before .before .before .before .before .before .before .before in
     let r = t .before .before .before .before in
     (t .to-log .ensures .1, r .read-after .ensures .1)
 
@@ -106,14 +109,14 @@ loop-less : tie.Need-loop-less Inv-loop μ-loop
 loop-less c =
     let s = c .before .before .before .before .before .before .before .before .before .before .before .before in
     let w = s .before .before .before .before .before .before .before .before .before .before .before .before in
-    let t = w .before .before .before .before .before .before .before .before .before .before .before in
+    let t = w .before .before .before .before .before .before .before .before .before .before .before .before in
     omega (arith, t .loop-test .taken)
 
 loop-again : tie.Need-loop-again Inv-loop μ-loop
 loop-again c = c .before .before .keep-rest .ensures .2
 
-returns-4 : tie.Need-returns-4 Inv-loop μ-loop
-returns-4 c = search needs
+returns-5 : tie.Need-returns-5 Inv-loop μ-loop
+returns-5 c = search needs
 
 pub main-spec : {M : Type 1} → statement M
 main-spec =
@@ -134,6 +137,7 @@ main-spec =
     say-requires
     returns
     to-log-requires
+    returns-2
     sub-log-part
     part-log-part-start
     part-log-part-end
@@ -144,10 +148,10 @@ main-spec =
     write-all-requires
     slice-aggregate-say-2
     say-requires-2
-    returns-2
     returns-3
+    returns-4
     wrapping-add-u64-requires
     keep-rest-requires
     loop-less
     loop-again
-    returns-4)
+    returns-5)
