@@ -37,7 +37,7 @@ use Rattle.gate.specs.Gate.{decodedRep, decodedIn, gateOf, whoOf}
 use Rattle.gate.proofs.Decoded.{decoded-back}
 use Rattle.gate.proofs.Named.{Names, Named, named, byte-names}
 use Rattle.ready.specs.Ready.{readyOf}
-use Rattle.step.specs.declared.Outcome.{Outcome}
+use Rattle.announcing.specs.declared.Outcome.{Outcome}
 use Rattle.step.specs.declared.Next.{Next}
 use Rattle.step.specs.declared.Next.the-variants.{Taken, HandIn, Take, Read, Split, Free}
 use Rattle.step.specs.Step.{Stepped}

@@ -56,7 +56,7 @@ pub fn flush_free(
 {
     let i = next_to_free(merged, w, m);
     let v = versions::load(row, i);
-    versions::unlink(row, i);
+    linking::unlink(row, i);
     arrays::set_short(free, n, i);
     Freed {
         slot: (i % 65536) as u16,

@@ -34,11 +34,13 @@ use Rattle.state.specs.State.{nobody, workerIn, withWorkersIn, atPlace}
 use Rattle.gate.specs.declared.Gate.{Gate}
 use Rattle.gate.specs.declared.Gate.the-variants.{Refuse, Make, Start, Go}
 use Rattle.gate.specs.Gate.{operationRep, decodedRep, decodedIn, termsOf, registerOk, openOk, timeOk, beginGate, sizesOk, gateOf, whoOf}
-use Rattle.step.specs.declared.Outcome.{Outcome}
+use Rattle.announcing.specs.declared.Outcome.{Outcome}
 use Rattle.step.specs.declared.Next.{Next}
 use Rattle.step.specs.declared.Next.the-variants.{Taken}
-use Rattle.step.specs.Step.{Stepped, outcomeOf, readOrSplit, freeOrDone, stepOf}
-use Rattle.step.specs.Step.{putPublishStep, putStampStep, openAnnounceStep, openPassStep, readEnterStep, readStandStep, getShowStep, closeWithdrawStep}
+use Rattle.announcing.specs.Announcing.{outcomeOf}
+use Rattle.step.specs.Step.{Stepped, readOrSplit, freeOrDone, stepOf}
+use Rattle.announcing.specs.Announcing.{openAnnounceStep, openPassStep, closeWithdrawStep}
+use Rattle.step.specs.Step.{putPublishStep, putStampStep, readEnterStep, readStandStep, getShowStep}
 use Rattle.flush.specs.Flush.{handedPool, putHandInStep}
 use Rattle.simulation.specs.Memory.{Memory}
 use Rattle.simulation.specs.Shell.{Result, withHub, takenIn, handedIn, tookIn, readIn, splitIn, freedIn, nextIn, finishIn, goIn}

@@ -14,7 +14,7 @@ use Rattle.slots.specs.declared.Slot.{Slot}
 use Rattle.slots.specs.Slots.{slotRep}
 use Rattle.worker.specs.Rep.{doingRep, announcedRep, timesRep}
 use Rattle.step.specs.declared.Next.the-variants.{Taken}
-use Rattle.step.specs.Step.{outcomeOf}
+use Rattle.announcing.specs.Announcing.{outcomeOf}
 use Rattle.simulation.specs.Memory.{Memory, inHandWords, write}
 use Rattle.simulation.specs.Left.{Sized}
 use Rattle.simulation.proofs.Sound.{Sound}

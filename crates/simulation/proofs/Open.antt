@@ -12,7 +12,8 @@ use Rattle.model.specs.Steps.{timeStep, stepAt, openAnnounce, openPass, closeWi
 use Rattle.model.proofs.Basic.{eq-cases}
 use Rattle.values.specs.declared.Answer.the-variants.{Going, At as AnswerAt, Done, No}
 use Rattle.worker.proofs.Rep.{announced-at}
-use Rattle.step.specs.Step.{openAnnounceStep, openPassStep, closeWithdrawStep, stepOf}
+use Rattle.announcing.specs.Announcing.{openAnnounceStep, openPassStep, closeWithdrawStep}
+use Rattle.step.specs.Step.{stepOf}
 use Rattle.simulation.specs.Memory.{Memory, handWords, write}
 use Rattle.simulation.specs.Left.{Sized}
 use Rattle.simulation.proofs.Sound.{Sound}

@@ -23,7 +23,8 @@ use Rattle.versions.specs.Versions.{stampedIn, linkedIn}
 use Rattle.worker.specs.declared.Doing.the-variants.{PutStamp}
 use Rattle.worker.specs.Rep.{readingRep, announcedRep}
 use Rattle.step.specs.declared.Next.the-variants.{Taken}
-use Rattle.step.specs.Step.{newestAt, nextFree, outcomeOf, putPublishStep, putStampStep, stepOf}
+use Rattle.announcing.specs.Announcing.{outcomeOf}
+use Rattle.step.specs.Step.{newestAt, nextFree, putPublishStep, putStampStep, stepOf}
 use Rattle.simulation.specs.Memory.{Memory, handWords, write}
 use Rattle.simulation.specs.Left.{Sized}
 use Rattle.simulation.proofs.Laws.{newest-set, free-top, free-pop}

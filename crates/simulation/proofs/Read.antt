@@ -18,7 +18,8 @@ use Rattle.arrays.specs.Arrays.{short}
 use Rattle.versions.specs.Versions.{slotAtIn}
 use Rattle.worker.specs.declared.Doing.the-variants.{Idle, ReadStand}
 use Rattle.worker.specs.Rep.{readingRep, announcedRep, goalRep, timeOf}
-use Rattle.step.specs.Step.{Stepped, newestAt, outcomeOf, stillAt, readEnterStep, readStandStep, getShowStep, stepOf}
+use Rattle.announcing.specs.Announcing.{outcomeOf}
+use Rattle.step.specs.Step.{Stepped, newestAt, stillAt, readEnterStep, readStandStep, getShowStep, stepOf}
 use Rattle.simulation.specs.Memory.{Memory, handWords, write}
 use Rattle.simulation.specs.Left.{Sized}
 use Rattle.simulation.proofs.Sound.{Sound}

@@ -17,7 +17,7 @@ use Rattle.worker.specs.Rep.{doingRep, announcedRep, poolRep, timesRep, workerR
 use Rattle.state.specs.declared.Hub.{Hub}
 use Rattle.state.specs.State.{withWorkerIn, withClockIn, withFreeIn}
 use Rattle.step.specs.declared.Next.the-variants.{Taken}
-use Rattle.step.specs.Step.{outcomeOf}
+use Rattle.announcing.specs.Announcing.{outcomeOf}
 use Rattle.simulation.specs.Memory.{Memory, hubRep, inHandWords, write}
 use Rattle.simulation.specs.Left.{Sized}
 use Rattle.simulation.specs.Shell.{takenIn, nextIn, finishIn, stepAtIn, goIn}

@@ -16,9 +16,10 @@ use Rattle.worker.specs.declared.Announced.{Announced}
 use Rattle.worker.specs.declared.Goal.{Goal}
 use Rattle.worker.specs.declared.Doing.the-variants.{Idle, PutStamp, PutHandIn, ReadStand}
 use Rattle.worker.specs.Rep.{timeOf}
-use Rattle.step.specs.declared.Outcome.{Outcome}
+use Rattle.announcing.specs.declared.Outcome.{Outcome}
 use Rattle.step.specs.declared.Next.the-variants.{Taken}
-use Rattle.step.specs.Step.{Stepped, outcomeOf, newestAt, nextFree, putPublishStep, putStampStep, readEnterStep, readStandStep, getShowStep}
+use Rattle.announcing.specs.Announcing.{outcomeOf}
+use Rattle.step.specs.Step.{Stepped, newestAt, nextFree, putPublishStep, putStampStep, readEnterStep, readStandStep, getShowStep}
 
 abbrev leaves : Outcome → List Slot → List ℕ → Stepped
 leaves o l newest = record { next = Taken o; row = l; newest = newest }

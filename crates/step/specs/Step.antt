@@ -1,27 +1,24 @@
--- The steps that are done at once: put (1) and (2), open, read, get, close and flush (5). Each is the model's step of the same name
--- (model/specs/Steps.antt) in this code's types, on the parts of memory that it uses. The other steps of a flush and put (3) also move pools
--- and times; here they are only named (`Next`), and flush/specs/Flush.antt has what they do.
+-- The steps that are done at once: put (1) and (2), read, get and flush (5); open and close are in announcing/specs/Announcing.antt. Each is
+-- the model's step of the same name (model/specs/Steps.antt) in this code's types, on the parts of memory that it uses. The other steps of a
+-- flush and put (3) also move pools and times; here they are only named (`Next`), and flush/specs/Flush.antt has what they do.
 use mathlib.Core.Bool.{cond}
 use mathlib.Core.List.{List}
-use Prim.Native.Nat.{ℕ, _+_, _-_}
+use Prim.Native.Nat.{ℕ, _-_}
 use lib.Dec.{ltb, leb, eqb}
 use lib.ListN.{getD, set}
-use Rattle.model.specs.Store.{absent, lastClock}
+use Rattle.model.specs.Store.{absent}
 use Rattle.values.specs.declared.Reading.{Reading}
-use Rattle.values.specs.declared.Answer.{Answer}
-use Rattle.values.specs.declared.Answer.the-variants.{Going, At as AnswerAt, Value, Done, No}
+use Rattle.values.specs.declared.Answer.the-variants.{Going, Value, Done, No}
 use Rattle.slots.specs.declared.Slot.{Slot}
 use Rattle.arrays.specs.Arrays.{short}
 use Rattle.versions.specs.Versions.{slotAtIn, stampedIn, linkedIn}
 use Rattle.worker.specs.declared.Announced.{Announced}
-use Rattle.worker.specs.declared.Announced.the-variants.{Nothing, At}
 use Rattle.worker.specs.declared.Doing.{Doing}
 use Rattle.worker.specs.declared.Doing.the-variants.{Idle, PutPublish, PutStamp, PutHandIn, FlushTake, FlushRead, FlushFree, OnTime, ReadEnter, ReadStand, GetShow}
-use Rattle.worker.specs.declared.TimeStep.{TimeStep}
-use Rattle.worker.specs.declared.TimeStep.the-variants.{OpenAnnounce, OpenPass, CloseWithdraw}
 use Rattle.worker.specs.declared.Goal.{Goal}
 use Rattle.worker.specs.Rep.{timeOf}
-use Rattle.step.specs.declared.Outcome.{Outcome}
+use Rattle.announcing.specs.declared.Outcome.{Outcome}
+use Rattle.announcing.specs.Announcing.{outcomeOf, timeStepOf}
 use Rattle.step.specs.declared.Next.{Next}
 use Rattle.step.specs.declared.Next.the-variants.{Taken, HandIn, Take, Read, Split, Free}
 
@@ -30,9 +27,6 @@ pub record Stepped : Type 0 where
   pub next : Next
   pub row : List Slot
   pub newest : List ℕ
-
-abbrev pub outcomeOf : Doing → Announced → ℕ → ℕ → Answer → Outcome
-outcomeOf d t k n y = record { doing = d; announced = t; clock = k; free = n; answer = y }
 
 -- the slot of register r's newest version; 0 where there is no such register
 abbrev pub newestAt : List ℕ → ℕ → ℕ
@@ -72,20 +66,7 @@ putStampStep r c t k n l newest =
     }
 
 ------------------------------------------------------------------------
--- Open
-
--- (1) H5.32: refusal 15 at the last clock. H5.33: else the worker announces the clock.
-unfoldable pub openAnnounceStep : Announced → ℕ → ℕ → Outcome
-openAnnounceStep t k n = cond (eqb k lastClock) (outcomeOf Idle t k n (No 15)) (outcomeOf (OnTime OpenPass) (At k) k n Going)
-
--- (2) H5.34: a clock that is still at the announced time goes up by one, and that time is the answer. The last clock value is not passed. A
--- worker at this place has a time; without one nothing is answered.
-unfoldable pub openPassStep : Announced → ℕ → ℕ → Outcome
-openPassStep Nothing k n = outcomeOf Idle Nothing k n Going
-openPassStep (At a) k n = outcomeOf Idle (At a) (cond (eqb k a) (cond (ltb k lastClock) (k + 1) k) k) n (AnswerAt a)
-
-------------------------------------------------------------------------
--- Read, get, close
+-- Read, get
 
 -- Read (1) H5.36: the register is stamped, and the read stands on its newest version.
 unfoldable pub readEnterStep : Goal → Announced → ℕ → ℕ → List Slot → List ℕ → Stepped
@@ -111,16 +92,6 @@ getShowStep r t k n l newest =
       row = stampedIn l (newestAt newest r) k;
       newest = newest;
     }
-
--- Close, H5.40: the worker has no time then.
-unfoldable pub closeWithdrawStep : ℕ → ℕ → Outcome
-closeWithdrawStep k n = outcomeOf Idle Nothing k n Done
-
--- a step that moves the worker's time
-abbrev pub timeStepOf : TimeStep → Announced → ℕ → ℕ → Outcome
-timeStepOf OpenAnnounce t k n = openAnnounceStep t k n
-timeStepOf OpenPass t k n = openPassStep t k n
-timeStepOf CloseWithdraw t k n = closeWithdrawStep k n
 
 ------------------------------------------------------------------------
 -- One step of a worker at the place given, with the announced time t, of p workers. An idle worker has none: refusal 11.

@@ -1,27 +1,14 @@
 // One step of a worker: the place is taken apart once, here. Steps on slots, on the clock and on the announced time are done at once; put (3)
 // and flush (1) to (4), which move pools, times and readers, are named for the caller.
 ghost use mathlib.Core.Path.{_≡_};
-ghost use mathlib.Core.Bool.{cond};
-ghost use Prim.Native.Nat.{_+_};
-ghost use lib.Dec.{eqb, ltb};
-ghost use Rattle.model.specs.Store.{lastClock};
 ghost use Rattle.versions.specs.Versions.{rowOf};
-ghost use Rattle.step.specs.Step.{outcomeOf, newestAt, nextFree, putPublishStep, putStampStep, openAnnounceStep, openPassStep, readEnterStep, readStandStep, getShowStep, closeWithdrawStep, timeStepOf, readOrSplit, freeOrDone, stepOf};
+ghost use Rattle.step.specs.Step.{newestAt, nextFree, putPublishStep, putStampStep, readEnterStep, readStandStep, getShowStep, readOrSplit, freeOrDone, stepOf};
+use announcing::Outcome;
 use values::Answer;
 use values::Reading;
 use worker::Announced;
 use worker::Doing;
 use worker::Goal;
-use worker::TimeStep;
-
-// What a step leaves: the worker's place and announced time, the clock, how many slots are free; and its answer.
-pub struct Outcome {
-    pub doing: Doing,
-    pub announced: Announced,
-    pub clock: u32,
-    pub free: usize,
-    pub answer: Answer,
-}
 
 // A step that is taken, or one that is still to do: put (3) of a covered version; flush (1); (2), of a merged list with so many times read;
 // (3), of a merged list; (4), with so many ranges left.
@@ -38,24 +25,6 @@ fn wide(x: u16) -> usize
     ensures { λ r. ⌜ r ≡ x ⌝ }
 {
     x as usize
-}
-
-fn outcome_of(
-    doing: Doing,
-    announced: Announced,
-    clock: u32,
-    free: usize,
-    answer: Answer,
-) -> Outcome
-    ensures { λ r. ⌜ r ≡ outcomeOf doing announced clock free answer ⌝ }
-{
-    Outcome {
-        doing,
-        announced,
-        clock,
-        free,
-        answer,
-    }
 }
 
 // The slot of register r's newest version; 0 where there is no such register.
@@ -99,16 +68,16 @@ fn put_publish(
         ⌝ }
 {
     if n == 0 {
-        return Next::Taken(outcome_of(Doing::Idle, t, clock, n, Answer::No(14)));
+        return Next::Taken(announcing::outcome_of(Doing::Idle, t, clock, n, Answer::No(14)));
     }
     let i = newest_of(newest, register);
     let f = next_free(free, n);
-    versions::stamp(row, i, clock);
-    versions::link(row, i, f, reading);
+    linking::stamp(row, i, clock);
+    linking::link(row, i, f, reading);
     arrays::set_short(newest, wide(register), f);
     let covered = (i % 65536) as u16;
     let place = Doing::PutStamp { register, covered };
-    Next::Taken(outcome_of(place, t, clock, n - 1, Answer::Going))
+    Next::Taken(announcing::outcome_of(place, t, clock, n - 1, Answer::Going))
 }
 
 // Put (2).
@@ -129,49 +98,10 @@ fn put_stamp(
     let c = versions::load(row, wide(covered));
     let place = Doing::PutHandIn { register, covered };
     if c.high == 4294967296 {
-        versions::stamp(row, newest_of(newest, register), clock);
-        return Next::Taken(outcome_of(place, t, clock, n, Answer::Going));
+        linking::stamp(row, newest_of(newest, register), clock);
+        return Next::Taken(announcing::outcome_of(place, t, clock, n, Answer::Going));
     }
-    Next::Taken(outcome_of(place, t, clock, n, Answer::Going))
-}
-
-// Open (1).
-fn open_announce(t: Announced, clock: u32, n: usize) -> Outcome
-    ensures { λ r. ⌜ r ≡ openAnnounceStep t clock n ⌝ }
-{
-    if clock == 4294967295 {
-        return outcome_of(Doing::Idle, t, clock, n, Answer::No(15));
-    }
-    outcome_of(
-        Doing::OnTime(TimeStep::OpenPass),
-        Announced::At(clock),
-        clock,
-        n,
-        Answer::Going,
-    )
-}
-
-// The clock after open (2) of the announced time a.
-fn passed(a: u32, clock: u32) -> u32
-    ensures { λ r. ⌜ r ≡ cond (eqb clock a) (cond (ltb clock lastClock) (clock + 1) clock) clock ⌝ }
-{
-    if clock == a {
-        if clock < 4294967295 {
-            return clock + 1;
-        }
-        return clock;
-    }
-    clock
-}
-
-// Open (2).
-fn open_pass(t: Announced, clock: u32, n: usize) -> Outcome
-    ensures { λ r. ⌜ r ≡ openPassStep t clock n ⌝ }
-{
-    match t {
-        Announced::Nothing => outcome_of(Doing::Idle, t, clock, n, Answer::Going),
-        Announced::At(a) => outcome_of(Doing::Idle, t, passed(a, clock), n, Answer::At(a)),
-    }
+    Next::Taken(announcing::outcome_of(place, t, clock, n, Answer::Going))
 }
 
 // Read (1).
@@ -189,10 +119,10 @@ fn read_enter(
         ⌝ }
 {
     let i = newest_of(newest, goal.register);
-    versions::stamp(row, i, clock);
+    linking::stamp(row, i, clock);
     let slot = (i % 65536) as u16;
     let place = Doing::ReadStand { goal, slot };
-    Next::Taken(outcome_of(place, t, clock, n, Answer::Going))
+    Next::Taken(announcing::outcome_of(place, t, clock, n, Answer::Going))
 }
 
 // Read (2).
@@ -209,11 +139,11 @@ fn read_stand(
     let v = versions::load(row, wide(slot));
     if v.low <= worker::time_of(t) {
         let x = v.value;
-        return outcome_of(Doing::Idle, t, clock, n, Answer::Value(x));
+        return announcing::outcome_of(Doing::Idle, t, clock, n, Answer::Value(x));
     }
     let older = (v.older % 65536) as u16;
     let place = Doing::ReadStand { goal, slot: older };
-    outcome_of(place, t, clock, n, Answer::Going)
+    announcing::outcome_of(place, t, clock, n, Answer::Going)
 }
 
 // Get.
@@ -232,27 +162,9 @@ fn get_show(
 {
     let i = newest_of(newest, register);
     let v = versions::load(row, i);
-    versions::stamp(row, i, clock);
+    linking::stamp(row, i, clock);
     let x = v.value;
-    Next::Taken(outcome_of(Doing::Idle, t, clock, n, Answer::Value(x)))
-}
-
-// Close.
-fn close_withdraw(clock: u32, n: usize) -> Outcome
-    ensures { λ r. ⌜ r ≡ closeWithdrawStep clock n ⌝ }
-{
-    outcome_of(Doing::Idle, Announced::Nothing, clock, n, Answer::Done)
-}
-
-// A step that moves the worker's time.
-fn time_step(y: TimeStep, t: Announced, clock: u32, n: usize) -> Outcome
-    ensures { λ r. ⌜ r ≡ timeStepOf y t clock n ⌝ }
-{
-    match y {
-        TimeStep::OpenAnnounce => open_announce(t, clock, n),
-        TimeStep::OpenPass => open_pass(t, clock, n),
-        TimeStep::CloseWithdraw => close_withdraw(clock, n),
-    }
+    Next::Taken(announcing::outcome_of(Doing::Idle, t, clock, n, Answer::Value(x)))
 }
 
 // Flush (2) while times are left to read, then (3).
@@ -270,7 +182,7 @@ fn free_or_done(left: u16, t: Announced, clock: u32, n: usize) -> Next
     ensures { λ r. ⌜ r ≡ freeOrDone left t clock n ⌝ }
 {
     if left == 0 {
-        return Next::Taken(outcome_of(Doing::Idle, t, clock, n, Answer::Done));
+        return Next::Taken(announcing::outcome_of(Doing::Idle, t, clock, n, Answer::Done));
     }
     Next::Free { left }
 }
@@ -292,7 +204,7 @@ pub fn step(
         ⌝ }
 {
     match d {
-        Doing::Idle => Next::Taken(outcome_of(d, t, clock, n, Answer::No(11))),
+        Doing::Idle => Next::Taken(announcing::outcome_of(d, t, clock, n, Answer::No(11))),
         Doing::PutPublish { register, reading } => {
             put_publish(row, newest, free, register, reading, t, clock, n)
         }
@@ -306,7 +218,7 @@ pub fn step(
         Doing::FlushTake => Next::Take,
         Doing::FlushRead { merged, read } => read_or_split(merged, read, p),
         Doing::FlushFree { left } => free_or_done(left, t, clock, n),
-        Doing::OnTime(y) => Next::Taken(time_step(y, t, clock, n)),
+        Doing::OnTime(y) => Next::Taken(announcing::time_step(y, t, clock, n)),
         Doing::ReadEnter { goal } => read_enter(row, newest, goal, t, clock, n),
         Doing::ReadStand { goal, slot } => Next::Taken(read_stand(row, goal, slot, t, clock, n)),
         Doing::GetShow { register } => get_show(row, newest, register, t, clock, n),
