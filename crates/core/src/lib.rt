@@ -259,7 +259,7 @@ pub fn run(
                         last = put_answer(kinds, numbers, k, Answer::Going);
                         k += 1;
                     }
-                    // Flush (4). "A read standing on it moves to its older neighbour."
+                    // Flush (4). H5.27: reads move off the freed slot.
                     Next::Free { left } => {
                         let f = freeing::flush_free(row, free, merged, w, left, hub.free);
                         hub.workers[w] = Worker {

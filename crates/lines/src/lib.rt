@@ -1,4 +1,4 @@
-// The log's lines (document 01, "The log").
+// The log's lines (H10).
 ghost use mathlib.Core.Path.{_≡_};
 ghost use mathlib.Core.List.{_++_};
 ghost use Prim.Native.Nat.{ℕ, _+_, _*_, _≤_, min};

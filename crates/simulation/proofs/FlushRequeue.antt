@@ -1,5 +1,4 @@
--- Flush (3): the pools that the code queues are the model's, in the three cases of document 01: "More than 2B needed: two pools on the
--- queue, the first with half rounded up. More than B: one pool. Else: merge into the local pool", which is queued if it is not empty.
+-- Flush (3): the pools that the code queues are the model's, in the three cases of H5.20 to H5.22, and the local pool after them (H5.23).
 -- There is room for them, since all ranges together are fewer than 2048 and no pool is empty.
 use mathlib.Core.Path.{_≡_, refl, sym, ap, _∙_}
 use mathlib.Core.Bool.{Bool, true, false, cond}

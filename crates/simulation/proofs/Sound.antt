@@ -61,7 +61,7 @@ PlaceIn s t (Model.ReadStand g c) = (g .register < s .site .V') × (c < s .site 
 PlaceIn s t (Model.GetShow r) = r < s .site .V'
 
 pub record Sound (s : Store) : Type 0 where
-  -- the sizes, the lengths and how long the lists are, for document 01's batch size
+  -- the sizes, the lengths and how long the lists are, for the batch size of H1.24
   pub bounds : Bounds s
   pub batch : s .site .B ≡ batchOf (s .site .P)
   pub newest : (r : ℕ) → r < s .site .V' → newestOf s r < s .site .N

@@ -1,4 +1,4 @@
--- The demands of document 01 (H6.1 to H6.3), of what the code answers and leaves, for every list of calls. This is the statement to read first.
+-- The demands, H6.1 to H6.3, of what the code answers and leaves, for every list of calls. This is the statement to read first.
 -- Demand 1 and, call by call, demand 2 are parts of the contracts of the public functions, `Does` and `Applies`; the rest is proved in
 -- proofs/Demands.antt from these contracts alone.
 use mathlib.Core.Path.{_≡_}

@@ -17,7 +17,7 @@ use Rattle.simulation.specs.Memory.{Memory, write}
 pub record LeftByRecords (s : Store) : Type 0 where
   pub row : List Model.Slot
   pub setup : Ruled
-  -- the setup took document 01's batch size, which the code computes from P
+  -- the setup took the batch size of H1.24, which the code computes from P
   pub batch : setup .rules .batch ≡ batchOf
   pub accepted : applyRuled (blank row) setup .answer ≡ Ok
   pub records : List Ruled

@@ -3,11 +3,11 @@ use mathlib.Core.List.{List}
 use Prim.Native.Nat.{ℕ, _+_, _*_, _/_, min}
 use lib.ListN.{length, take, drop}
 
--- record k, sixteen bytes or as much of it as is left (H3.5)
+-- H3.5: record k, or as much of it as is left
 abbrev pub recordAt : List ℕ → ℕ → List ℕ
 recordAt bytes k = take 16 (drop (16 * k) bytes)
 
--- a rest of 1 to 15 bytes is one more record (H3.6)
+-- H3.6: a rest of 1 to 15 bytes is one more record
 abbrev pub recordsIn : List ℕ → ℕ
 recordsIn bytes = (length bytes + 15) / 16
 

@@ -146,7 +146,7 @@ splitIn m w x n =
       answer = Going;
     }
 
--- flush (4), with n ranges left: "A read standing on it moves to its older neighbour", of all workers
+-- flush (4), with n ranges left; H5.27: reads of all workers move off the freed slot
 abbrev pub offWorker : ℕ → ℕ → Worker → Worker
 offWorker c o x = atPlace x (offDoing c o (x .doing))
 
