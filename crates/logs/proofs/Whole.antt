@@ -43,30 +43,30 @@ unfolding firstOf upFrom
 first-up f zero = refl
 first-up f (suc k) = ap (λ (l : List _). l ++ (f k ∷ [])) (first-up f k) ∙ sym (map-last f k)
 
-module _ (h : Hub) (m : Memory) (bytes : List ℕ) (first : ℕ) (printed : List ℕ) (m′ : Memory) (H : Holds h m)
-    (C : Call m bytes first printed m′) where
+module _ (h : Hub) (m : Memory) (bytes : List ℕ) (first : ℕ) (printed : List ℕ) (n : ℕ) (m′ : Memory) (H : Holds h m)
+    (C : Call m bytes first printed n m′) where
   -- every record has room
   all-bytes : inRoom bytes (C .text) ≡ bytes
   all-bytes = take-all (16 * (length (C .text) / 48)) bytes (omega (arith, C .room .forText))
 
-  all-records : C .n ≡ recordsIn bytes
+  all-records : n ≡ recordsIn bytes
   all-records = omega (arith, C .logs .applied .count, ap length all-bytes, C .room .forKinds, C .room .forNumbers)
 
-  applies : Applies m bytes (C .kinds) (C .numbers) (C .n) m′ (C .kinds′) (C .numbers′)
-  applies = subst (λ (l : List ℕ). Applies m l (C .kinds) (C .numbers) (C .n) m′ (C .kinds′) (C .numbers′)) all-bytes (C .logs .applied)
+  applies : Applies m bytes (C .kinds) (C .numbers) n m′ (C .kinds′) (C .numbers′)
+  applies = subst (λ (l : List ℕ). Applies m l (C .kinds) (C .numbers) n m′ (C .kinds′) (C .numbers′)) all-bytes (C .logs .applied)
 
   -- what was sent and answered, as the model has it
   abbrev answerOn : ℕ → Answer
   answerOn = answerAt (C .kinds′) (C .numbers′)
 
   abbrev es : List Exchange
-  es = map (exchangeAt bytes (C .kinds′) (C .numbers′)) (upFrom 0 (C .n))
+  es = map (exchangeAt bytes (C .kinds′) (C .numbers′)) (upFrom 0 n)
 
   asModel : AsModel h m es m′
   asModel = applies .asModel h H
 
   sent-is : sent es ≡ allUnder inForce (recordsOf bytes)
-  sent-is = ap (allUnder inForce) (call-records (ForBuffer bytes (C .kinds) (C .numbers) (C .n) (C .kinds′) (C .numbers′) m′) all-records)
+  sent-is = ap (allUnder inForce) (call-records (ForBuffer bytes (C .kinds) (C .numbers) n (C .kinds′) (C .numbers′) m′) all-records)
 
   answered : map (λ (e : Exchange). e .answer) es ≡ answersTo h (allUnder inForce (recordsOf bytes))
   answered =
@@ -76,34 +76,35 @@ module _ (h : Hub) (m : Memory) (bytes : List ℕ) (first : ℕ) (printed : List
       ∙ ap (answersTo h) sent-is
 
   -- the two rows hold the answers
-  row-holds : (f : Answer → ℕ) (l r : List ℕ) → C .n ≤ length l → r ≡ over (map f (applies .answers)) l
-      → (i : ℕ) → i < C .n → getD r i 0 ≡ f (answerOn i)
+  row-holds : (f : Answer → ℕ) (l r : List ℕ) → n ≤ length l → r ≡ over (map f (applies .answers)) l
+      → (i : ℕ) → i < n → getD r i 0 ≡ f (answerOn i)
   row-holds f l r long e i b =
-      let is : map f (applies .answers) ≡ map (λ (k : ℕ). f (answerOn k)) (upFrom 0 (C .n)) =
-      ap (map f) (sym (applies .readBack (h, H))) ∙ sym (map-map f answerOn (upFrom 0 (C .n))) in
-      let p = map (λ (k : ℕ). f (answerOn k)) (upFrom 0 (C .n)) in
+      let is : map f (applies .answers) ≡ map (λ (k : ℕ). f (answerOn k)) (upFrom 0 n) =
+      ap (map f) (sym (applies .readBack (h, H))) ∙ sym (map-map f answerOn (upFrom 0 n)) in
+      let p = map (λ (k : ℕ). f (answerOn k)) (upFrom 0 n) in
       ap (λ (d : List ℕ). getD d i 0) (e ∙ ap (λ (q : List ℕ). over q l) is)
-      ∙ getD-over-in p l i 0 (omega (arith, b, map-long (λ (k : ℕ). f (answerOn k)) (C .n)))
-      ∙ at-below (λ (k : ℕ). f (answerOn k)) 0 (C .n) i b
+      ∙ getD-over-in p l i 0 (omega (arith, b, map-long (λ (k : ℕ). f (answerOn k)) n))
+      ∙ at-below (λ (k : ℕ). f (answerOn k)) 0 n i b
 
-  text-is : linesFrom first (C .kinds′) (C .numbers′) (C .n) ≡ lines first (map (λ (e : Exchange). e .answer) es)
+  text-is : linesFrom first (C .kinds′) (C .numbers′) n ≡ lines first (map (λ (e : Exchange). e .answer) es)
   text-is =
-      model-text first (C .kinds′) (C .numbers′) answerOn (C .n)
+      model-text first (C .kinds′) (C .numbers′) answerOn n
       (row-holds kindOf (C .kinds) (C .kinds′) (omega (arith, all-records, C .room .forKinds)) (applies .answerKinds))
       (row-holds numberOf (C .numbers) (C .numbers′) (omega (arith, all-records, C .room .forNumbers)) (applies .answerNumbers))
       ∙ ap (lines first)
-      (ap (map answerOf) (first-up answerOn (C .n))
-      ∙ sym (map-map answerOf answerOn (upFrom 0 (C .n)))
-      ∙ map-map (λ (e : Exchange). e .answer) (exchangeAt bytes (C .kinds′) (C .numbers′)) (upFrom 0 (C .n)))
+      (ap (map answerOf) (first-up answerOn n)
+      ∙ sym (map-map answerOf answerOn (upFrom 0 n))
+      ∙ map-map (λ (e : Exchange). e .answer) (exchangeAt bytes (C .kinds′) (C .numbers′)) (upFrom 0 n))
 
-  printed-is : printed ≡ linesFrom first (C .kinds′) (C .numbers′) (C .n)
+  printed-is : printed ≡ linesFrom first (C .kinds′) (C .numbers′) n
   printed-is =
-      let l : List ℕ = linesFrom first (C .kinds′) (C .numbers′) (C .n) in
+      let l : List ℕ = linesFrom first (C .kinds′) (C .numbers′) n in
       C .prints ∙ ap (take (C .used)) (C .logs .written) ∙ take-over l (C .text) (C .used) (sym (C .logs .bytesUsed))
 
-  part-logged : LoggedAs h m bytes first printed m′
+  part-logged : LoggedAs h m bytes first printed n m′
   part-logged =
       record {
+        count = all-records;
         text = printed-is ∙ text-is ∙ ap (lines first) answered;
         memory = asModel .memory ∙ ap (λ (l : List Ruled). memoryAfter h l m) sent-is;
         holds = subst (λ (l : List Ruled). Holds (hubAfter h l) m′) sent-is (asModel .holds);
@@ -143,11 +144,11 @@ parts [] h m first L c H = refl
 parts (p ∷ ps) h m first L c H =
     let a : List Ruled = allUnder inForce (recordsOf (p .bytes)) in
     let b : List Ruled = allUnder inForce (recordsOf (bytesOf ps)) in
-    let o = one-part h m (p .bytes) first (p .printed) (p .after) L (H .0) in
-    let rest = parts ps (hubAfter h a) (p .after) (first + recordsIn (p .bytes)) (o .holds) (cut-rest (p .bytes) (parted ps) c) (H .1) in
-    let count : length (answersTo h a) ≡ recordsIn (p .bytes) =
+    let o = one-part h m (p .bytes) first (p .printed) (p .count) (p .after) L (H .0) in
+    let rest = parts ps (hubAfter h a) (p .after) (first + p .count) (o .holds) (cut-rest (p .bytes) (parted ps) c) (H .1) in
+    let count : length (answersTo h a) ≡ p .count =
     answers-length h a ∙ length-map (recordsOf (p .bytes)) (under inForce) ∙ sym (ap length (whole (p .bytes)))
-    ∙ map-long (recordAt (p .bytes)) (recordsIn (p .bytes)) in
+    ∙ map-long (recordAt (p .bytes)) (recordsIn (p .bytes)) ∙ sym (o .count) in
     let all : allUnder inForce (recordsOf (bytesOf (p ∷ ps))) ≡ a ++ b =
     ap (allUnder inForce) (records-parts (p .bytes) (parted ps) c) ∙ under-append inForce (recordsOf (p .bytes)) (recordsOf (bytesOf ps)) in
     (λ i. o .text i ++ rest i)

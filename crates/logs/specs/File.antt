@@ -12,21 +12,21 @@ use Rattle.slots.specs.declared.Slot.{Slot}
 use Rattle.state.specs.State.{freshHub}
 use Rattle.simulation.specs.Memory.{Memory, memory}
 use Rattle.simulation.specs.Left.{ready}
-use Rattle.simulation.specs.Records.{recordsIn}
 use Rattle.logs.specs.OnePart.{Call}
 use Rattle.logs.specs.Part.{wholeRecords}
 
--- a part of a file: its bytes, the text that was printed for it, and the memory after it
+-- a part of a file: its bytes, the text that was printed for it, how many records it had, and the memory after it
 pub record Part : Type 0 where
   pub bytes : List ℕ
   pub printed : List ℕ
+  pub count : ℕ
   pub after : Memory
 
 -- the parts of a file handed in one after the other, from the memory m and the number n on: each meets the memory as the last one left it, and
 -- has the number of its first record. A call takes a number of 64 bits, so fewer than 2^64 records come before the last part.
 unfoldable pub HandedIn : Memory → ℕ → List Part → Type 0
 HandedIn m n [] = Unit {0}
-HandedIn m n (p ∷ ps) = Call m (p .bytes) n (p .printed) (p .after) × HandedIn (p .after) (n + recordsIn (p .bytes)) ps
+HandedIn m n (p ∷ ps) = Call m (p .bytes) n (p .printed) (p .count) (p .after) × HandedIn (p .after) (n + p .count) ps
 
 -- a list of parts is cut between records: every part but the last is a multiple of sixteen bytes
 unfoldable pub CutBetweenRecords : List (List ℕ) → Type 0
@@ -53,15 +53,24 @@ StartsBlank =
     (slots : List Slot) (newest free queue lens merged : List ℕ)
     → ready (memory (freshHub 0 0 0 0) slots newest free queue lens merged) ≡ false
 
+-- the last part: what is kept at the end of the input, if there is any
+abbrev pub lastPart : List ℕ → List (List ℕ)
+lastPart [] = []
+lastPart (x ∷ kept) = (x ∷ kept) ∷ []
+
 -- The parts that it makes of what its reads bring (`to_log`, `keep_rest`): the whole records of what was kept and what comes are a part, and the
--- rest is kept. At the end of the input what is kept is the last part.
+-- rest is kept.
 unfoldable pub partsOf : List ℕ → List (List ℕ) → List (List ℕ)
-partsOf kept [] = kept ∷ []
+partsOf kept [] = lastPart kept
 partsOf kept (r ∷ rs) =
     let b = kept ++ r in
     take (wholeRecords (length b)) b ∷ partsOf (drop (wholeRecords (length b)) b) rs
 
--- Whatever the reads bring, the parts are cut between records, and together they are what was read.
-pub record AnyReads : Type 0 where
-  pub between : (rs : List (List ℕ)) → CutBetweenRecords (partsOf [] rs)
-  pub together : (rs : List (List ℕ)) → flatten (partsOf [] rs) ≡ flatten rs
+-- Whatever the reads bring, what was printed for these parts is, put together, the model's log of what was read.
+abbrev pub AnyReads : Type 0
+AnyReads =
+    (m : Memory) (ps : List Part) (rs : List (List ℕ))
+    → ready m ≡ false
+    → map (λ p. p .bytes) ps ≡ partsOf [] rs
+    → HandedIn m 0 ps
+    → flatten (map (λ p. p .printed) ps) ≡ logOf inForce (map slotOf (m .slots)) (flatten rs)

@@ -22,13 +22,12 @@ pub record Room (bytes text kinds numbers : List ℕ) : Type 0 where
   pub forNumbers : recordsIn bytes ≤ length numbers
 
 -- A call for a part on the memory m, with the number of its first record: any text and any two rows are lent with room for every record, the
--- memory m′ is left, and `printed` is the text that was written.
-pub record Call (m : Memory) (bytes : List ℕ) (first : ℕ) (printed : List ℕ) (m′ : Memory) : Type 0 where
+-- memory m′ is left, n records were applied, and `printed` is the text that was written.
+pub record Call (m : Memory) (bytes : List ℕ) (first : ℕ) (printed : List ℕ) (n : ℕ) (m′ : Memory) : Type 0 where
   pub text : List ℕ
   pub kinds : List ℕ
   pub numbers : List ℕ
   pub room : Room bytes text kinds numbers
-  pub n : ℕ
   pub used : ℕ
   pub text′ : List ℕ
   pub kinds′ : List ℕ
@@ -37,7 +36,9 @@ pub record Call (m : Memory) (bytes : List ℕ) (first : ℕ) (printed : List �
   pub prints : printed ≡ take used text′
 
 -- What the model makes of the records of a part, from its hub h on.
-pub record LoggedAs (h : Hub) (m : Memory) (bytes : List ℕ) (first : ℕ) (printed : List ℕ) (m′ : Memory) : Type 0 where
+pub record LoggedAs (h : Hub) (m : Memory) (bytes : List ℕ) (first : ℕ) (printed : List ℕ) (n : ℕ) (m′ : Memory) : Type 0 where
+  -- Every record is applied.
+  pub count : n ≡ recordsIn bytes
   -- The text has the line of each record, with the model's answer (H10.1 to H10.4).
   pub text : printed ≡ lines first (answersTo h (allUnder inForce (recordsOf bytes)))
   -- The memory is as the model leaves it,
@@ -47,7 +48,7 @@ pub record LoggedAs (h : Hub) (m : Memory) (bytes : List ℕ) (first : ℕ) (pri
 
 abbrev pub OnePart : Type 0
 OnePart =
-    (h : Hub) (m : Memory) (bytes : List ℕ) (first : ℕ) (printed : List ℕ) (m′ : Memory)
+    (h : Hub) (m : Memory) (bytes : List ℕ) (first : ℕ) (printed : List ℕ) (n : ℕ) (m′ : Memory)
     → Holds h m
-    → Call m bytes first printed m′
-    → LoggedAs h m bytes first printed m′
+    → Call m bytes first printed n m′
+    → LoggedAs h m bytes first printed n m′

@@ -73,8 +73,8 @@ unless-up true f = absurd (f refl)
 unless-up false f = refl
 
 -- it is the memory of a hub that is not set up, with the row that is lent
-not-ready : (m : Memory) → (ready m ≡ true → ⊥) → Decided m
-not-ready m f = (blank (map slotOf (m .slots)), (unless-up (ready m) f, refl))
+not-ready : (m : Memory) → (ready m ≡ true → ⊥) → ready m ≡ false
+not-ready m f = unless-up (ready m) f
 
 -- an exchange stands where it stands in the list
 module _ (l es fs : List Exchange) (x : Exchange) (e : l ≡ es ++ (x ∷ fs)) where
@@ -84,7 +84,7 @@ module _ (l es fs : List Exchange) (x : Exchange) (e : l ≡ es ++ (x ∷ fs)) w
   within : length es < length l
   within = omega (arith, ap length e, length-append es (x ∷ fs))
 
-from-setup : (m : Memory) (c : CallIn) → Called m c → (es fs : List Exchange) (b : List ℕ) → Accepts (exchanged c) es b fs → Decided m
+from-setup : (m : Memory) (c : CallIn) → Called m c → (es fs : List Exchange) (b : List ℕ) → Accepts (exchanged c) es b fs → ready m ≡ false
 from-setup m (ForRecord b₀ y m′) D es fs b S =
     let x : Exchange = record { bytes = b; answer = Ok } in
     let l : List Exchange = exchangeOf b₀ y ∷ [] in
@@ -152,7 +152,7 @@ first-setup : (m : Memory) (c : CallIn) (ds : List CallIn) → Calls m (c ∷ ds
     → CodeDemand3 (apply inForce (blank (map slotOf (m .slots))) b .hub) [] (fs ++ exchanges ds)
 unfolding Calls exchanges
 first-setup m c ds C es fs b S =
-    let D = from-setup m c (C .0) es fs b S in
+    let D : Decided m = (blank (map slotOf (m .slots)), (from-setup m c (C .0) es fs b S, refl)) in
     let x : Exchange = record { bytes = b; answer = Ok } in
     let whole : exchanges (c ∷ ds) ≡ es ++ (x ∷ (fs ++ exchanges ds)) =
     ap (λ (l : List Exchange). l ++ exchanges ds) (S .place) ∙ append-assoc es (x ∷ fs) (exchanges ds) in

@@ -2,7 +2,7 @@
 -- Demand 1 and, call by call, demand 2 are parts of the contracts of the public functions, `Does` and `Applies`; the rest is proved in
 -- proofs/Demands.antt from these contracts alone.
 use mathlib.Core.Path.{_≡_}
-use mathlib.Core.Bool.{true}
+use mathlib.Core.Bool.{true, false}
 use mathlib.Core.Logic.{_⊎_}
 use mathlib.Core.List.{List, [], _∷_, _++_, map}
 use Prim.Native.Nat.{ℕ, _%_, _≤_}
@@ -107,7 +107,7 @@ pub record Demands : Type 0 where
   -- Memory that records left counts as set up (H8.5).
   pub leftIsReady : (s : Store) (m : Memory) → Left s m → Sized m → ready m ≡ true
   -- Memory, whoever left it, on which a call accepts a setup did not count as set up.
-  pub fromSetup : (m : Memory) (c : CallIn) → Called m c → (es fs : List Exchange) (b : List ℕ) → Accepts (exchanged c) es b fs → Decided m
+  pub fromSetup : (m : Memory) (c : CallIn) → Called m c → (es fs : List Exchange) (b : List ℕ) → Accepts (exchanged c) es b fs → ready m ≡ false
   -- Demand 3, from any memory on: of a setup that was accepted at any record of any call, and of all records after it.
   pub demand3 : (m : Memory) (cs ds : List CallIn) (c : CallIn) → Calls m (cs ++ (c ∷ ds))
       → (es fs : List Exchange) (b : List ℕ) → Accepts (exchanged c) es b fs
