@@ -81,7 +81,8 @@ fn main() {
         turns -= 1;
         let got = input::fill(rec);
         let n = got.n;
-        if n == 0 {
+        // Where a read fails, what it has of a record is none.
+        if got.failed | (n == 0) {
             return;
         }
         if k == at as u64 {
