@@ -3,7 +3,7 @@
 use crate::answer::Answer;
 use crate::coverage::{Branch, Observer};
 use crate::fault::Fault;
-use crate::pool::{merge, Range, Split};
+use crate::pool::{merge, Finger, Range, Split};
 use crate::store::{Doing, Slot, Store, Worker};
 
 /// Where a flush begins: at (1), or at (2) with the third fault.
@@ -80,16 +80,21 @@ impl Store {
         let Worker { local, times, merged, .. } = &mut self.workers[w];
         let needed = &mut self.needed;
         needed.clear();
-        merged.retain(|range| {
-            let keep = needed_by::<F>(range, times);
-            if O::ON {
-                observe_range(range, times, seen);
-            }
-            if keep {
-                needed.push(*range);
-            }
-            !keep
-        });
+        if O::ON {
+            merged.iter().for_each(|range| observe_range(range, times, seen));
+        }
+        // Without a time nothing is needed.
+        if !times.is_empty() {
+            times.sort_unstable();
+            let mut finger = Finger::over(times);
+            merged.retain(|range| {
+                let keep = needed_by::<F>(range, &mut finger);
+                if keep {
+                    needed.push(*range);
+                }
+                !keep
+            });
+        }
         if O::ON {
             observe_split(local, needed, merged, self.batch, seen);
         }
@@ -164,13 +169,13 @@ impl Store {
 
 /// *Needed*, or what the first faults take for it.
 #[inline(always)]
-fn needed_by<F: Fault>(range: &Range, times: &[u32]) -> bool {
+fn needed_by<F: Fault>(&Range { low, high, .. }: &Range, finger: &mut Finger) -> bool {
     if F::NEWER_THAN_OLDEST {
-        times.iter().any(|&a| a < range.high)
+        finger.last_below(high).is_some()
     } else if F::HIGH_INSIDE {
-        times.iter().any(|&a| range.low <= a && a <= range.high)
+        finger.last_below(high.saturating_add(1)).is_some_and(|a| low <= a)
     } else {
-        range.needed(times)
+        finger.last_below(high).is_some_and(|a| low <= a)
     }
 }
 

@@ -1,4 +1,4 @@
-//! Ranges and pools: the batch size, the needed test, merging by high, splitting, the queue.
+//! Ranges and pools: the batch size, the needed test and its one pass, merging by high, splitting, the queue.
 
 use std::collections::VecDeque;
 
@@ -15,16 +15,40 @@ pub struct Range {
 
 impl Range {
     /// Document 01's *needed*, for one announced time: low ≤ a < high.
-    #[inline]
     pub const fn needed_at(&self, time: u32) -> bool {
         self.low <= time && time < self.high
     }
 
     /// Document 01's *needed*: some announced time has low ≤ a < high.
-    #[inline]
     pub fn needed(&self, times: &[u32]) -> bool {
-        // No early exit: a branch-free pass over at most sixteen times is quicker.
-        times.iter().fold(false, |any, &a| any | self.needed_at(a))
+        times.iter().any(|&a| self.needed_at(a))
+    }
+}
+
+/// Goes once over sorted times while limits rise, so that a list sorted by high needs one pass: of
+/// the times below a range's high, the last is the one that may be within the range.
+#[derive(Clone, Debug)]
+pub struct Finger<'a> {
+    below: Option<u32>,
+    rest: &'a [u32],
+}
+
+impl Finger<'_> {
+    /// Before all of these times, the lowest of which comes first.
+    pub fn over(times: &[u32]) -> Finger<'_> {
+        Finger { below: None, rest: times }
+    }
+
+    /// The last time below the limit, which is not below an earlier one.
+    #[inline]
+    pub fn last_below(&mut self, limit: u32) -> Option<u32> {
+        while let [time, rest @ ..] = self.rest {
+            if *time >= limit {
+                break;
+            }
+            (self.below, self.rest) = (Some(*time), rest);
+        }
+        self.below
     }
 }
 

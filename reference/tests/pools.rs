@@ -1,7 +1,7 @@
-//! Merging, splitting and the queue against their plain descriptions.
+//! Merging, one pass over times, splitting and the queue against their plain descriptions.
 
 use reference::generate::Random;
-use reference::pool::{merge, Queue, Range, Split, MAX_BATCH};
+use reference::pool::{merge, Finger, Queue, Range, Split, MAX_BATCH};
 use std::collections::VecDeque;
 
 fn sorted(random: &mut Random, most: u64) -> Vec<Range> {
@@ -28,6 +28,22 @@ fn merging_is_a_stable_sort() {
         let mut result = Vec::new();
         merge(&first, &second, |range| result.push(range));
         assert_eq!(result, merged(&first, &second));
+    }
+}
+
+#[test]
+fn one_pass_finds_what_is_needed() {
+    let mut random = Random::new(3);
+    for _ in 0..5000 {
+        let mut times: Vec<u32> = (0..random.below(17)).map(|_| random.below(20) as u32).collect();
+        times.sort_unstable();
+        let mut finger = Finger::over(&times);
+        for range in sorted(&mut random, 30) {
+            let low = random.between(0, u64::from(range.high)) as u32;
+            let last = finger.last_below(range.high);
+            assert_eq!(last, times.iter().copied().filter(|&a| a < range.high).max());
+            assert_eq!(last.is_some_and(|a| low <= a), Range { low, ..range }.needed(&times));
+        }
     }
 }
 
