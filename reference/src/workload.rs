@@ -5,6 +5,7 @@ use crate::generate::Random;
 use crate::hub::Hub;
 use crate::record::{Record, LENGTH};
 use crate::store::{Doing, Store, MAX_REGISTERS, MAX_SLOTS, MAX_WORKERS};
+use std::collections::VecDeque;
 use std::io::{self, Write};
 
 /// What a record file measures. Shares are of the answers, in percent.
@@ -32,10 +33,22 @@ pub enum Workload {
     /// The script of `Small` with another N in its setup. The slot given back last is taken first,
     /// so the same slots are in use and the log is the same for every N.
     Growth { slots: u16 },
+    /// Worker 0 puts on 64 registers without end and the others do nothing: no snapshot, and what
+    /// changes with P is the size of a flush. N 2048.
+    Plain { workers: u8 },
+    /// All workers put on 64 registers, each under a snapshot that it renews after fifty puts on
+    /// average. N 2048.
+    Some { workers: u8 },
+    /// All workers put on 256 registers without a snapshot, so a pool or two are queued. N 2048.
+    Empty { workers: u8 },
+    /// The same while each worker's first snapshot stays open: each of them needs a version of every
+    /// register, and they fill the queue: it has 250 pools with P 1, 310 with 2, 180 with 3 and 4.
+    /// With P 4 slots are short, and in the long run four of a hundred operations are collects.
+    Held { workers: u8 },
 }
 
 impl Workload {
-    pub const ALL: [Workload; 11] = [
+    pub const ALL: [Workload; 27] = [
         Workload::Small,
         Workload::Large,
         Workload::Puts,
@@ -47,6 +60,22 @@ impl Workload {
         Workload::Growth { slots: 256 },
         Workload::Growth { slots: 1024 },
         Workload::Growth { slots: MAX_SLOTS },
+        Workload::Plain { workers: 2 },
+        Workload::Plain { workers: 4 },
+        Workload::Plain { workers: 8 },
+        Workload::Plain { workers: 16 },
+        Workload::Some { workers: 2 },
+        Workload::Some { workers: 4 },
+        Workload::Some { workers: 8 },
+        Workload::Some { workers: 16 },
+        Workload::Empty { workers: 1 },
+        Workload::Held { workers: 1 },
+        Workload::Empty { workers: 2 },
+        Workload::Held { workers: 2 },
+        Workload::Empty { workers: 3 },
+        Workload::Held { workers: 3 },
+        Workload::Empty { workers: 4 },
+        Workload::Held { workers: 4 },
     ];
 
     pub fn name(self) -> String {
@@ -58,6 +87,10 @@ impl Workload {
             Workload::Collects => "collects".into(),
             Workload::Uniform => "uniform".into(),
             Workload::Growth { slots } => format!("growth-{slots}"),
+            Workload::Plain { workers } => format!("plain-{workers}"),
+            Workload::Some { workers } => format!("some-{workers}"),
+            Workload::Empty { workers } => format!("empty-{workers}"),
+            Workload::Held { workers } => format!("held-{workers}"),
         }
     }
 
@@ -83,22 +116,39 @@ impl Workload {
             }
             Workload::Reads => {
                 let read = Weights { open: 1, read: 200, close: 1, ..Weights::NONE };
-                let put = Weights { put: 1, ..Weights::NONE };
                 let roles = vec![
                     Role { workers: 4, turns: 9, weights: read },
-                    Role { workers: 12, turns: 1, weights: put },
+                    Role { workers: 12, turns: 1, weights: PUT },
                 ];
                 Shape { registers: 2, slots: MAX_SLOTS, roles }
             }
             Workload::Collects => {
                 let collect = Weights { collect: 1, ..Weights::NONE };
                 let hold = Weights { open: 1, read: 100, close: 1, ..Weights::NONE };
-                let put = Weights { put: 1, ..Weights::NONE };
                 let roles = vec![
                     Role { workers: 2, turns: 300, weights: collect },
                     Role { workers: 8, turns: 1, weights: hold },
-                    Role { workers: 6, turns: 3, weights: put },
+                    Role { workers: 6, turns: 3, weights: PUT },
                 ];
+                Shape { registers: MAX_REGISTERS, slots: MAX_SLOTS, roles }
+            }
+            Workload::Plain { workers } => {
+                let roles = vec![
+                    Role::alike(1, PUT),
+                    Role { workers: workers - 1, turns: 0, weights: Weights::NONE },
+                ];
+                Shape { registers: 64, slots: MAX_SLOTS, roles }
+            }
+            Workload::Some { workers } => {
+                let weights = Weights { put: 50, open: 50, close: 1, ..Weights::NONE };
+                Shape {
+                    registers: 64,
+                    slots: MAX_SLOTS,
+                    roles: vec![Role::alike(workers, weights)],
+                }
+            }
+            Workload::Empty { workers } | Workload::Held { workers } => {
+                let roles = vec![Role::alike(workers, PUT)];
                 Shape { registers: MAX_REGISTERS, slots: MAX_SLOTS, roles }
             }
         }
@@ -111,7 +161,14 @@ impl Workload {
         match self {
             Workload::Uniform => records.uniform = true,
             Workload::Growth { slots } => {
-                records.setup = Some(Shape { slots, ..shape }.setup());
+                records.ahead = [Shape { slots, ..shape }.setup()].into();
+            }
+            Workload::Empty { workers } => (0..workers).for_each(|w| records.put_everywhere(w)),
+            Workload::Held { workers } => {
+                for worker in 0..workers {
+                    records.whole(Record::Open { worker }, worker);
+                    records.put_everywhere(worker);
+                }
             }
             _ => {}
         }
@@ -139,6 +196,8 @@ pub struct Weights {
 impl Weights {
     pub const NONE: Weights = Weights { put: 0, open: 0, read: 0, close: 0, get: 0, collect: 0 };
 }
+
+const PUT: Weights = Weights { put: 1, ..Weights::NONE };
 
 const MIXED: Weights = Weights { put: 40, open: 10, read: 30, close: 3, get: 15, collect: 2 };
 
@@ -178,15 +237,15 @@ impl Shape {
     }
 }
 
-/// Records of one shape, without end: the setup, then each time a random worker begins an operation
+/// Records of one shape, without end: the setup and what else comes ahead, then each time a random worker begins an operation
 /// or takes a step.
 #[derive(Clone, Debug)]
 pub struct Records {
     random: Random,
-    /// The hub that the records so far leave.
+    /// The hub that the records so far leave, with those ahead.
     hub: Hub,
-    /// Written first.
-    setup: Option<Record>,
+    /// Written first: the setup and whole operations.
+    ahead: VecDeque<Record>,
     /// Only random bytes after the setup.
     uniform: bool,
     /// Each worker as often as its share of the turns.
@@ -207,8 +266,8 @@ impl Records {
                 weights.push(role.weights);
             }
         }
-        let (random, setup) = (Random::new(seed), Some(shape.setup()));
-        Records { random, hub, setup, uniform: false, turns, weights }
+        let (random, ahead) = (Random::new(seed), [shape.setup()].into());
+        Records { random, hub, ahead, uniform: false, turns, weights }
     }
 
     pub fn store(&self) -> &Store {
@@ -217,15 +276,11 @@ impl Records {
 
     /// The next record, which the hub has taken.
     pub fn next_record(&mut self) -> Record {
-        if let Some(setup) = self.setup.take() {
-            return setup;
+        if let Some(record) = self.ahead.pop_front() {
+            return record;
         }
         let worker = self.random.pick(&self.turns);
-        let record = if self.store().workers[usize::from(worker)].doing == Doing::Idle {
-            self.begin(worker)
-        } else {
-            Record::Step { worker }
-        };
+        let record = if self.idle(worker) { self.begin(worker) } else { Record::Step { worker } };
         self.hub.take_record(record);
         record
     }
@@ -233,6 +288,31 @@ impl Records {
     /// Puts a record of the caller's own between the others.
     pub fn insert(&mut self, record: Record) {
         self.hub.take_record(record);
+    }
+
+    /// Puts one of a worker's operations ahead, from its begin to its last step.
+    fn whole(&mut self, begin: Record, worker: u8) {
+        let mut record = begin;
+        loop {
+            self.hub.take_record(record);
+            self.ahead.push_back(record);
+            if self.idle(worker) {
+                return;
+            }
+            record = Record::Step { worker };
+        }
+    }
+
+    /// Puts a put on every register ahead.
+    fn put_everywhere(&mut self, worker: u8) {
+        for register in 0..self.store().newest.len() as u16 {
+            let value = self.random.between(1, 999_999);
+            self.whole(Record::Put { worker, register, value }, worker);
+        }
+    }
+
+    fn idle(&self, worker: u8) -> bool {
+        self.store().workers[usize::from(worker)].doing == Doing::Idle
     }
 
     /// The begin of an operation that the worker's state allows; a collect in place of a put that
@@ -268,7 +348,7 @@ impl Iterator for Records {
     type Item = [u8; LENGTH];
 
     fn next(&mut self) -> Option<[u8; LENGTH]> {
-        if self.uniform && self.setup.is_none() {
+        if self.uniform && self.ahead.is_empty() {
             let bits = (self.random.bits(), self.random.bits());
             return Some((u128::from(bits.0) << 64 | u128::from(bits.1)).to_le_bytes());
         }

@@ -18,22 +18,31 @@ fn file(workload: Workload, seed: u64, count: usize) -> Vec<u8> {
     file
 }
 
+/// Long enough for the workloads of growth, which are settled sooner.
+const SHORTER: usize = 100_000;
+
 /// What a run over a workload's records met.
 struct Met {
+    records: usize,
     coverage: Coverage,
     /// By operation number.
     begun: [u64; 8],
     /// On average where a flush takes its pools.
     pools_queued: f64,
     ranges_taken: f64,
+    snapshots: f64,
 }
 
 impl Met {
     fn of(workload: Workload) -> Met {
+        Met::over(workload, COUNT)
+    }
+
+    fn over(workload: Workload, records: usize) -> Met {
         let mut hub = Hub::<Right, Coverage>::with_row(usize::from(MAX_SLOTS));
         let mut begun = [0; 8];
-        let (mut takes, mut pools, mut ranges) = (0, 0, 0);
-        for bytes in workload.records(1).take(COUNT) {
+        let (mut takes, mut pools, mut ranges, mut snapshots) = (0, 0, 0, 0);
+        for bytes in workload.records(1).take(records) {
             begun[usize::from(bytes[0])] += 1;
             if let (Some(store), Ok(Record::Step { worker })) =
                 (hub.store(), Record::decode(&bytes))
@@ -42,6 +51,7 @@ impl Met {
                     takes += 1;
                     pools += store.queue.len();
                     ranges += store.queue.pools().take(2).map(<[_]>::len).sum::<usize>();
+                    snapshots += store.workers.iter().filter(|w| w.announced.is_some()).count();
                 }
             }
             let answer = hub.take(&bytes);
@@ -49,7 +59,14 @@ impl Met {
         }
         assert_eq!(hub.observer.refusals, [0; 16], "{workload:?} has no refused record");
         let mean = |sum| sum as f64 / takes as f64;
-        Met { coverage: hub.observer, begun, pools_queued: mean(pools), ranges_taken: mean(ranges) }
+        Met {
+            records,
+            coverage: hub.observer,
+            begun,
+            pools_queued: mean(pools),
+            ranges_taken: mean(ranges),
+            snapshots: mean(snapshots),
+        }
     }
 
     fn branch(&self, branch: Branch) -> f64 {
@@ -63,7 +80,7 @@ impl Met {
 
     /// The share of an answer: ok, going, freed, at, value, done.
     fn answer(&self, kind: usize) -> f64 {
-        self.coverage.answers[kind] as f64 / COUNT as f64
+        self.coverage.answers[kind] as f64 / self.records as f64
     }
 }
 
@@ -162,5 +179,46 @@ fn growth_differs_only_in_the_setup() {
         assert_eq!(growth[..LENGTH], setup.encode());
         assert!(growth[LENGTH..] == small[LENGTH..]);
         assert!(log::answers(&mut Hub::new(), &growth) == answers);
+    }
+}
+
+#[test]
+fn plain_is_one_worker_without_a_snapshot() {
+    for workers in [2, 4, 8, 16] {
+        let met = Met::over(Workload::Plain { workers }, SHORTER);
+        assert_eq!(met.share(PUT), 1.0, "{:?}", met.begun);
+        assert_eq!(met.snapshots, 0.0);
+        assert!(met.pools_queued <= 1.0, "{workers}: {}", met.pools_queued);
+        let file = file(Workload::Plain { workers }, 1, 1_000);
+        assert!(file.chunks(LENGTH).skip(1).all(|bytes| bytes[1] == 0));
+    }
+}
+
+#[test]
+fn some_has_renewed_snapshots_of_all_workers() {
+    for workers in [2, 4, 8, 16] {
+        let met = Met::over(Workload::Some { workers }, SHORTER);
+        assert!(met.share(PUT) > 0.95, "{:?}", met.begun);
+        assert_eq!(met.begun[COLLECT], 0, "there is a slot for every put");
+        assert!(met.snapshots > 0.9 * f64::from(workers), "{workers}: {}", met.snapshots);
+        assert!(met.branch(Branch::Close) > 250.0, "{workers}: {}", met.branch(Branch::Close));
+    }
+}
+
+#[test]
+fn held_fills_the_queue_that_is_empty_without_snapshots() {
+    for (workers, least) in [(1, 240.0), (2, 280.0), (3, 170.0), (4, 170.0)] {
+        let empty = Met::over(Workload::Empty { workers }, SHORTER);
+        let held = Met::over(Workload::Held { workers }, SHORTER);
+        assert_eq!((empty.snapshots, empty.share(PUT)), (0.0, 1.0));
+        assert!(empty.pools_queued < 3.0, "{workers}: {}", empty.pools_queued);
+        assert!(held.snapshots > 0.9 * f64::from(workers), "{workers}: {}", held.snapshots);
+        assert!(held.share(COLLECT) < if workers < 4 { 1e-9 } else { 0.05 }, "{:?}", held.begun);
+        assert!(held.pools_queued > least, "{workers}: {}", held.pools_queued);
+        // All else is alike: what each answers, to within two in a hundred records.
+        for kind in 0..6 {
+            let (empty, held) = (empty.answer(kind), held.answer(kind));
+            assert!((empty - held).abs() < 0.02, "{workers}, {kind}: {empty}, {held}");
+        }
     }
 }
