@@ -47,6 +47,19 @@ pub enum Workload {
     Held { workers: u8 },
 }
 
+/// What a workload is measured for.
+#[derive(Clone, Copy, Debug, PartialEq, Eq)]
+pub enum Topic {
+    /// The time a record.
+    Speed,
+    /// Its growth with N.
+    Slots,
+    /// Its growth with P.
+    Workers,
+    /// Its growth with the queue.
+    Queue,
+}
+
 impl Workload {
     pub const ALL: [Workload; 27] = [
         Workload::Small,
@@ -92,6 +105,26 @@ impl Workload {
             Workload::Empty { workers } => format!("empty-{workers}"),
             Workload::Held { workers } => format!("held-{workers}"),
         }
+    }
+
+    pub fn topic(self) -> Topic {
+        match self {
+            Workload::Growth { .. } => Topic::Slots,
+            Workload::Plain { .. } | Workload::Some { .. } => Topic::Workers,
+            Workload::Empty { .. } | Workload::Held { .. } => Topic::Queue,
+            _ => Topic::Speed,
+        }
+    }
+
+    /// Is it the one that those after it in `ALL` have grown from?
+    pub fn begins_series(self) -> bool {
+        matches!(
+            self,
+            Workload::Growth { slots: 16 }
+                | Workload::Plain { workers: 2 }
+                | Workload::Some { workers: 2 }
+                | Workload::Empty { .. }
+        )
     }
 
     /// The workload with this name.

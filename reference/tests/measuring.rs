@@ -39,9 +39,15 @@ fn bench_prints_its_tables() {
     let output = run(BENCH, &[&[HUBLOG, HUBLOG, files.to_str().unwrap()], &options[..]].concat());
     assert!(output.status.success(), "{}", text(&output.stderr));
     let printed = text(&output.stdout);
-    for line in
-        ["small (P 2, V 4, N 16)", "uniform (P 16, V 256, N 2048)", "growth-2048", "collects"]
-    {
+    for line in [
+        "small (P 2, V 4, N 16)",
+        "uniform (P 16, V 256, N 2048)",
+        "growth-2048",
+        "plain-16",
+        "some-16",
+        "held-4",
+        "collects",
+    ] {
         assert!(printed.contains(&format!("\n| {line} ")), "no {line} in\n{printed}");
     }
     assert!(printed.contains("5000 records a file, seed 1, 2 rounds."), "{printed}");

@@ -2,20 +2,35 @@
 //! First the logs of both are compared on every file; where they differ, the run fails.
 
 mod compare;
+mod measured;
 mod process;
+mod tables;
 
-use compare::{compare, Logs, WORDS};
-use process::Times;
-use reference::table::Table;
-use reference::workload::{Shape, Workload};
+use compare::compare;
+use measured::Measured;
+use reference::workload::{Topic, Workload};
 use std::fs::{self, File};
-use std::io::{self, BufWriter};
+use std::io::{self, BufWriter, Write};
 use std::path::PathBuf;
 use std::process::ExitCode;
-use std::time::Duration;
 
 const USAGE: &str = "usage: bench HUBLOG SECOND DIRECTORY [--records N] [--rounds N] [--seed N]
 HUBLOG and SECOND are the two programs, DIRECTORY is where the record files go";
+
+/// The tables of growth, each with a sentence. Growth is that of the bests.
+const GROWTH: [(Topic, &str); 3] = [
+    (Topic::Slots, "Growth with N: the same script (P 2, V 4) at each N."),
+    (
+        Topic::Workers,
+        "Growth with P (V 64, N 2048): plain is one worker that puts without a snapshot, some is all
+workers that put under snapshots, renewed now and then.",
+    ),
+    (
+        Topic::Queue,
+        "Growth with the queue (V 256, N 2048): all of 1 to 4 workers put; empty is without a snapshot,
+held with a snapshot of each worker that stays open. Growth is from empty to held.",
+    ),
+];
 
 struct Options {
     /// `hublog` and the second program.
@@ -52,14 +67,23 @@ impl Options {
     fn prepare(&self, workload: Workload) -> Result<Measured, String> {
         let file = self.file(workload);
         eprintln!("comparing the logs of {}", file.display());
-        let write = || -> io::Result<()> {
-            fs::create_dir_all(&self.directory)?;
-            let mut output = BufWriter::with_capacity(1 << 16, File::create(&file)?);
-            workload.write(self.seed, self.records, &mut output)
-        };
-        write().map_err(|error| format!("{}: {error}", file.display()))?;
+        let pools = self.write(workload).map_err(|error| format!("{}: {error}", file.display()))?;
         let logs = compare(&self.programs, &file, self.records)?;
-        Ok(Measured { workload, logs, times: [Vec::new(), Vec::new()] })
+        Ok(Measured { workload, pools, logs, times: [Vec::new(), Vec::new()] })
+    }
+
+    /// Writes a workload's file; how many pools are queued, on average?
+    fn write(&self, workload: Workload) -> io::Result<f64> {
+        fs::create_dir_all(&self.directory)?;
+        let mut output = BufWriter::with_capacity(1 << 16, File::create(self.file(workload))?);
+        let mut records = workload.records(self.seed);
+        let mut pools = 0;
+        for _ in 0..self.records {
+            output.write_all(&records.next().expect("without end"))?;
+            pools += records.store().queue.len();
+        }
+        output.flush()?;
+        Ok(pools as f64 / self.records as f64)
     }
 
     /// Runs both programs once on every file.
@@ -74,134 +98,6 @@ impl Options {
         }
         Ok(())
     }
-}
-
-/// What is found out about a workload.
-struct Measured {
-    workload: Workload,
-    logs: Logs,
-    /// Of `hublog` and of the second program, by round.
-    times: [Vec<Times>; 2],
-}
-
-impl Measured {
-    fn figures(&self, records: usize) -> [Figures; 2] {
-        [0, 1].map(|program| Figures::of(&self.times[program], records))
-    }
-}
-
-/// The times of one program on one file, in ns a record.
-struct Figures {
-    best: f64,
-    median: f64,
-    /// The median of user and system time.
-    processor: f64,
-}
-
-impl Figures {
-    fn of(times: &[Times], records: usize) -> Figures {
-        let sorted = |time: fn(&Times) -> Duration| {
-            let each = times.iter().map(|times| time(times).as_nanos() as f64 / records as f64);
-            let mut each: Vec<f64> = each.collect();
-            each.sort_by(f64::total_cmp);
-            each
-        };
-        let median = |sorted: &[f64]| {
-            let last = sorted.len() - 1;
-            (sorted[last / 2] + sorted[last.div_ceil(2)]) / 2.0
-        };
-        let wall = sorted(|times| times.wall);
-        let processor = sorted(|times| times.processor);
-        Figures { best: wall[0], median: median(&wall), processor: median(&processor) }
-    }
-}
-
-fn ns(time: f64) -> String {
-    format!("{time:.1}")
-}
-
-fn ratio(numerator: f64, denominator: f64) -> String {
-    format!("{:.2}", numerator / denominator)
-}
-
-fn speed(measured: &[Measured], records: usize) -> Table {
-    let mut table = Table::new(&[
-        "File",
-        "hublog best",
-        "hublog median",
-        "second best",
-        "second median",
-        "ratio of bests",
-        "ratio of medians",
-        "hublog cpu",
-        "second cpu",
-    ]);
-    for measured in measured {
-        let [hublog, second] = measured.figures(records);
-        let shape = measured.workload.shape();
-        let Shape { registers, slots, .. } = shape;
-        let name = measured.workload.name();
-        table.row(vec![
-            format!("{name} (P {}, V {registers}, N {slots})", shape.workers()),
-            ns(hublog.best),
-            ns(hublog.median),
-            ns(second.best),
-            ns(second.median),
-            ratio(hublog.best, second.best),
-            ratio(hublog.median, second.median),
-            ns(hublog.processor),
-            ns(second.processor),
-        ]);
-    }
-    table
-}
-
-/// The times at each N, and the ratio of the bests to those at the first.
-fn growth(measured: &[Measured], records: usize) -> Table {
-    let mut table = Table::new(&[
-        "File",
-        "hublog best",
-        "hublog median",
-        "second best",
-        "second median",
-        "hublog grows by",
-        "second grows by",
-    ]);
-    let [hublog_first, second_first] = measured[0].figures(records);
-    for measured in measured {
-        let [hublog, second] = measured.figures(records);
-        table.row(vec![
-            measured.workload.name(),
-            ns(hublog.best),
-            ns(hublog.median),
-            ns(second.best),
-            ns(second.median),
-            ratio(hublog.best, hublog_first.best),
-            ratio(second.best, second_first.best),
-        ]);
-    }
-    table
-}
-
-/// The shares of the answers, in percent.
-fn answers(measured: &[Measured]) -> Table {
-    let mut table = Table::new(&[&["File"][..], &WORDS].concat());
-    for Measured { workload, logs, .. } in measured {
-        let total = logs.counts.iter().sum::<u64>() as f64;
-        let share = |count| format!("{:.1}", 100.0 * count as f64 / total);
-        table.row([vec![workload.name()], logs.counts.map(share).to_vec()].concat());
-    }
-    table
-}
-
-/// The peak memory of both programs.
-fn memory(measured: &[Measured]) -> Table {
-    let mut table = Table::new(&["File", "hublog", "second"]);
-    for Measured { workload, logs, .. } in measured {
-        let peaks = logs.peaks.map(|peak| peak.to_string());
-        table.row([vec![workload.name()], peaks.to_vec()].concat());
-    }
-    table
 }
 
 /// The processor, the number of cores and the memory, as Linux tells them.
@@ -224,17 +120,21 @@ fn run(options: &Options) -> Result<(), String> {
     for round in 0..options.rounds {
         options.round(round, &mut all)?;
     }
-    let (grown, files): (Vec<_>, Vec<_>) =
-        all.into_iter().partition(|measured| matches!(measured.workload, Workload::Growth { .. }));
+    let of = |topic| -> Vec<&Measured> {
+        all.iter().filter(|measured| measured.workload.topic() == topic).collect()
+    };
+    let files = of(Topic::Speed);
+    let growth = |topic| tables::growth(&of(topic), options.records);
     let &Options { records, rounds, seed, .. } = options;
     println!("{}; {records} records a file, seed {seed}, {rounds} rounds.", machine());
     println!("The logs of both programs are equal on every file.\n");
     println!("Time in ns a record, wall clock; cpu is the median of user and system time.\n");
-    println!("{}", speed(&files, records));
-    println!("Growth with N: the same script (P 2, V 4) at each N; growth is that of the best.\n");
-    println!("{}", growth(&grown, records));
-    println!("Peak memory in KiB.\n\n{}", memory(&files));
-    println!("Answers in each file, percent.\n\n{}", answers(&files));
+    println!("{}", tables::speed(&files, records));
+    for (topic, title) in GROWTH {
+        println!("{title}\n\n{}", growth(topic));
+    }
+    println!("Peak memory in KiB.\n\n{}", tables::memory(&files));
+    println!("Answers in each file, percent.\n\n{}", tables::answers(&files));
     Ok(())
 }
 
