@@ -1,7 +1,8 @@
 //! The programs that measure, as one runs them. What they print is looked at, no time is.
 
+use reference::workload::Workload;
 use std::fs;
-use std::path::PathBuf;
+use std::path::{Path, PathBuf};
 use std::process::{Command, Output};
 
 const HUBLOG: &str = env!("CARGO_BIN_EXE_reference-hublog");
@@ -64,6 +65,38 @@ fn bench_fails_where_the_logs_differ() {
     assert_eq!(output.stdout, b"");
     assert_eq!(run(BENCH, &[HUBLOG, HUBLOG]).status.code(), Some(1));
     assert_eq!(run(BENCH, &[HUBLOG, HUBLOG, "x", "--rounds", "0"]).status.code(), Some(1));
+}
+
+/// A stand-in for valgrind, which need not be installed and would take long.
+fn valgrind(directory: &Path, script: &str) {
+    use std::os::unix::fs::PermissionsExt;
+    fs::create_dir_all(directory).unwrap();
+    let program = directory.join("valgrind");
+    fs::write(&program, format!("#!/bin/sh\n{script}\n")).unwrap();
+    fs::set_permissions(program, fs::Permissions::from_mode(0o755)).unwrap();
+}
+
+#[test]
+fn bench_counts_instructions() {
+    let files = directory("bench-instructions");
+    let programs = directory("bench-valgrind");
+    let count = || {
+        let options = ["--records", "1000", "--instructions"];
+        let paths = [HUBLOG, HUBLOG, files.to_str().unwrap()];
+        let arguments = [&paths[..], &options[..]].concat();
+        Command::new(BENCH).args(arguments).env("PATH", &programs).output().unwrap()
+    };
+    valgrind(&programs, "echo '==7== Collected : 250000' >&2");
+    let output = count();
+    assert!(output.status.success(), "{}", text(&output.stderr));
+    let printed = text(&output.stdout);
+    let counted = |line: &&str| line.contains(" 250 ") && line.contains(" 1.00 ");
+    let lines = printed.lines().filter(counted).count();
+    assert_eq!(lines, Workload::ALL.len(), "{printed}");
+    valgrind(&programs, "exit 1");
+    assert!(text(&count().stderr).contains("valgrind fails on"));
+    fs::remove_file(programs.join("valgrind")).unwrap();
+    assert_eq!(count().status.code(), Some(1));
 }
 
 #[test]

@@ -2,6 +2,7 @@
 //! First the logs of both are compared on every file; where they differ, the run fails.
 
 mod compare;
+mod instructions;
 mod measured;
 mod process;
 mod tables;
@@ -14,8 +15,10 @@ use std::io::{self, BufWriter, Write};
 use std::path::PathBuf;
 use std::process::ExitCode;
 
-const USAGE: &str = "usage: bench HUBLOG SECOND DIRECTORY [--records N] [--rounds N] [--seed N]
-HUBLOG and SECOND are the two programs, DIRECTORY is where the record files go";
+const USAGE: &str =
+    "usage: bench HUBLOG SECOND DIRECTORY [--records N] [--rounds N] [--seed N] [--instructions]
+HUBLOG and SECOND are the two programs, DIRECTORY is where the record files go;
+with --instructions callgrind counts, and nothing is timed";
 
 /// The tables of growth, each with a sentence. Growth is that of the bests.
 const GROWTH: [(Topic, &str); 3] = [
@@ -39,24 +42,29 @@ struct Options {
     records: usize,
     rounds: usize,
     seed: u64,
+    /// Count instructions and time nothing.
+    instructions: bool,
 }
 
 impl Options {
     fn parse(mut arguments: impl Iterator<Item = String>) -> Option<Options> {
         let mut paths = Vec::new();
-        let (mut records, mut rounds, mut seed) = (10_000_000, 5, 1);
+        let (mut records, mut rounds, mut seed, mut instructions) = (None, 5, 1, false);
         while let Some(argument) = arguments.next() {
             let mut number = || arguments.next()?.parse().ok();
             match argument.as_str() {
-                "--records" => records = number().filter(|&n| n > 0)?,
+                "--records" => records = Some(number().filter(|&n| n > 0)?),
                 "--rounds" => rounds = number().filter(|&n| n > 0)?,
                 "--seed" => seed = number()? as u64,
+                "--instructions" => instructions = true,
                 option if option.starts_with("--") => return None,
                 _ => paths.push(PathBuf::from(argument)),
             }
         }
         let [hublog, second, directory] = paths.try_into().ok()?;
-        Some(Options { programs: [hublog, second], directory, records, rounds, seed })
+        let records = records.unwrap_or(if instructions { 100_000 } else { 10_000_000 });
+        let programs = [hublog, second];
+        Some(Options { programs, directory, records, rounds, seed, instructions })
     }
 
     fn file(&self, workload: Workload) -> PathBuf {
@@ -69,7 +77,13 @@ impl Options {
         eprintln!("comparing the logs of {}", file.display());
         let pools = self.write(workload).map_err(|error| format!("{}: {error}", file.display()))?;
         let logs = compare(&self.programs, &file, self.records)?;
-        Ok(Measured { workload, pools, logs, times: [Vec::new(), Vec::new()] })
+        Ok(Measured {
+            workload,
+            pools,
+            logs,
+            times: [Vec::new(), Vec::new()],
+            instructions: [0; 2],
+        })
     }
 
     /// Writes a workload's file; how many pools are queued, on average?
@@ -98,6 +112,18 @@ impl Options {
         }
         Ok(())
     }
+
+    /// Counts the instructions of both programs on every file.
+    fn count(&self, all: &mut [Measured]) -> Result<(), String> {
+        for Measured { workload, instructions, .. } in all {
+            let file = self.file(*workload);
+            eprintln!("counting on {}", file.display());
+            for (program, count) in self.programs.iter().zip(instructions) {
+                *count = instructions::count(program, &file)?;
+            }
+        }
+        Ok(())
+    }
 }
 
 /// The processor, the number of cores and the memory, as Linux tells them.
@@ -114,27 +140,45 @@ fn machine() -> String {
     format!("{processor}, {cores} cores, {:.0} GiB", kib / 1024.0 / 1024.0)
 }
 
-fn run(options: &Options) -> Result<(), String> {
-    let prepared = Workload::ALL.into_iter().map(|workload| options.prepare(workload));
-    let mut all = prepared.collect::<Result<Vec<_>, _>>()?;
-    for round in 0..options.rounds {
-        options.round(round, &mut all)?;
-    }
-    let of = |topic| -> Vec<&Measured> {
-        all.iter().filter(|measured| measured.workload.topic() == topic).collect()
-    };
-    let files = of(Topic::Speed);
-    let growth = |topic| tables::growth(&of(topic), options.records);
-    let &Options { records, rounds, seed, .. } = options;
+/// Those of a topic.
+fn of(all: &[Measured], topic: Topic) -> Vec<&Measured> {
+    all.iter().filter(|measured| measured.workload.topic() == topic).collect()
+}
+
+fn print_times(all: &[Measured], &Options { records, rounds, seed, .. }: &Options) {
     println!("{}; {records} records a file, seed {seed}, {rounds} rounds.", machine());
     println!("The logs of both programs are equal on every file.\n");
     println!("Time in ns a record, wall clock; cpu is the median of user and system time.\n");
+    let files = of(all, Topic::Speed);
     println!("{}", tables::speed(&files, records));
     for (topic, title) in GROWTH {
-        println!("{title}\n\n{}", growth(topic));
+        println!("{title}\n\n{}", tables::growth(&of(all, topic), records));
     }
     println!("Peak memory in KiB.\n\n{}", tables::memory(&files));
     println!("Answers in each file, percent.\n\n{}", tables::answers(&files));
+}
+
+fn print_instructions(all: &[Measured], &Options { records, seed, .. }: &Options) {
+    println!("Instructions a record, by callgrind; {records} records a file, seed {seed}.");
+    println!("The logs of both programs are equal on every file.\n");
+    println!("{}", tables::instructions(&of(all, Topic::Speed), records));
+    for (topic, title) in GROWTH {
+        println!("{title}\n\n{}", tables::instructions(&of(all, topic), records));
+    }
+}
+
+fn run(options: &Options) -> Result<(), String> {
+    let prepared = Workload::ALL.into_iter().map(|workload| options.prepare(workload));
+    let mut all = prepared.collect::<Result<Vec<_>, _>>()?;
+    if options.instructions {
+        options.count(&mut all)?;
+        print_instructions(&all, options);
+        return Ok(());
+    }
+    for round in 0..options.rounds {
+        options.round(round, &mut all)?;
+    }
+    print_times(&all, options);
     Ok(())
 }
 

@@ -13,6 +13,8 @@ pub struct Measured {
     pub logs: Logs,
     /// Of `hublog` and of the second program, by round.
     pub times: [Vec<Times>; 2],
+    /// Of both, where they are counted.
+    pub instructions: [u64; 2],
 }
 
 impl Measured {

@@ -1,4 +1,4 @@
-//! The tables of docs/PERFORMANCE.md that come of times and logs.
+//! The tables of docs/PERFORMANCE.md that come of times, counts and logs.
 
 use crate::compare::WORDS;
 use crate::measured::Measured;
@@ -74,6 +74,35 @@ pub fn growth(measured: &[&Measured], records: usize) -> Table {
             ratio(hublog.best, first[0]),
             ratio(second.best, first[1]),
         ]);
+    }
+    table
+}
+
+/// The instructions a record of both programs, their ratio, and the growth where there is a series.
+pub fn instructions(measured: &[&Measured], records: usize) -> Table {
+    let titles =
+        ["File", "pools queued", "hublog", "second", "ratio", "hublog grows by", "second grows by"];
+    // Without a series there is no growth.
+    let series = measured.iter().any(|measured| measured.workload.begins_series());
+    let columns = if series { 7 } else { 5 };
+    let mut table = Table::new(&titles[..columns]);
+    let mut first = [1.0, 1.0];
+    for measured in measured {
+        let [hublog, second] = measured.instructions.map(|count| count as f64 / records as f64);
+        if measured.workload.begins_series() {
+            first = [hublog, second];
+        }
+        let mut row = vec![
+            measured.workload.name(),
+            format!("{:.0}", measured.pools),
+            format!("{hublog:.0}"),
+            format!("{second:.0}"),
+            ratio(hublog, second),
+            ratio(hublog, first[0]),
+            ratio(second, first[1]),
+        ];
+        row.truncate(columns);
+        table.row(row);
     }
     table
 }

@@ -1,0 +1,23 @@
+//! Instructions as callgrind counts them, where valgrind is installed.
+
+use std::fs::File;
+use std::path::Path;
+use std::process::{Command, Stdio};
+
+/// How many instructions a program takes on a file.
+pub fn count(program: &Path, file: &Path) -> Result<u64, String> {
+    let input = File::open(file).map_err(|error| format!("{}: {error}", file.display()))?;
+    let output = Command::new("valgrind")
+        .args(["--tool=callgrind", "--callgrind-out-file=/dev/null"])
+        .arg(program)
+        .stdin(input)
+        .stdout(Stdio::null())
+        .output()
+        .map_err(|error| format!("valgrind: {error}"))?;
+    let told = String::from_utf8_lossy(&output.stderr);
+    let collected = told.lines().find_map(|line| line.split_once("Collected : "));
+    match collected.and_then(|(_, number)| number.trim().parse().ok()) {
+        Some(number) if output.status.success() => Ok(number),
+        _ => Err(format!("valgrind fails on {} with {}", program.display(), file.display())),
+    }
+}
