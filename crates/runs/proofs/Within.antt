@@ -1,10 +1,11 @@
--- A part of a row of words is the same part of the slots, so that what the loop does to a part it does to those slots.
+-- A part of a row of words is the same part of the slots, so that what the loop does to a part it does to those slots. The rest
+-- of the row is as it was.
 use mathlib.Core.Path.{_≡_, refl, sym, ap, subst, _∙_}
 use mathlib.Core.List.{List, [], _∷_, _++_}
 use Prim.Native.Nat.{ℕ, zero, suc, _≤_, _-_}
 use native.Mathlib.Nat.{sub-zero}
-use lib.ListN.{length, take}
-use lib.Seq.{length-take-le, take-at}
+use lib.ListN.{length, take, drop}
+use lib.Seq.{length-take-le, take-at, drop-at}
 use Rattle.values.specs.declared.Answer.{Answer}
 use Rattle.state.specs.declared.Hub.{Hub}
 use Rattle.slots.specs.declared.Slot.{Slot}
@@ -20,6 +21,15 @@ row-take (suc n) (w ∷ row) = ap (λ (z : List Slot). slotIn w ∷ z) (row-take
 row-front : (n : ℕ) (part rest : List (List ℕ)) → length part ≡ n → rowOf part ≡ take n (rowOf (part ++ rest))
 row-front n part rest e = ap rowOf (sym (take-at part rest n e)) ∙ row-take n (part ++ rest)
 
+-- a part of the length of the first n words is n words long, and what stands behind it is the rest of the row
+part-long : (n : ℕ) (row part : List (List ℕ)) → n ≤ length row → length part ≡ length (take (n - 0) row) → length part ≡ n
+part-long n row part within same = same ∙ ap (λ (k : ℕ). length (take k row)) (sub-zero n) ∙ length-take-le n row within
+
+pub rest-kept : (n : ℕ) (row part : List (List ℕ)) → n ≤ length row → length part ≡ length (take (n - 0) row)
+    → drop n (part ++ drop (n - 0) row) ≡ drop n row
+rest-kept n row part within same =
+    drop-at part (drop (n - 0) row) n (part-long n row part within same) ∙ ap (λ (k : ℕ). drop k row) (sub-zero n)
+
 -- ---- what the loop does to the slots of the first n words, said of the first n slots of the words
 module _ {h h′ : Hub} {newest free queue lens merged newest′ free′ queue′ lens′ merged′ bytes kinds numbers kinds′ numbers′ : List ℕ} {count : ℕ}
     {y : Answer} where
@@ -29,9 +39,8 @@ module _ {h h′ : Hub} {newest free queue lens merged newest′ free′ queue�
       → Ran (memory h (take n (rowOf row)) newest free queue lens merged) bytes kinds numbers count
       (memory h′ (take n (rowOf (part ++ rest))) newest′ free′ queue′ lens′ merged′) kinds′ numbers′ y
   ran-within n row part rest within same r =
-      let e : length part ≡ n = same ∙ ap (λ (k : ℕ). length (take k row)) (sub-zero n) ∙ length-take-le n row within in
       subst (λ (l : List Slot). Ran (memory h l newest free queue lens merged) bytes kinds numbers count
       (memory h′ (take n (rowOf (part ++ rest))) newest′ free′ queue′ lens′ merged′) kinds′ numbers′ y)
       (ap (λ (k : ℕ). rowOf (take k row)) (sub-zero n) ∙ row-take n row)
       (subst (λ (l : List Slot). Ran (memory h (rowOf (take (n - 0) row)) newest free queue lens merged) bytes kinds numbers count
-      (memory h′ l newest′ free′ queue′ lens′ merged′) kinds′ numbers′ y) (row-front n part rest e) r)
+      (memory h′ l newest′ free′ queue′ lens′ merged′) kinds′ numbers′ y) (row-front n part rest (part-long n row part within same)) r)

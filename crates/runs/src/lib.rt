@@ -1,7 +1,7 @@
 // The loop over the records (crate `core`) run on the first n slots of a row of words: for one record, and for as many as there is room for.
 ghost use mathlib.Core.Path.{_≡_};
 ghost use Prim.Native.Nat.{_+_, _/_, _≤_, min};
-ghost use lib.ListN.{length, take};
+ghost use lib.ListN.{length, take, drop};
 ghost use Rattle.versions.specs.Versions.{rowOf};
 ghost use Rattle.simulation.specs.Loop.{RanAll};
 ghost use Rattle.runs.specs.Runs.{One};
@@ -36,7 +36,7 @@ pub struct Applied {
     pub answer: Answer,
 }
 
-// One record on the first n slots of the words.
+// One record on the first n slots of the words. The words after them keep their contents.
 pub fn run_one(
     row: &mut [[u64; 5]],
     n: usize,
@@ -50,7 +50,8 @@ pub fn run_one(
 ) -> Applied
     requires { ⌜ n ≤ length (now row) ⌝ }
     ensures { λ r. ⌜
-        One
+        (drop n (now (row .exit)) ≡ drop n (now (row .entry)))
+        × One
         (record {
           hub = hub;
           slots = take n (rowOf (now (row .entry)));
@@ -101,7 +102,8 @@ pub struct Counted {
     pub count: usize,
 }
 
-// The records of the bytes, as many as there is room for answers, on the first n slots of the words.
+// The records of the bytes, as many as there is room for answers, on the first n slots of the words. The words after them keep
+// their contents.
 pub fn run_all(
     row: &mut [[u64; 5]],
     n: usize,
@@ -117,7 +119,8 @@ pub fn run_all(
 ) -> Counted
     requires { ⌜ n ≤ length (now row) ⌝ }
     ensures { λ r. ⌜
-        RanAll
+        (drop n (now (row .exit)) ≡ drop n (now (row .entry)))
+        × RanAll
         (record {
           hub = hub;
           slots = take n (rowOf (now (row .entry)));

@@ -1,9 +1,9 @@
 -- `run_all` meets its contract: the loop ran on the first n words, which are the first n slots of the row, for as many records as there are and as
--- there is room for.
+-- there is room for, and the rest of the row was not lent.
 use mathlib.Core.Path.{_∙_}
 use Prim.Native.Nat.{min}
 use borrow.Author.Needs.{needs}
-use Rattle.runs.proofs.Within.{ran-within}
+use Rattle.runs.proofs.Within.{ran-within, rest-kept}
 use Rattle.runs.proofs.run_all.Statement.{statement}
 use Rattle.runs.proofs.run_all.Tie as tie
 
@@ -41,14 +41,16 @@ returns : tie.Need-returns
 returns c =
     let p = c .before .before .before .before .before .before in
     let counts = p .before .before .before .before .before .before .before .before .before in
-    let start = counts .before .before .before .before .before .before in
-    record {
-      count =
-          counts .at-most2 .ensures .0
-          ∙ (λ j. min (counts .before .count-records .ensures j) (counts .before .before .at-most .ensures .0 j));
-      last = p .run .result .last;
-      ran = ran-within (start .args .n) (start .args .row .now) (p .run .last .0) _ (start .pre) (p .run .kept .0) (p .run .ensures);
-    }
+    let start = counts .before .before .before .before .before .before in (
+      rest-kept (start .args .n) (start .args .row .now) (p .run .last .0) (start .pre) (p .run .kept .0),
+      record {
+        count =
+            counts .at-most2 .ensures .0
+            ∙ (λ j. min (counts .before .count-records .ensures j) (counts .before .before .at-most .ensures .0 j));
+        last = p .run .result .last;
+        ran = ran-within (start .args .n) (start .args .row .now) (p .run .last .0) _ (start .pre) (p .run .kept .0) (p .run .ensures);
+      },
+    )
 
 pub run-all-spec : {M : Type 1} → statement M
 run-all-spec =

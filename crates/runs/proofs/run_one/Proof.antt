@@ -1,7 +1,8 @@
--- `run_one` meets its contract: the loop ran for one record on the first n words, which are the first n slots of the row.
+-- `run_one` meets its contract: the loop ran for one record on the first n words, which are the first n slots of the row, and the rest
+-- of the row was not lent.
 use borrow.Author.Needs.{needs}
 use Rattle.runs.proofs.First.{one-ran}
-use Rattle.runs.proofs.Within.{ran-within}
+use Rattle.runs.proofs.Within.{ran-within, rest-kept}
 use Rattle.runs.proofs.run_one.Statement.{statement}
 use Rattle.runs.proofs.run_one.Tie as tie
 
@@ -29,8 +30,10 @@ same-length c = search needs
 returns : tie.Need-returns
 returns c =
     let p = c .before .before .before .before in
-    let start = p .before .before .before .before .before .before .before .before .before .before in
-    one-ran (ran-within (start .args .n) (start .args .row .now) (p .run .last .0) _ (start .pre) (p .run .kept .0) (p .run .ensures))
+    let start = p .before .before .before .before .before .before .before .before .before .before in (
+      rest-kept (start .args .n) (start .args .row .now) (p .run .last .0) (start .pre) (p .run .kept .0),
+      one-ran (ran-within (start .args .n) (start .args .row .now) (p .run .last .0) _ (start .pre) (p .run .kept .0) (p .run .ensures)),
+    )
 
 pub run-one-spec : {M : Type 1} → statement M
 run-one-spec =
