@@ -77,7 +77,7 @@ wrapping-add-u64-requires c κs = search needs
 loop-less : tie.Need-loop-less Inv-loop μ-loop
 loop-less c =
     let t0 = c .before .before .before .before .before .before .before .before .before .before .before .before .before .before .before .before in
-    let t1 = t0 .before .before .before .before in
+    let t1 = t0 .before .before .before .before .before in
     omega (arith, t1 .loop-test .taken)
 
 loop-again : tie.Need-loop-again Inv-loop μ-loop
