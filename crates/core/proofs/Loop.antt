@@ -28,7 +28,7 @@ use Rattle.worker.proofs.Rep.{padded-nil}
 use Rattle.record.specs.declared.Decoded.{Decoded}
 use Rattle.record.specs.Meaning.{decodedOf}
 use Rattle.state.specs.declared.Hub.{Hub}
-use Rattle.state.specs.State.{freshHub, nobody, workerIn, atPlace, withWorkersIn, withClockIn, withFreeIn, withCounts}
+use Rattle.state.specs.State.{freshHub, nobody, workerIn, atPlace, withWorkersIn, withClockIn, withFreeIn, withWindowIn}
 use Rattle.arrays.specs.Arrays.{short, fillTo}
 use Rattle.versions.specs.Versions.{slotIn, rowOf}
 use Rattle.gate.specs.declared.Gate.{Gate}
@@ -329,7 +329,7 @@ module _ {S : State} {bytes : List ℕ} {count k : ℕ} {T : State} {r : Decoded
     -- flush (1)
     pub on-take : (a : Taking) (queue lens merged : List ℕ) (kinds numbers : List ℕ) (last : Answer) → s ≡ Take
         → (a .count ≡ length (taken (queueIn m)))
-        × ((poolsIn queue lens (a .counts) ≡ rest (queueIn m))
+        × ((poolsIn queue lens (a .window) ≡ rest (queueIn m))
         × (merged ≡ withPart (m .merged) w (over (flat (taken (queueIn m))) (partOf (m .merged) w))))
         → Wrote Going kinds numbers last
         → SoFar S bytes count (k + 1)
@@ -337,7 +337,7 @@ module _ {S : State} {bytes : List ℕ} {count k : ℕ} {T : State} {r : Decoded
           up = T .up;
           memory =
               memory
-              (withCounts
+              (withWindowIn
               (withWorkersIn h
               (set (h .workers) w (record {
                 doing = FlushRead
@@ -346,7 +346,7 @@ module _ {S : State} {bytes : List ℕ} {count k : ℕ} {T : State} {r : Decoded
                 pool = x .pool;
                 times = replicate 16 0;
               })))
-              (a .counts .pools) (a .counts .queued))
+              (a .window))
               row newest (m .free) queue lens merged;
           kinds = kinds;
           numbers = numbers;
@@ -357,14 +357,14 @@ module _ {S : State} {bytes : List ℕ} {count k : ℕ} {T : State} {r : Decoded
         let left : ℕ → Queue → List ℕ → Result = λ n q d. record {
           memory =
               memory
-              (withCounts
+              (withWindowIn
               (withWorkersIn h
               (set (h .workers) w (record { doing = FlushRead (short n) 0; announced = x .announced; pool = x .pool; times = replicate 16 0 })))
-              (q .pools) (q .queued))
+              (q .window))
               row newest (m .free) (q .queue) (q .lens) d;
           answer = Going;
         } in
-        on-go Take (left (a .count) (poolsIn queue lens (a .counts)) merged) kinds numbers last f (λ i. left (sym ec i) (sym eq i) (sym em i)) refl refl
+        on-go Take (left (a .count) (poolsIn queue lens (a .window)) merged) kinds numbers last f (λ i. left (sym ec i) (sym eq i) (sym em i)) refl refl
         (replaced _) z
 
     -- flush (2)
@@ -399,14 +399,14 @@ module _ {S : State} {bytes : List ℕ} {count k : ℕ} {T : State} {r : Decoded
     -- flush (3)
     pub on-split : (n : ℕ) (a : Parted) (queue lens merged : List ℕ) (kinds numbers : List ℕ) (last : Answer) → s ≡ Split n
         → a .left ≡ splitLeft (m .merged) w n (x .times) (h .p) (x .pool)
-        → poolsIn queue lens (a .counts) ≡ splitQueue (queueIn m) (m .merged) w n (x .times) (h .p) (x .pool)
+        → poolsIn queue lens (a .window) ≡ splitQueue (queueIn m) (m .merged) w n (x .times) (h .p) (x .pool)
         → merged ≡ splitMerged (m .merged) w n (x .times) (h .p) (x .pool) → Wrote Going kinds numbers last
         → SoFar S bytes count (k + 1)
         (record {
           up = T .up;
           memory =
               memory
-              (withCounts
+              (withWindowIn
               (withWorkersIn h
               (set (h .workers) w
               (record {
@@ -415,7 +415,7 @@ module _ {S : State} {bytes : List ℕ} {count k : ℕ} {T : State} {r : Decoded
                 pool = emptyPool;
                 times = replicate 16 0;
               })))
-              (a .counts .pools) (a .counts .queued))
+              (a .window))
               row newest (m .free) queue lens merged;
           kinds = kinds;
           numbers = numbers;
@@ -426,13 +426,13 @@ module _ {S : State} {bytes : List ℕ} {count k : ℕ} {T : State} {r : Decoded
         let left : Pool → ℕ → Queue → List ℕ → Result = λ e c q d. record {
           memory =
               memory
-              (withCounts
+              (withWindowIn
               (withWorkersIn h (set (h .workers) w (record { doing = FlushFree c; announced = x .announced; pool = e; times = replicate 16 0 })))
-              (q .pools) (q .queued))
+              (q .window))
               row newest (m .free) (q .queue) (q .lens) d;
           answer = Going;
         } in
-        on-go (Split n) (left emptyPool (a .left) (poolsIn queue lens (a .counts)) merged) kinds numbers last f
+        on-go (Split n) (left emptyPool (a .left) (poolsIn queue lens (a .window)) merged) kinds numbers last f
         (λ i. left (empty-is i) (sym el i) (sym eq i) (sym em i)) refl refl (replaced _) z
 
     -- flush (4), once the readers of all workers are moved

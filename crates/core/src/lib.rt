@@ -8,7 +8,6 @@ ghost use Rattle.versions.specs.Versions.{rowOf};
 ghost use Rattle.simulation.specs.Loop.{Ran};
 ghost use Rattle.simulation.specs.Records.{recordAt};
 use gate::Gate;
-use queue::Counts;
 use state::Hub;
 use step::Next;
 use values::Answer;
@@ -92,8 +91,8 @@ pub fn run(
     numbers: &mut [u64],
     newest: &mut [u16; 256],
     free: &mut [u16; 2048],
-    queue: &mut [u32; 6144],
-    lens: &mut [u32; 2048],
+    queue: &mut [u32; 12288],
+    lens: &mut [u32; 4096],
     merged: &mut [u32; 12288],
 ) -> Ended
     ensures { λ r. ⌜
@@ -123,6 +122,8 @@ pub fn run(
     let linked = versions::all_linked(row, start.n);
     let mut up = ready::ready(start, newest, free, queue, lens, merged, linked, row.len());
     let mut hub = start;
+    // The hub's window, by itself while the loop runs.
+    let mut window = start.window;
     let mut last = Answer::Ok;
     // Space that a flush's split works in, cleared once.
     let mut needed = [0u32; 768];
@@ -145,6 +146,7 @@ pub fn run(
             }
             Gate::Make { p, v, n, clock } => {
                 hub = Hub::fresh(p as usize, v as usize, n as usize, clock);
+                window = hub.window;
                 arrays::fill_newest(newest, v as usize);
                 arrays::fill_free(free, n as usize, hub.free);
                 versions::set_up(row, v as usize, n as usize);
@@ -188,12 +190,7 @@ pub fn run(
                     }
                     // Flush (1).
                     Next::Take => {
-                        let counts = Counts {
-                            pools: hub.pools,
-                            queued: hub.queued,
-                        };
-                        let f = flush::flush_take(queue, lens, counts, merged, w);
-                        let n = f.counts;
+                        let f = flush::flush_take(queue, lens, window, merged, w);
                         hub.workers[w] = Worker {
                             doing: Doing::FlushRead {
                                 merged: (f.count % 65536) as u16,
@@ -202,8 +199,7 @@ pub fn run(
                             times: [0u64; 16],
                             ..x
                         };
-                        hub.pools = n.pools;
-                        hub.queued = n.queued;
+                        window = f.window;
                         last = put_answer(kinds, numbers, k, Answer::Going);
                         k += 1;
                     }
@@ -229,14 +225,10 @@ pub fn run(
                     Next::Split { merged: m } => {
                         let q = x.pool;
                         let times = x.times;
-                        let counts = Counts {
-                            pools: hub.pools,
-                            queued: hub.queued,
-                        };
                         let f = splitting::flush_split(
                             queue,
                             lens,
-                            counts,
+                            window,
                             merged,
                             w,
                             m,
@@ -247,15 +239,13 @@ pub fn run(
                             &mut local,
                             &mut joined,
                         );
-                        let n = f.counts;
                         hub.workers[w] = Worker {
                             doing: Doing::FlushFree { left: f.left },
                             pool: worker::EMPTY,
                             times: [0u64; 16],
                             ..x
                         };
-                        hub.pools = n.pools;
-                        hub.queued = n.queued;
+                        window = f.window;
                         last = put_answer(kinds, numbers, k, Answer::Going);
                         k += 1;
                     }
@@ -286,5 +276,6 @@ pub fn run(
             }
         }
     }
-    Ended { hub, last }
+    let left = Hub { window, ..hub };
+    Ended { hub: left, last }
 }

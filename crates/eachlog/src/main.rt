@@ -66,8 +66,8 @@ fn main() {
     let rec: &mut [u8] = &mut space;
     let mut newest = [0u16; 256];
     let mut free = [0u16; 2048];
-    let mut queue = [0u32; 6144];
-    let mut lens = [0u32; 2048];
+    let mut queue = [0u32; 12288];
+    let mut lens = [0u32; 4096];
     let mut merged = [0u32; 12288];
     let none = slots::vacant();
     let mut slots = [none; 2048];

@@ -7,9 +7,9 @@ ghost use Rattle.ranges.specs.Words.{flat};
 ghost use Rattle.queue.specs.State.{poolsIn, taken, rest};
 ghost use Rattle.versions.specs.Versions.{rowOf};
 ghost use Rattle.flush.specs.Flush.{putHandInStep, partOf, withPart, flushReadStep};
-use queue::Counts;
 use queue::Taking;
 use values::Answer;
+use values::Window;
 use worker::Announced;
 use worker::Doing;
 use worker::Pool;
@@ -50,36 +50,36 @@ pub fn put_hand_in(row: &[[u64; 5]], q: Pool, covered: u16, p: usize) -> Handed
 
 // Up to two pools of the queue, merged into worker w's part of the merged lists.
 fn take_into(
-    queue: &mut [u32; 6144],
-    lens: &mut [u32; 2048],
-    counts: Counts,
+    queue: &mut [u32; 12288],
+    lens: &mut [u32; 4096],
+    window: Window,
     merged: &mut [u32],
     w: usize,
 ) -> Taking
     requires { ⌜ (w < 16) × (length (now merged) ≡ 12288) ⌝ }
-    ensures { λ r. ⌜ r .count ≡ length (taken (poolsIn (now (queue .entry)) (now (lens .entry)) counts)) ⌝ }
-    ensures { λ r. ⌜ poolsIn (now (queue .exit)) (now (lens .exit)) (r .counts) ≡ rest (poolsIn (now (queue .entry)) (now (lens .entry)) counts) ⌝ }
-    ensures { λ _. ⌜ now (merged .exit) ≡ withPart (now (merged .entry)) w (over (flat (taken (poolsIn (now (queue .entry)) (now (lens .entry)) counts))) (partOf (now (merged .entry)) w)) ⌝ }
+    ensures { λ r. ⌜ r .count ≡ length (taken (poolsIn (now (queue .entry)) (now (lens .entry)) window)) ⌝ }
+    ensures { λ r. ⌜ poolsIn (now (queue .exit)) (now (lens .exit)) (r .window) ≡ rest (poolsIn (now (queue .entry)) (now (lens .entry)) window) ⌝ }
+    ensures { λ _. ⌜ now (merged .exit) ≡ withPart (now (merged .entry)) w (over (flat (taken (poolsIn (now (queue .entry)) (now (lens .entry)) window))) (partOf (now (merged .entry)) w)) ⌝ }
 {
     let at = 768 * w;
     let e = at + 768;
-    queue::take(queue, lens, counts, &mut merged[at..e])
+    queue::take(queue, lens, window, &mut merged[at..e])
 }
 
 // Flush (1).
 pub fn flush_take(
-    queue: &mut [u32; 6144],
-    lens: &mut [u32; 2048],
-    counts: Counts,
+    queue: &mut [u32; 12288],
+    lens: &mut [u32; 4096],
+    window: Window,
     merged: &mut [u32; 12288],
     w: usize,
 ) -> Taking
     requires { ⌜ w < 16 ⌝ }
-    ensures { λ r. ⌜ r .count ≡ length (taken (poolsIn (now (queue .entry)) (now (lens .entry)) counts)) ⌝ }
-    ensures { λ r. ⌜ poolsIn (now (queue .exit)) (now (lens .exit)) (r .counts) ≡ rest (poolsIn (now (queue .entry)) (now (lens .entry)) counts) ⌝ }
-    ensures { λ _. ⌜ now (merged .exit) ≡ withPart (now (merged .entry)) w (over (flat (taken (poolsIn (now (queue .entry)) (now (lens .entry)) counts))) (partOf (now (merged .entry)) w)) ⌝ }
+    ensures { λ r. ⌜ r .count ≡ length (taken (poolsIn (now (queue .entry)) (now (lens .entry)) window)) ⌝ }
+    ensures { λ r. ⌜ poolsIn (now (queue .exit)) (now (lens .exit)) (r .window) ≡ rest (poolsIn (now (queue .entry)) (now (lens .entry)) window) ⌝ }
+    ensures { λ _. ⌜ now (merged .exit) ≡ withPart (now (merged .entry)) w (over (flat (taken (poolsIn (now (queue .entry)) (now (lens .entry)) window))) (partOf (now (merged .entry)) w)) ⌝ }
 {
-    take_into(queue, lens, counts, merged, w)
+    take_into(queue, lens, window, merged, w)
 }
 
 // ---- flush (2)

@@ -46,15 +46,15 @@ module _ {M : Type 1} (𝓤 : URA M) (H : Heap 𝓤) (A : Atoms 𝓤) (W : Given
 -- ---- the five arrays
 module _ (n : ℕ) (a b c d e : At n) where
   abbrev arrays : List (Slot n)
-  arrays = array a u16 256 ∷ array b u16 2048 ∷ array c u32 6144 ∷ array d u32 2048 ∷ array e u32 12288 ∷ []
+  arrays = array a u16 256 ∷ array b u16 2048 ∷ array c u32 12288 ∷ array d u32 4096 ∷ array e u32 12288 ∷ []
 
   abbrev arrays-gave : Stays arrays (all yes arrays)
-  arrays-gave = (gave a u16 256, (gave b u16 2048, (gave c u32 6144, (gave d u32 2048, (gave e u32 12288, tt)))))
+  arrays-gave = (gave a u16 256, (gave b u16 2048, (gave c u32 12288, (gave d u32 4096, (gave e u32 12288, tt)))))
 
   arrays-go : {M : Type 1} (𝓤 : URA M) (H : Heap 𝓤) (A : Atoms 𝓤) (W : Given 𝓤 H A) → AllGo 𝓤 H A W n arrays (all yes arrays) arrays-gave
   arrays-go 𝓤 H A W =
       let g : (z : At n) (R : RattleType) (k : ℕ) → Goes 𝓤 H A W n (array z R k) yes (gave z R k) = go 𝓤 H A W n in
-      (g a u16 256, (g b u16 2048, (g c u32 6144, (g d u32 2048, (g e u32 12288, tt)))))
+      (g a u16 256, (g b u16 2048, (g c u32 12288, (g d u32 4096, (g e u32 12288, tt)))))
 
 -- ---- a record: its bytes and the arrays
 module _ (n : ℕ) (r a b c d e : At n) where

@@ -42,10 +42,10 @@ abbrev Free : RattleType
 Free = Array u16 2048
 
 abbrev Queue : RattleType
-Queue = Array u32 6144
+Queue = Array u32 12288
 
 abbrev Lens : RattleType
-Lens = Array u32 2048
+Lens = Array u32 4096
 
 abbrev Merged : RattleType
 Merged = Array u32 12288
@@ -100,7 +100,7 @@ leaves h s z = memory h s (z .0) (z .1 .0) (z .1 .1 .0) (z .1 .1 .1 .0) (z .1 .1
 -- what the arrays tell: each has the length of its type
 abbrev Long : Arrays → Type 0
 Long a =
-    (length (a .0 .now) ≡ 256) × ((length (a .1 .0 .now) ≡ 2048) × ((length (a .1 .1 .0 .now) ≡ 6144) × ((length (a .1 .1 .1 .0 .now) ≡ 2048)
+    (length (a .0 .now) ≡ 256) × ((length (a .1 .0 .now) ≡ 2048) × ((length (a .1 .1 .0 .now) ≡ 12288) × ((length (a .1 .1 .1 .0 .now) ≡ 4096)
     × ((length (a .1 .1 .1 .1 .0 .now) ≡ 12288) × Unit {0}))))
 
 arrays-long : {M : Type 1} (𝓤 : URA M) (H : Heap 𝓤) (A : Atoms 𝓤) (W : Given 𝓤 H A) (ks : Lfts 5) (qs : Shares 5) (a : Arrays)
@@ -108,8 +108,8 @@ arrays-long : {M : Type 1} (𝓤 : URA M) (H : Heap 𝓤) (A : Atoms 𝓤) (W : 
 arrays-long 𝓤 H A W ks qs a =
     and-more 𝓤 H A W (array-long 𝓤 H A W (ks .0) (qs .0) (named 0) u16 256 (a .0))
     (and-more 𝓤 H A W (array-long 𝓤 H A W (ks .1 .0) (qs .1 .0) (named 0) u16 2048 (a .1 .0))
-    (and-more 𝓤 H A W (array-long 𝓤 H A W (ks .1 .1 .0) (qs .1 .1 .0) (named 0) u32 6144 (a .1 .1 .0))
-    (and-more 𝓤 H A W (array-long 𝓤 H A W (ks .1 .1 .1 .0) (qs .1 .1 .1 .0) (named 0) u32 2048 (a .1 .1 .1 .0))
+    (and-more 𝓤 H A W (array-long 𝓤 H A W (ks .1 .1 .0) (qs .1 .1 .0) (named 0) u32 12288 (a .1 .1 .0))
+    (and-more 𝓤 H A W (array-long 𝓤 H A W (ks .1 .1 .1 .0) (qs .1 .1 .1 .0) (named 0) u32 4096 (a .1 .1 .1 .0))
     (and-more 𝓤 H A W (array-long 𝓤 H A W (ks .1 .1 .1 .1 .0) (qs .1 .1 .1 .1 .0) (named 0) u32 12288 (a .1 .1 .1 .1 .0))
     (no-thing 𝓤 H A W)))))
 

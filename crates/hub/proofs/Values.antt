@@ -60,4 +60,4 @@ module _ {M : Type 1} (𝓤 : URA M) (H : Heap 𝓤) (A : Atoms 𝓤) (W : Given
 
 -- a hub by value has sixteen workers
 pub hub-workers : (h : Hub) → Is B.the-row h (hub-vals h) → length (h .workers) ≡ 16
-hub-workers h is = sym (length-map (h .workers) _) ∙ LL.owed B.the-type B′.the-laws h _ is .1 .1 .1 .1 .1 .1 .1 .0 .1 .0 .1
+hub-workers h is = sym (length-map (h .workers) _) ∙ LL.owed B.the-type B′.the-laws h _ is .1 .1 .1 .1 .1 .1 .0 .1 .0 .1

@@ -55,8 +55,8 @@ pub fn apply(
     rec: &[u8],
     newest: &mut [u16; 256],
     free: &mut [u16; 2048],
-    queue: &mut [u32; 6144],
-    lens: &mut [u32; 2048],
+    queue: &mut [u32; 12288],
+    lens: &mut [u32; 4096],
     merged: &mut [u32; 12288],
 ) -> Applied
     ensures { λ r. ⌜
@@ -101,8 +101,8 @@ pub fn apply_all(
     numbers: &mut [u64],
     newest: &mut [u16; 256],
     free: &mut [u16; 2048],
-    queue: &mut [u32; 6144],
-    lens: &mut [u32; 2048],
+    queue: &mut [u32; 12288],
+    lens: &mut [u32; 4096],
     merged: &mut [u32; 12288],
 ) -> Counted
     ensures { λ r. ⌜
@@ -168,8 +168,8 @@ pub fn apply_owned(
     numbers: &mut [u64],
     newest: &mut [u16; 256],
     free: &mut [u16; 2048],
-    queue: &mut [u32; 6144],
-    lens: &mut [u32; 2048],
+    queue: &mut [u32; 12288],
+    lens: &mut [u32; 4096],
     merged: &mut [u32; 12288],
 ) -> Owned
     ensures { λ r. ⌜
@@ -232,8 +232,8 @@ pub fn apply_row(
     rec: &[u8],
     newest: &mut [u16; 256],
     free: &mut [u16; 2048],
-    queue: &mut [u32; 6144],
-    lens: &mut [u32; 2048],
+    queue: &mut [u32; 12288],
+    lens: &mut [u32; 4096],
     merged: &mut [u32; 12288],
 ) -> Answered
     ensures { λ r. ⌜

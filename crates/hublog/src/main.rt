@@ -14,8 +14,8 @@ fn main() {
     let numbers: &mut [u64] = &mut number_space;
     let mut newest = [0u16; 256];
     let mut free = [0u16; 2048];
-    let mut queue = [0u32; 6144];
-    let mut lens = [0u32; 2048];
+    let mut queue = [0u32; 12288];
+    let mut lens = [0u32; 4096];
     let mut merged = [0u32; 12288];
     let none = slots::vacant();
     let mut slots = [none; 2048];

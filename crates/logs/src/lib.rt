@@ -65,8 +65,8 @@ pub fn log_part(
     numbers: &mut [u64],
     newest: &mut [u16; 256],
     free: &mut [u16; 2048],
-    queue: &mut [u32; 6144],
-    lens: &mut [u32; 2048],
+    queue: &mut [u32; 12288],
+    lens: &mut [u32; 4096],
     merged: &mut [u32; 12288],
 ) -> Logged
     ensures { λ r. ⌜

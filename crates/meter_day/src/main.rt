@@ -62,8 +62,8 @@ fn main() {
     let slots = [none; 2048];
     let mut newest = [0u16; 256];
     let mut free = [0u16; 2048];
-    let mut queue = [0u32; 6144];
-    let mut lens = [0u32; 2048];
+    let mut queue = [0u32; 12288];
+    let mut lens = [0u32; 4096];
     let mut merged = [0u32; 12288];
     let hub = Hub::fresh(0, 0, 0, 0);
     let mut kind_space = [0u8; 22];

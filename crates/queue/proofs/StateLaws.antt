@@ -2,16 +2,17 @@
 use mathlib.Core.Path.{_≡_, refl, sym, _∙_}
 use mathlib.Core.Bool.{Bool, true, false, _&&_}
 use mathlib.Core.List.{List}
-use Prim.Native.Nat.{ℕ, _+_, _-_, _*_, _≤_, _<_, min}
+use Prim.Native.Nat.{ℕ, _+_, _-_, _≤_, _<_}
 use native.Mathlib.Omega.{arith}
 use lib.Dec.{ltb, leb}
 use borrow.Author.Tests.{ltb-true, leb-true, lt-ltb, le-leb}
-use Rattle.lists.specs.Over.{over, shifted}
+use Rattle.lists.specs.Over.{over}
 use Rattle.model.specs.Ranges.{merge}
 use Rattle.ranges.specs.Words.{rangesAt, flat}
 use Rattle.ranges.proofs.WordLaws.{length-rangesAt}
 use Rattle.ranges.proofs.MergeLaws.{length-merge}
-use Rattle.queue.specs.State.{Queue, room, firstLength, secondLength, firstRanges, mayTake, taken, rest, Took}
+use Rattle.values.specs.declared.Window.{Window}
+use Rattle.queue.specs.State.{Queue, lies, room, firstLength, secondLength, firstRanges, mayTake, taken, movedOn, rest, Took}
 
 -- two tests that both hold
 both : (a b : Bool) → a && b ≡ true → (a ≡ true) × (b ≡ true)
@@ -30,44 +31,67 @@ leb-minus a b k h =
     same (leb a (k - b)) (leb (a + b) k) (λ e. le-leb (a + b) k (omega (arith, leb-true a (k - b) e)))
     (λ e. le-leb a (k - b) (omega (arith, leb-true (a + b) k e)))
 
-module _ (q : Queue) where
-  pub room-facts : (n : ℕ) → room q n ≡ true → (0 < n) × (q .pools < 2048) × (q .queued + n ≤ 2048)
+-- a window that lies in the memory
+pub record LiesIn (w : Window) : Type 0 where
+  pub first : w .first ≤ 2048
+  pub pools : w .pools ≤ 2048
+  pub from : w .from ≤ 2048
+  pub queued : w .queued ≤ 2048
+
+module _ (w : Window) where
+  pub lies-facts : lies w ≡ true → LiesIn w
+  unfolding lies
+  lies-facts e =
+      let l = both (leb (w .first) 2048 && leb (w .pools) 2048) (leb (w .from) 2048 && leb (w .queued) 2048) e in
+      let a = both (leb (w .first) 2048) (leb (w .pools) 2048) (l .0) in
+      let b = both (leb (w .from) 2048) (leb (w .queued) 2048) (l .1) in
+      record {
+        first = leb-true (w .first) 2048 (a .0);
+        pools = leb-true (w .pools) 2048 (a .1);
+        from = leb-true (w .from) 2048 (b .0);
+        queued = leb-true (w .queued) 2048 (b .1);
+      }
+
+  pub lies-yes : LiesIn w → lies w ≡ true
+  unfolding lies
+  lies-yes l = rw (le-leb (w .first) 2048 (l .first), le-leb (w .pools) 2048 (l .pools), le-leb (w .from) 2048 (l .from), le-leb (w .queued) 2048 (l .queued))
+
+  pub room-facts : (n : ℕ) → room w n ≡ true → LiesIn w × (0 < n) × (w .pools < 2048) × (w .queued + n ≤ 2048)
   unfolding room
   room-facts n e =
-      let l = both (ltb 0 n && ltb (q .pools) 2048) (leb (q .queued + n) 2048) e in
-      let k = both (ltb 0 n) (ltb (q .pools) 2048) (l .0) in
-      (ltb-true 0 n (k .0), ltb-true (q .pools) 2048 (k .1), leb-true (q .queued + n) 2048 (l .1))
+      let l = both (lies w && ltb 0 n) (ltb (w .pools) 2048 && leb (w .queued + n) 2048) e in
+      let a = both (lies w) (ltb 0 n) (l .0) in
+      let b = both (ltb (w .pools) 2048) (leb (w .queued + n) 2048) (l .1) in
+      (lies-facts (a .0), ltb-true 0 n (a .1), ltb-true (w .pools) 2048 (b .0), leb-true (w .queued + n) 2048 (b .1))
 
-  pub room-yes : (n : ℕ) → 0 < n → q .pools < 2048 → q .queued + n ≤ 2048 → room q n ≡ true
+  pub room-yes : (n : ℕ) → LiesIn w → 0 < n → w .pools < 2048 → w .queued + n ≤ 2048 → room w n ≡ true
   unfolding room
-  room-yes n a b c = rw (lt-ltb 0 n a, lt-ltb (q .pools) 2048 b, le-leb (q .queued + n) 2048 c)
+  room-yes n l a b c = rw (lies-yes l, lt-ltb 0 n a, lt-ltb (w .pools) 2048 b, le-leb (w .queued + n) 2048 c)
 
-  pub may-facts : mayTake q ≡ true → (q .pools ≤ 2048) × (q .queued ≤ 2048) × (firstRanges q ≤ q .queued) × (firstRanges q ≤ 256)
+module _ (q : Queue) where
+  abbrev w : Window
+  w = q .window
+
+  pub may-facts : mayTake q ≡ true → (lies w ≡ true) × (firstRanges q ≤ w .queued) × (firstRanges q ≤ 256)
   unfolding mayTake
   may-facts e =
-      let m = both (leb (q .pools) 2048 && leb (q .queued) 2048 && leb (firstRanges q) (q .queued)) (leb (firstRanges q) 256) e in
-      let l = both (leb (q .pools) 2048 && leb (q .queued) 2048) (leb (firstRanges q) (q .queued)) (m .0) in
-      let k = both (leb (q .pools) 2048) (leb (q .queued) 2048) (l .0) in (
-        leb-true (q .pools) 2048 (k .0),
-        leb-true (q .queued) 2048 (k .1),
-        leb-true (firstRanges q) (q .queued) (l .1),
-        leb-true (firstRanges q) 256 (m .1),
-      )
+      let l = both (lies w) (leb (firstRanges q) (w .queued) && leb (firstRanges q) 256) e in
+      let k = both (leb (firstRanges q) (w .queued)) (leb (firstRanges q) 256) (l .1) in
+      (l .0, leb-true (firstRanges q) (w .queued) (k .0), leb-true (firstRanges q) 256 (k .1))
 
-  pub may-yes : q .pools ≤ 2048 → q .queued ≤ 2048 → firstRanges q ≤ q .queued → firstRanges q ≤ 256 → mayTake q ≡ true
+  pub may-yes : LiesIn w → firstRanges q ≤ w .queued → firstRanges q ≤ 256 → mayTake q ≡ true
   unfolding mayTake
-  may-yes a b c d = rw (le-leb (q .pools) 2048 a, le-leb (q .queued) 2048 b, le-leb (firstRanges q) (q .queued) c, le-leb (firstRanges q) 256 d)
+  may-yes l c d = rw (lies-yes w l, le-leb (firstRanges q) (w .queued) c, le-leb (firstRanges q) 256 d)
 
-  -- where pools may be taken, the two that were merged with what was moved to the front are what is taken
-  pub took : (queue lens merged₀ merged : List ℕ) (a b p : ℕ) → mayTake q ≡ true → a ≡ firstLength q → b ≡ secondLength q
-      → merged ≡ over (flat (merge (rangesAt (q .queue) 0 a) (rangesAt (q .queue) a b))) merged₀
-      → queue ≡ shifted (q .queue) (3 * (a + b)) (3 * q .queued) → lens ≡ shifted (q .lens) (min 2 (q .pools)) (q .pools)
-      → p ≡ q .pools - 2 → Took q (record { queue = queue; lens = lens; pools = p; queued = q .queued - (a + b) }) merged₀ merged (a + b)
+  -- where pools may be taken, the two that were merged and the window moved on are what is taken and what is left
+  pub took : (left : Queue) (merged₀ merged : List ℕ) (a b : ℕ) → mayTake q ≡ true → a ≡ firstLength q → b ≡ secondLength q
+      → merged ≡ over (flat (merge (rangesAt (q .queue) (w .from) a) (rangesAt (q .queue) (w .from + a) b))) merged₀
+      → left ≡ movedOn q (a + b) → Took q left merged₀ merged (a + b)
   unfolding taken rest
-  took queue lens merged₀ merged a b p may ea eb m eq el ep =
+  took left merged₀ merged a b may ea eb m el =
       record {
-        counted = rw (may, ← ea, ← eb) (sym (length-merge (rangesAt (q .queue) 0 a) (rangesAt (q .queue) a b)
-            ∙ rw (length-rangesAt (q .queue) 0 a, length-rangesAt (q .queue) a b)));
+        counted = rw (may, ← ea, ← eb) (sym (length-merge (rangesAt (q .queue) (w .from) a) (rangesAt (q .queue) (w .from + a) b)
+            ∙ rw (length-rangesAt (q .queue) (w .from) a, length-rangesAt (q .queue) (w .from + a) b)));
         written = rw (may, ← ea, ← eb) m;
-        left = rw (may, ← ea, ← eb, eq, el, ep);
+        left = rw (may, ← ea, ← eb) el;
       }

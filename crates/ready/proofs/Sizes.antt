@@ -4,12 +4,43 @@ use mathlib.Core.Bool.{Bool, true, false, _&&_, true≢false}
 use Prim.Native.Nat.{ℕ, _≤_}
 use lib.Dec.{leb}
 use borrow.Author.Tests.{leb-true, le-leb}
+use Rattle.values.specs.declared.Window.{Window}
 use Rattle.state.specs.declared.Hub.{Hub}
-use Rattle.ready.specs.Ready.{besides, sizesFit}
+use Rattle.ready.specs.Ready.{besides, windowFits, sizesFit}
 
 pub and-both : (a b : Bool) → a && b ≡ true → (a ≡ true) × (b ≡ true)
 and-both true b e = (refl, e)
 and-both false b e = absurd (true≢false (sym e))
+
+-- a queue's window is in range, with at most so many ranges
+pub record WindowIn (w : Window) (most : ℕ) : Type 0 where
+  pub pools : w .pools ≤ w .queued
+  pub queued : w .queued ≤ most
+  pub first : w .first ≤ w .from
+  pub from : w .from ≤ 2048
+
+pub window-tell : (w : Window) (most : ℕ) → windowFits w most ≡ true → WindowIn w most
+unfolding windowFits
+window-tell w most e =
+    let all = and-both (leb (w .pools) (w .queued) && leb (w .queued) most) (leb (w .first) (w .from) && leb (w .from) 2048) e in
+    let counts = and-both (leb (w .pools) (w .queued)) (leb (w .queued) most) (all .0) in
+    let begins = and-both (leb (w .first) (w .from)) (leb (w .from) 2048) (all .1) in
+    record {
+      pools = leb-true _ _ (counts .0);
+      queued = leb-true _ _ (counts .1);
+      first = leb-true _ _ (begins .0);
+      from = leb-true _ _ (begins .1);
+    }
+
+pub window-yes : (w : Window) (most : ℕ) → WindowIn w most → windowFits w most ≡ true
+unfolding windowFits
+window-yes w most z =
+    rw (
+      le-leb (w .pools) (w .queued) (z .pools),
+      le-leb (w .queued) most (z .queued),
+      le-leb (w .first) (w .from) (z .first),
+      le-leb (w .from) 2048 (z .from),
+    )
 
 -- the sizes and counts of a hub are in range, with a row of so many slots
 pub record SizesIn (h : Hub) (long : ℕ) : Type 0 where
@@ -17,8 +48,7 @@ pub record SizesIn (h : Hub) (long : ℕ) : Type 0 where
   pub v : (1 ≤ h .v) × (h .v ≤ 256)
   pub n : (h .v ≤ h .n) × (h .n ≤ 2048) × (h .n ≤ long)
   pub free : h .free ≤ besides h
-  pub pools : h .pools ≤ h .queued
-  pub queued : h .queued ≤ besides h
+  pub window : WindowIn (h .window) (besides h)
 
 pub sizes-tell : (h : Hub) (long : ℕ) → sizesFit h long ≡ true → SizesIn h long
 unfolding sizesFit
@@ -26,23 +56,21 @@ sizes-tell h long e =
     let P = leb 1 (h .p) && leb (h .p) 16 in
     let V' = leb 1 (h .v) && leb (h .v) 256 in
     let N = leb (h .v) (h .n) && leb (h .n) 2048 in
-    let F = leb (h .free) (besides h) && leb (h .pools) (h .queued) in
-    let all = and-both (P && V' && (N && leb (h .n) long)) (F && leb (h .queued) (besides h)) e in
+    let W = windowFits (h .window) (besides h) in
+    let all = and-both (P && V' && (N && leb (h .n) long)) (leb (h .free) (besides h) && W) e in
     let sizes = and-both (P && V') (N && leb (h .n) long) (all .0) in
-    let counts = and-both F (leb (h .queued) (besides h)) (all .1) in
+    let counts = and-both (leb (h .free) (besides h)) W (all .1) in
     let pv = and-both P V' (sizes .0) in
     let p = and-both (leb 1 (h .p)) (leb (h .p) 16) (pv .0) in
     let v = and-both (leb 1 (h .v)) (leb (h .v) 256) (pv .1) in
     let n = and-both N (leb (h .n) long) (sizes .1) in
     let vn = and-both (leb (h .v) (h .n)) (leb (h .n) 2048) (n .0) in
-    let fp = and-both (leb (h .free) (besides h)) (leb (h .pools) (h .queued)) (counts .0) in
     record {
       p = (leb-true _ _ (p .0), leb-true _ _ (p .1));
       v = (leb-true _ _ (v .0), leb-true _ _ (v .1));
       n = (leb-true _ _ (vn .0), leb-true _ _ (vn .1), leb-true _ _ (n .1));
-      free = leb-true _ _ (fp .0);
-      pools = leb-true _ _ (fp .1);
-      queued = leb-true _ _ (counts .1);
+      free = leb-true _ _ (counts .0);
+      window = window-tell (h .window) (besides h) (counts .1);
     }
 
 pub sizes-yes : (h : Hub) (long : ℕ) → SizesIn h long → sizesFit h long ≡ true
@@ -57,6 +85,5 @@ sizes-yes h long z =
       le-leb (h .n) 2048 (z .n .1),
       le-leb (h .n) long (z .n .2),
       le-leb (h .free) (besides h) (z .free),
-      le-leb (h .pools) (h .queued) (z .pools),
-      le-leb (h .queued) (besides h) (z .queued),
+      window-yes (h .window) (besides h) (z .window),
     )

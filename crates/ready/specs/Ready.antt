@@ -6,6 +6,7 @@ use Prim.Native.Nat.{ℕ, zero, suc, _+_, _*_, _-_, min}
 use lib.Dec.{ltb, leb, eqb}
 use lib.ListN.{getD}
 use Rattle.model.specs.Batch.{batchOf}
+use Rattle.values.specs.declared.Window.{Window}
 use Rattle.worker.specs.declared.Named.{Named}
 use Rattle.worker.specs.declared.Named.the-variants.{Nothing, Is}
 use Rattle.worker.specs.declared.Facts.{Facts}
@@ -61,35 +62,40 @@ workersFit h merged local list zero = true
 workersFit h merged local list (suc k) =
     workersFit h merged local list k && workerFits (workerIn h k) k merged local list (h .p) (h .v) (h .n)
 
--- each of the first k pools has 1 to so many ranges
-unfoldable pub lensFit : List ℕ → ℕ → ℕ → Bool
-lensFit lens most zero = true
-lensFit lens most (suc k) = lensFit lens most k && (leb 1 (getD lens k 0) && leb (getD lens k 0) most)
+-- each of the k pools whose lengths stand from place i on has 1 to so many ranges
+unfoldable pub lensFit : List ℕ → ℕ → ℕ → ℕ → Bool
+lensFit lens i most zero = true
+lensFit lens i most (suc k) = lensFit lens i most k && (leb 1 (getD lens (i + k) 0) && leb (getD lens (i + k) 0) most)
 
 -- how many ranges they have together
-unfoldable pub lensSum : List ℕ → ℕ → ℕ
-lensSum lens zero = 0
-lensSum lens (suc k) = lensSum lens k + getD lens k 0
+unfoldable pub lensSum : List ℕ → ℕ → ℕ → ℕ
+lensSum lens i zero = 0
+lensSum lens i (suc k) = lensSum lens i k + getD lens (i + k) 0
 
 -- how many slots hold no register's newest version
 abbrev pub besides : Hub → ℕ
 besides h = h .n - h .v
+
+-- the queue's window, with at most so many ranges
+unfoldable pub windowFits : Window → ℕ → Bool
+windowFits w most = leb (w .pools) (w .queued) && leb (w .queued) most && (leb (w .first) (w .from) && leb (w .from) 2048)
 
 -- the sizes and counts, with a row of so many slots
 unfoldable pub sizesFit : Hub → ℕ → Bool
 sizesFit h long =
     (leb 1 (h .p) && leb (h .p) 16 && (leb 1 (h .v) && leb (h .v) 256))
     && (leb (h .v) (h .n) && leb (h .n) 2048 && leb (h .n) long)
-    && (leb (h .free) (besides h) && leb (h .pools) (h .queued) && leb (h .queued) (besides h))
+    && (leb (h .free) (besides h) && windowFits (h .window) (besides h))
 
 -- Lent memory counts as set up: the hub, newest, free, queue, lens, merged; `linked` says that every neighbour in the row of slots is in range.
 -- A local pool has at most B ranges, a queued one 2B, a list in hand 4B, and none has more than there are slots besides the newest.
 unfoldable pub readyOf : Hub → List ℕ → List ℕ → List ℕ → List ℕ → List ℕ → Bool → ℕ → Bool
 readyOf h newest free queue lens merged linked long =
     let b = batchOf (h .p) in
+    let w = h .window in
     cond (sizesFit h long)
     (belowTo newest (h .n) (h .v) && belowTo free (h .n) (h .free)
-    && (slotsBelow queue 0 (h .n) (h .queued) && lensFit lens (2 * b) (h .pools))
-    && (eqb (lensSum lens (h .pools)) (h .queued) && workersFit h merged (min b (besides h)) (min (4 * b) (besides h)) (h .p))
+    && (slotsBelow queue (w .from) (h .n) (w .queued) && lensFit lens (w .first) (2 * b) (w .pools))
+    && (eqb (lensSum lens (w .first) (w .pools)) (w .queued) && workersFit h merged (min b (besides h)) (min (4 * b) (besides h)) (h .p))
     && linked)
     false

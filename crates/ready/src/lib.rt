@@ -3,8 +3,9 @@ ghost use mathlib.Core.Path.{_≡_};
 ghost use Prim.Native.Nat.{_+_, _*_, _-_, _<_, _≤_, min};
 ghost use lib.ListN.{length};
 ghost use Rattle.model.specs.Batch.{batchOf};
-ghost use Rattle.ready.specs.Ready.{belowTo, slotsBelow, poolFits, listFits, handFits, namedBelow, placeFits, workerFits, workersFit, lensFit, lensSum, sizesFit, readyOf};
+ghost use Rattle.ready.specs.Ready.{belowTo, slotsBelow, poolFits, listFits, handFits, namedBelow, placeFits, workerFits, workersFit, lensFit, lensSum, windowFits, sizesFit, readyOf};
 use state::Hub;
+use values::Window;
 use worker::Facts;
 use worker::Named;
 use worker::Pool;
@@ -171,29 +172,36 @@ fn workers_fit(hub: Hub, merged: &[u32; 12288], local: usize, list: usize) -> bo
     ok
 }
 
-// Whether the first k pools have 1 to so many ranges each.
-fn lens_fit(lens: &[u32; 2048], k: usize, most: u32) -> bool
-    requires { ⌜ k ≤ 2048 ⌝ }
-    ensures { λ r. ⌜ r ≡ lensFit (now (lens .entry)) most k ⌝ }
+// Whether the k pools whose lengths stand from place i on have 1 to so many ranges each.
+fn lens_fit(lens: &[u32; 4096], i: usize, k: usize, most: u32) -> bool
+    requires { ⌜ i + k ≤ 4096 ⌝ }
+    ensures { λ r. ⌜ r ≡ lensFit (now (lens .entry)) i most k ⌝ }
 {
     let mut ok = true;
-    for i in 0..k {
-        let x = lens[i];
+    for j in 0..k {
+        let x = lens[i + j];
         ok = ok & ((1 <= x) & (x <= most));
     }
     ok
 }
 
-// How many ranges the first k pools have together.
-fn lens_sum(lens: &[u32; 2048], k: usize) -> usize
-    requires { ⌜ k ≤ 2048 ⌝ }
-    ensures { λ r. ⌜ r ≡ lensSum (now (lens .entry)) k ⌝ }
+// How many ranges they have together.
+fn lens_sum(lens: &[u32; 4096], i: usize, k: usize) -> usize
+    requires { ⌜ i + k ≤ 4096 ⌝ }
+    ensures { λ r. ⌜ r ≡ lensSum (now (lens .entry)) i k ⌝ }
 {
     let mut sum = 0;
-    for i in 0..k {
-        sum = sum + wide32(lens[i]);
+    for j in 0..k {
+        sum = sum + wide32(lens[i + j]);
     }
     sum
+}
+
+// Whether the queue's window is in range, with at most so many ranges.
+fn window_fits(w: Window, most: usize) -> bool
+    ensures { λ r. ⌜ r ≡ windowFits w most ⌝ }
+{
+    ((w.pools <= w.queued) & (w.queued <= most)) & ((w.first <= w.from) & (w.from <= 2048))
 }
 
 // Whether the hub's sizes and counts are in range, with a row of so many slots.
@@ -203,10 +211,11 @@ fn sizes_fit(hub: Hub, long: usize) -> bool
     let p = hub.p;
     let v = hub.v;
     let n = hub.n;
+    let window = hub.window;
     let most = besides(v, n);
     (((1 <= p) & (p <= 16)) & ((1 <= v) & (v <= 256)))
         & (((v <= n) & (n <= 2048)) & (n <= long))
-        & (((hub.free <= most) & (hub.pools <= hub.queued)) & (hub.queued <= most))
+        & ((hub.free <= most) & window_fits(window, most))
 }
 
 // Whether lent memory counts as set up. `linked` says it of the neighbours in the row of slots, which has so many.
@@ -214,8 +223,8 @@ pub fn ready<'a>(
     hub: Hub,
     newest: &'a [u16; 256],
     free: &'a [u16; 2048],
-    queue: &'a [u32; 6144],
-    lens: &'a [u32; 2048],
+    queue: &'a [u32; 12288],
+    lens: &'a [u32; 4096],
     merged: &'a [u32; 12288],
     linked: bool,
     long: usize,
@@ -231,9 +240,10 @@ pub fn ready<'a>(
         let most = besides(hub.v, hub.n);
         let a = all_below(newest, hub.v, n);
         let b = all_below(free, hub.free, n);
-        let c = slots_below(queue, 0, hub.queued, n as u32);
-        let d = lens_fit(lens, hub.pools, (2 * size) as u32);
-        let e = lens_sum(lens, hub.pools) == hub.queued;
+        let w = hub.window;
+        let c = slots_below(queue, w.from, w.queued, n as u32);
+        let d = lens_fit(lens, w.first, w.pools, (2 * size) as u32);
+        let e = lens_sum(lens, w.first, w.pools) == w.queued;
         let f = workers_fit(hub, merged, least(size, most), least(4 * size, most));
         return (((a & b) & (c & d)) & (e & f)) & linked;
     }

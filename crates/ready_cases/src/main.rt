@@ -5,8 +5,10 @@ mod numbers;
 mod records;
 
 use libc::STDOUT_FILENO;
+use numbers::FIRST;
 use numbers::FREE;
 use numbers::FREE_SLOT;
+use numbers::FROM;
 use numbers::HAND;
 use numbers::KINDS;
 use numbers::LENGTH;
@@ -79,6 +81,8 @@ fn write_name(kind: u8) {
         QUEUED => write(b"queued ranges"),
         LENGTH => write(b"length of pool"),
         ONE_POOL => write(b"ranges in one pool"),
+        FIRST => write(b"first length"),
+        FROM => write(b"first range"),
         NEWEST => write(b"newest slot"),
         FREE_SLOT => write(b"free slot"),
         QUEUED_SLOT => write(b"queued slot"),
@@ -193,13 +197,15 @@ fn show_all(m: Memory, z: Sizes) {
 
 fn sizes_of(m: Memory, local: usize, pool: usize, list: usize, idle: u8) -> Sizes {
     let hub = m.hub;
+    let q = hub.window;
     Sizes {
         p: hub.p,
         v: hub.v,
         n: hub.n,
         free: hub.free,
-        pools: hub.pools,
-        queued: hub.queued,
+        pools: q.pools,
+        from: q.from,
+        queued: q.queued,
         rest: std::num::wrapping_sub_usize(hub.n, hub.v),
         local,
         pool,

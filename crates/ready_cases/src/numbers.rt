@@ -2,6 +2,7 @@
 use crate::records::Memory;
 use slots::Slot;
 use state::Hub;
+use values::Window;
 use worker::Doing;
 use worker::Goal;
 use worker::Named;
@@ -24,31 +25,36 @@ pub const LENGTH: u8 = 6;
 // One pool in the queue that has all of its ranges: three numbers that fit each other.
 pub const ONE_POOL: u8 = 7;
 
-pub const NEWEST: u8 = 8;
+// Where the queue begins in its memory: at which length and at which range.
+pub const FIRST: u8 = 8;
 
-pub const FREE_SLOT: u8 = 9;
+pub const FROM: u8 = 9;
 
-pub const QUEUED_SLOT: u8 = 10;
+pub const NEWEST: u8 = 10;
 
-pub const OLDER: u8 = 11;
+pub const FREE_SLOT: u8 = 11;
 
-pub const NEWER: u8 = 12;
+pub const QUEUED_SLOT: u8 = 12;
 
-pub const POOL_LENGTH: u8 = 13;
+pub const OLDER: u8 = 13;
 
-pub const POOL_SLOT: u8 = 14;
+pub const NEWER: u8 = 14;
 
-pub const REGISTER: u8 = 15;
+pub const POOL_LENGTH: u8 = 15;
 
-pub const SLOT: u8 = 16;
+pub const POOL_SLOT: u8 = 16;
 
-pub const READ: u8 = 17;
+pub const REGISTER: u8 = 17;
 
-pub const HAND: u8 = 18;
+pub const SLOT: u8 = 18;
 
-pub const HAND_SLOT: u8 = 19;
+pub const READ: u8 = 19;
 
-pub const KINDS: u8 = 20;
+pub const HAND: u8 = 20;
+
+pub const HAND_SLOT: u8 = 21;
+
+pub const KINDS: u8 = 22;
 
 // The sizes and counts of a memory, N - V, the most ranges of a local pool, of a queued one and of a list in hand, and an idle worker.
 pub struct Sizes {
@@ -57,6 +63,7 @@ pub struct Sizes {
     pub n: usize,
     pub free: usize,
     pub pools: usize,
+    pub from: usize,
     pub queued: usize,
     pub rest: usize,
     pub local: usize,
@@ -76,6 +83,8 @@ pub fn past(kind: u8, z: Sizes) -> usize {
         QUEUED => z.rest,
         LENGTH => z.pool,
         ONE_POOL => z.pool,
+        FIRST => z.from,
+        FROM => 2048,
         POOL_LENGTH => z.local,
         READ => z.p,
         HAND => z.list,
@@ -88,7 +97,7 @@ pub fn past(kind: u8, z: Sizes) -> usize {
 // Whether the largest value in range does not make another number fall outside its own.
 pub fn is_alone(kind: u8) -> bool {
     match kind {
-        REGISTERS | POOLS | QUEUED | LENGTH => false,
+        REGISTERS | POOLS | QUEUED | LENGTH | FIRST => false,
         _ => true,
     }
 }
@@ -264,12 +273,16 @@ fn hub_with(h: Hub, kind: u8, w: usize, i: usize, x: usize) -> Hub {
     hub.v = pick(kind == REGISTERS, x, hub.v);
     hub.n = pick(kind == SLOTS, x, hub.n);
     hub.free = pick(kind == FREE, x, hub.free);
-    hub.pools = pick(kind == POOLS, x, hub.pools);
-    hub.pools = pick(kind == ONE_POOL, 1, hub.pools);
-    hub.queued = pick((kind == QUEUED) | (kind == ONE_POOL), x, hub.queued);
     let old = hub.workers[w % 16];
     hub.workers[w % 16] = worker_with(old, kind, i, x);
-    hub
+    let q = hub.window;
+    let window = Window {
+        first: pick(kind == FIRST, x, q.first),
+        pools: pick(kind == ONE_POOL, 1, pick(kind == POOLS, x, q.pools)),
+        from: pick(kind == FROM, x, q.from),
+        queued: pick((kind == QUEUED) | (kind == ONE_POOL), x, q.queued),
+    };
+    Hub { window, ..hub }
 }
 
 fn newest_with(l: [u16; 256], yes: bool, i: usize, x: usize) -> [u16; 256] {
@@ -288,18 +301,18 @@ fn free_with(l: [u16; 2048], yes: bool, i: usize, x: usize) -> [u16; 2048] {
     k
 }
 
-fn queue_with(l: [u32; 6144], yes: bool, i: usize, x: usize) -> [u32; 6144] {
+fn queue_with(l: [u32; 12288], yes: bool, i: usize, x: usize) -> [u32; 12288] {
     let mut k = l;
     if yes {
-        k[3 * (i % 2048)] = (x % 65536) as u32;
+        k[3 * (i % 4096)] = (x % 65536) as u32;
     }
     k
 }
 
-fn lens_with(l: [u32; 2048], yes: bool, i: usize, x: usize) -> [u32; 2048] {
+fn lens_with(l: [u32; 4096], yes: bool, i: usize, x: usize) -> [u32; 4096] {
     let mut k = l;
     if yes {
-        k[i % 2048] = (x % 65536) as u32;
+        k[i % 4096] = (x % 65536) as u32;
     }
     k
 }
@@ -336,8 +349,11 @@ pub fn memory_with(m: Memory, kind: u8, w: usize, i: usize, x: usize) -> Memory 
     let slots = slots_with(row, kind, i, x);
     let newest = newest_with(a, kind == NEWEST, i, x);
     let free = free_with(b, kind == FREE_SLOT, i, x);
-    let queue = queue_with(c, kind == QUEUED_SLOT, i, x);
-    let lens = lens_with(d, (kind == LENGTH) | (kind == ONE_POOL), i, x);
+    let q = h.window;
+    let at = std::num::wrapping_add_usize(q.from, i);
+    let queue = queue_with(c, kind == QUEUED_SLOT, at, x);
+    let at = std::num::wrapping_add_usize(q.first, i);
+    let lens = lens_with(d, (kind == LENGTH) | (kind == ONE_POOL), at, x);
     let merged = merged_with(e, kind == HAND_SLOT, w, i, x);
     Memory {
         hub,

@@ -9,8 +9,8 @@ pub struct Memory {
     pub slots: [Slot; 2048],
     pub newest: [u16; 256],
     pub free: [u16; 2048],
-    pub queue: [u32; 6144],
-    pub lens: [u32; 2048],
+    pub queue: [u32; 12288],
+    pub lens: [u32; 4096],
     pub merged: [u32; 12288],
 }
 
@@ -95,8 +95,8 @@ pub fn set_up(p: u8, v: u8, n: u8) -> Memory {
         slots: [none; 2048],
         newest: [0u16; 256],
         free: [0u16; 2048],
-        queue: [0u32; 6144],
-        lens: [0u32; 2048],
+        queue: [0u32; 12288],
+        lens: [0u32; 4096],
         merged: [0u32; 12288],
     };
     let rec = [0, p, v, 0, n, 0, 0, 0, 1, 0, 0, 0, 0, 0, 0, 0];

@@ -44,8 +44,8 @@ pub fn run_one(
     rec: &[u8],
     newest: &mut [u16; 256],
     free: &mut [u16; 2048],
-    queue: &mut [u32; 6144],
-    lens: &mut [u32; 2048],
+    queue: &mut [u32; 12288],
+    lens: &mut [u32; 4096],
     merged: &mut [u32; 12288],
 ) -> Applied
     requires { ⌜ n ≤ length (now row) ⌝ }
@@ -113,8 +113,8 @@ pub fn run_all(
     numbers: &mut [u64],
     newest: &mut [u16; 256],
     free: &mut [u16; 2048],
-    queue: &mut [u32; 6144],
-    lens: &mut [u32; 2048],
+    queue: &mut [u32; 12288],
+    lens: &mut [u32; 4096],
     merged: &mut [u32; 12288],
 ) -> Counted
     requires { ⌜ n ≤ length (now row) ⌝ }

@@ -20,7 +20,7 @@ use Rattle.model.specs.Answer.{Ok, Applied}
 use Rattle.model.specs.Record.{SetUp, Begin, Step, Decoded, Asks, Refuses, decode}
 use Rattle.model.specs.Apply.{inRanges, fresh, setUp, obey, applyDecoded, apply, hubAfter}
 use Rattle.model.specs.Demand.{All, events, Exchange}
-use Rattle.model.proofs.Basic.{cond-both}
+use Rattle.model.proofs.Basic.{cond-both, All-map}
 use Rattle.model.proofs.Setup.{accepts}
 use Rattle.values.specs.declared.Answer.{Answer}
 use Rattle.values.specs.Meaning.{answerOf}
@@ -28,10 +28,14 @@ use Rattle.worker.specs.Rep.{workerRep}
 use Rattle.slots.specs.Slots.{slotRep}
 use Rattle.ranges.specs.Words.{flat}
 use Rattle.ranges.proofs.WordLaws.{length-flat}
+use Rattle.queue.specs.State.{Begins}
 use Rattle.queue.specs.Rep.{joinedRanges}
-use Rattle.queue.proofs.MemoryLaws.{over-again}
-use Rattle.simulation.specs.Memory.{Memory, inHandWords, mergedOver, write, writeHub}
+use Rattle.queue.proofs.MemoryLaws.{over-again, overAt-again, length-overAt}
+use Rattle.queue.proofs.Rep.{words-inside, lengths-inside, begins-after}
+use Rattle.simulation.specs.Memory.{Memory, inHandWords, mergedOver, write, beginAt, nextWindow, writeHub}
 use Rattle.simulation.specs.Left.{LeftByRecords, Left, Sized}
+use Rattle.simulation.specs.Shell.{queueIn}
+use Rattle.simulation.proofs.FlushQueue.{queue-sized}
 use Rattle.simulation.specs.Holds.{Holds, memoryAfter, AsModel}
 use Rattle.simulation.specs.Public.{exchangeOf}
 use Rattle.simulation.proofs.Sound.{Sound, sound, left-next}
@@ -82,7 +86,7 @@ all-from Q (x ∷ l) z f = (f 0 (omega arith), all-from Q l z (λ i h. f (suc i)
 ------------------------------------------------------------------------
 -- A sound store
 
-module _ (s : Store) (S : Sound s) (m : Memory) (Z : Sized m) where
+module _ (s : Store) (S : Sound s) (m : Memory) (Z : Sized m) (B : Begins (m .hub .window)) where
   hands : HandsFit (s .workers)
   hands =
       all-from (λ x. length (inHandWords (x .doing)) ≤ 768) (s .workers) startWorker
@@ -98,8 +102,8 @@ module _ (s : Store) (S : Sound s) (m : Memory) (Z : Sized m) where
       (sym (over-again (map slotRep (s .slots)) (m .slots)))
       (sym (over-again (s .newest) (m .newest)))
       (sym (over-again (reverse (s .free)) (m .free)))
-      (sym (over-again (flat (joinedRanges (s .queue))) (m .queue)))
-      (sym (over-again (map length (s .queue)) (m .lens)))
+      (sym (overAt-again (3 * m .hub .window .from) (flat (joinedRanges (s .queue))) (m .queue) (words-inside (queueIn m) (queue-sized m Z) B)))
+      (sym (overAt-again (m .hub .window .first) (map length (s .queue)) (m .lens) (lengths-inside (queueIn m) (queue-sized m Z) B)))
       (merged-again (s .workers) (m .merged) room hands)
 
   -- and the arrays keep their lengths
@@ -122,12 +126,12 @@ module _ (s : Store) (S : Sound s) (m : Memory) (Z : Sized m) where
             (omega (arith, Z .free, length-reverse (s .free), S .bounds .total, S .bounds .slots .1))
             ∙ Z .free;
         queue =
-            length-over (flat (joinedRanges (s .queue))) (m .queue)
-            (omega (arith, Z .queue, length-flat (joinedRanges (s .queue)), length-joined (s .queue), S .bounds .total, S .bounds .slots .1))
+            length-overAt (3 * m .hub .window .from) (flat (joinedRanges (s .queue))) (m .queue)
+            (omega (arith, B .from, Z .queue, length-flat (joinedRanges (s .queue)), length-joined (s .queue), S .bounds .total, S .bounds .slots .1))
             ∙ Z .queue;
         lens =
-            length-over (map length (s .queue)) (m .lens)
-            (omega (arith, Z .lens, length-map (s .queue) length, S .bounds .pools, S .bounds .slots .1))
+            length-overAt (m .hub .window .first) (map length (s .queue)) (m .lens)
+            (omega (arith, B .first, B .from, Z .lens, length-map (s .queue) length, S .bounds .pools, S .bounds .slots .1))
             ∙ Z .lens;
         merged = merged-length (s .workers) (m .merged) room hands ∙ Z .merged;
       }
@@ -176,29 +180,38 @@ hub-next row h b (inr (s, e, L)) = inr (subst (λ (k : Model.Hub). LeftHub (appl
 -- The memory that a record leaves
 
 module _ (m m′ : Memory) (Z : Sized m) where
-  -- over m the hub h was written
-  written : (h : Model.Hub) → LeftHub h → m′ ≡ writeHub h m → Holds h m′ × Sized m′
-  written h (t, e, L) is =
+  -- over m, which held the hub h₀, the hub h was written, in a window that begins well
+  written : (h₀ h : Model.Hub) → ((t : Store) → Begins (nextWindow h₀ t (m .hub .window))) → LeftHub h → m′ ≡ writeHub h₀ h m
+      → Holds h m′ × Sized m′
+  written h₀ h B (t, e, L) is =
+      let x : Memory = beginAt m (nextWindow h₀ t (m .hub .window)) in
+      let Z′ : Sized x =
+      record { workers = Z .workers; newest = Z .newest; free = Z .free; queue = Z .queue; lens = Z .lens; merged = Z .merged } in
       subst (λ (k : Model.Hub). Holds k m′ × Sized m′) (sym e)
-      (subst (λ (x : Memory). Left t x × Sized x) (sym (is ∙ ap (λ (k : Model.Hub). writeHub k m) e))
-      (record { store = L; laid = written-lies t (sound L) m Z }, written-sized t (sound L) m Z))
+      (subst (λ (x : Memory). Left t x × Sized x) (sym (is ∙ ap (λ (k : Model.Hub). writeHub h₀ k m) e)) (
+        record { store = L; begins = record { first = B t .first; from = B t .from }; laid = written-lies t (sound L) x Z′ (B t) },
+        written-sized t (sound L) x Z′ (B t),
+      ))
 
   -- it is not set up: the memory is as it was
-  unwritten : (row : List Model.Slot) (h : Model.Hub) → Holds (blank row) m → h ≡ blank row → m′ ≡ writeHub h m → Holds h m′ × Sized m′
+  unwritten : (row : List Model.Slot) (h : Model.Hub) → Holds (blank row) m → h ≡ blank row → m′ ≡ writeHub (blank row) h m → Holds h m′ × Sized m′
   unwritten row h H e is =
       subst (λ (k : Model.Hub). Holds k m′ × Sized m′) (sym e)
-      (subst (λ (x : Memory). Holds (blank row) x × Sized x) (sym (is ∙ ap (λ (k : Model.Hub). writeHub k m) e)) (H, Z))
+      (subst (λ (x : Memory). Holds (blank row) x × Sized x) (sym (is ∙ ap (λ (k : Model.Hub). writeHub (blank row) k m) e)) (H, Z))
 
   -- whatever hub the memory held
-  pub holds-written : (h : Model.Hub) (b : List ℕ) → Holds h m → m′ ≡ writeHub (apply inForce h b .hub) m
+  pub holds-written : (h : Model.Hub) (b : List ℕ) → Holds h m → m′ ≡ writeHub h (apply inForce h b .hub) m
       → Holds (apply inForce h b .hub) m′ × Sized m′
   holds-written (blank row) b H is =
-      ⊎-elim (λ e. unwritten row (apply inForce (blank row) b .hub) H e is) (λ L. written (apply inForce (blank row) b .hub) L is) (blank-next row b)
-  holds-written (up s) b L is = written (apply inForce (up s) b .hub) (left-next (L .store) b) is
+      ⊎-elim (λ e. unwritten row (apply inForce (blank row) b .hub) H e is) (λ L. written (blank row) (apply inForce (blank row) b .hub) (λ t. record { first = omega arith; from = omega arith }) L is) (blank-next row b)
+  holds-written (up s) b L is =
+      let some = All-map (λ l a. a .0) (s .queue) (sound (L .store) .bounds .queued) in
+      written (up s) (apply inForce (up s) b .hub) (λ t. begins-after (s .queue) (t .queue) (m .hub .window) some (L .begins))
+      (left-next (L .store) b) is
 
   -- so what a record leaves and answers is as the model has it
   pub as-model : (h : Model.Hub) (b : List ℕ) (y : Answer) → Holds h m
-      → m′ ≡ writeHub (apply inForce h b .hub) m → answerOf y ≡ apply inForce h b .answer → AsModel h m (exchangeOf b y ∷ []) m′
+      → m′ ≡ writeHub h (apply inForce h b .hub) m → answerOf y ≡ apply inForce h b .answer → AsModel h m (exchangeOf b y ∷ []) m′
   unfolding events hubAfter memoryAfter
   as-model h b y L is a =
       record { answers = λ i. record { bytes = b; answer = a i } ∷ []; holds = holds-written h b L is .0; memory = is }
@@ -209,7 +222,7 @@ module _ {h : Model.Hub} {m m′ : Memory} {x : Exchange} (A : AsModel h m (x �
   unfolding events
   one-answer = ap (λ (l : List Exchange). getD l 0 x .answer) (A .answers)
 
-  pub one-memory : m′ ≡ writeHub (apply inForce h (x .bytes) .hub) m
+  pub one-memory : m′ ≡ writeHub h (apply inForce h (x .bytes) .hub) m
   unfolding memoryAfter
   one-memory = A .memory
 

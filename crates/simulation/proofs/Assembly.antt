@@ -6,6 +6,7 @@ use mathlib.Core.List.{List, map}
 use Prim.Native.Nat.{ℕ, _<_}
 use lib.ListN.{length}
 use Rattle.model.specs.Store as Model
+use native.Mathlib.Omega.{arith}
 use Rattle.model.specs.Store.{Store, blank, up, workerAt}
 use Rattle.model.specs.Rules.{inForce}
 use Rattle.model.specs.Answer.{Applied}
@@ -17,7 +18,8 @@ use Rattle.worker.specs.declared.Worker.{Worker}
 use Rattle.worker.specs.Rep.{doingRep}
 use Rattle.slots.specs.Slots.{slotOf}
 use Rattle.state.specs.declared.Hub.{Hub}
-use Rattle.state.specs.State.{workerIn}
+use Rattle.state.specs.State.{emptyWindow, workerIn}
+use Rattle.queue.specs.State.{Begins}
 use Rattle.gate.specs.declared.Gate.{Gate}
 use Rattle.gate.specs.declared.Gate.the-variants.{Refuse, Make, Start, Go}
 use Rattle.gate.specs.Gate.{decodedIn}
@@ -30,7 +32,7 @@ use Rattle.simulation.proofs.Bytes.{Bytes}
 use Rattle.simulation.proofs.Sound.{Sound, sound, left-next}
 use Rattle.simulation.proofs.Ready.{ready-left}
 use Rattle.simulation.proofs.Simulates.{Simulates, stepIn}
-use Rattle.simulation.proofs.Laid.{hub-is, worker-at}
+use Rattle.simulation.proofs.Laid.{hub-is, worker-at, write-kept}
 use Rattle.simulation.proofs.Gates.{gateBy, Means, Stepping, gate-left}
 use Rattle.simulation.proofs.Refuse.{Follows, refused}
 use Rattle.simulation.proofs.Begin.{begun}
@@ -41,17 +43,17 @@ use Rattle.simulation.proofs.Again.{as-model}
 -- each step of the code is the model's step, in a store that records left
 abbrev pub StepsSimulate : Type 0
 StepsSimulate =
-    (s : Store) (m : Memory) (w : ℕ) (d : Model.Doing) → LeftByRecords s → Sound s → Sized m → m ≡ write s m → w < s .site .P
+    (s : Store) (m : Memory) (w : ℕ) (d : Model.Doing) → LeftByRecords s → Sound s → Sized m → Begins (m .hub .window) → m ≡ write s m → w < s .site .P
     → workerAt s w .doing ≡ d → Sound (stepAt s w d .store) → Simulates s m w d
 
 -- what the code leaves and answers on the bytes b is what the model makes of the record, a
-abbrev pub DoneAs : Memory → List ℕ → Applied → Type 0
-DoneAs m b a = (doneOf m b .memory ≡ writeHub (a .hub) m) × (answerOf (doneOf m b .answer) ≡ a .answer)
+abbrev pub DoneAs : Model.Hub → Memory → List ℕ → Applied → Type 0
+DoneAs h m b a = (doneOf m b .memory ≡ writeHub h (a .hub) m) × (answerOf (doneOf m b .answer) ≡ a .answer)
 
 -- enough: the decision, and that what follows it is the model's
-done-by : (m : Memory) (b : List ℕ) (a : Applied) (g : Gate) → gateIn (ready m) m b ≡ g → Follows m g a → DoneAs m b a
+done-by : (h : Model.Hub) (m : Memory) (b : List ℕ) (a : Applied) (g : Gate) → gateIn (ready m) m b ≡ g → Follows h m g a → DoneAs h m b a
 unfolding doneOf doneAs
-done-by m b a g e F =
+done-by h m b a g e F =
     let does : obeyIn m (gateIn (ready m) m b) ≡ obeyIn m g = ap (obeyIn m) e in
     (ap (λ (r : Result). r .memory) does ∙ F .memory, ap (λ (r : Result). answerOf (r .answer)) does ∙ F .answer)
 
@@ -60,10 +62,10 @@ done-by m b a g e F =
 
 module _ (m : Memory) (b : List ℕ) (Z : Sized m) (bytes : Bytes b) (e : ready m ≡ false) where
   -- the code does what the model's hub does that is not set up and whose row is lent
-  pub done-blank : DoneAs m b (apply inForce (blank (map slotOf (m .slots))) b)
+  pub done-blank : DoneAs (blank (map slotOf (m .slots))) m b (apply inForce (blank (map slotOf (m .slots))) b)
   unfolding apply
   done-blank =
-      done-by m b (apply inForce (blank (map slotOf (m .slots))) b) _ (ap (λ (t : Bool). gateIn t m b) e)
+      done-by (blank (map slotOf (m .slots))) m b (apply inForce (blank (map slotOf (m .slots))) b) _ (ap (λ (t : Bool). gateIn t m b) e)
       (follows-blank m Z (decode b) (clock-fits b bytes))
 
 ------------------------------------------------------------------------
@@ -71,7 +73,7 @@ module _ (m : Memory) (b : List ℕ) (Z : Sized m) (bytes : Bytes b) (e : ready 
 
 -- it counts as set up
 pub left-ready : {s : Store} (m : Memory) → Left s m → Sized m → ready m ≡ true
-left-ready m L Z = ready-left m (sound (L .store)) Z (L .laid)
+left-ready m L Z = ready-left m (sound (L .store)) Z (L .begins) (L .laid)
 
 module _ (steps : StepsSimulate) where
   module _ (s : Store) (m : Memory) (b : List ℕ) (L : Left s m) (Z : Sized m) where
@@ -86,7 +88,7 @@ module _ (steps : StepsSimulate) where
     a = apply inForce (up s) b
 
     -- the record's decision, for the store and for the memory
-    gate-is : gateIn (ready m) m b ≡ gateBy (decodedIn b) true (length (m .slots)) (hubRep s)
+    gate-is : gateIn (ready m) m b ≡ gateBy (decodedIn b) true (length (m .slots)) (hubRep s emptyWindow)
     gate-is = λ i. gateBy (decodedIn b) (left-ready m L Z i) (length (m .slots)) (hub-is s m laid i)
 
     -- the next store is sound
@@ -97,7 +99,7 @@ module _ (steps : StepsSimulate) where
         subst Sound same (sound (N .2))
 
     -- a step
-    stepped : (w : ℕ) → Stepping s w a → Follows m (Go w) a
+    stepped : (w : ℕ) → Stepping s w a → Follows (up s) m (Go w) a
     unfolding obeyIn
     stepped w T =
         let d : Model.Doing = workerAt s w .doing in
@@ -105,30 +107,30 @@ module _ (steps : StepsSimulate) where
         ap (λ (h : Hub). workerIn h w .doing) (hub-is s m laid) ∙ ap (λ (x : Worker). x .doing) (worker-at s S w (T .inside) d refl) in
         let does : obeyIn m (Go w) ≡ stepIn m w d = ap (goIn m w (workerIn (m .hub) w)) at in
         let M : Simulates s m w d =
-        steps s m w d (L .store) S Z laid (T .inside) refl (next-sound (stepAt s w d .store) (ap (λ (x : Applied). x .hub) (T .is))) in
+        steps s m w d (L .store) S Z (L .begins) laid (T .inside) refl (next-sound (stepAt s w d .store) (ap (λ (x : Applied). x .hub) (T .is))) in
         record {
-          memory = ap (λ (r : Result). r .memory) does ∙ M .memory ∙ ap (λ (x : Applied). writeHub (x .hub) m) (sym (T .is));
+          memory = ap (λ (r : Result). r .memory) does ∙ M .memory ∙ ap (λ (x : Applied). writeHub (up s) (x .hub) m) (sym (T .is));
           answer = ap (λ (r : Result). answerOf (r .answer)) does ∙ M .answer ∙ ap (λ (x : Applied). x .answer) (sym (T .is));
         }
 
     -- by the decision
-    by-gate : (g : Gate) → Means s g a → Follows m g a
-    by-gate (Refuse k) t = subst (Follows m (Refuse k)) (sym t) (refused (up s) m k laid)
+    by-gate : (g : Gate) → Means s g a → Follows (up s) m g a
+    by-gate (Refuse k) t = subst (Follows (up s) m (Refuse k)) (sym t) (refused (up s) m k (laid ∙ write-kept s s m (omega arith)))
     by-gate (Make p v n k) t = absurd t
     by-gate (Start w d) t =
         let B = t .2 in
-        subst (Follows m (Start w d)) (sym (B .is))
+        subst (Follows (up s) m (Start w d)) (sym (B .is))
         (rw (t .1) (begun s m S Z laid w (B .inside) (B .idle) (t .0)))
     by-gate (Go w) t = stepped w t
 
     -- on memory that records left the code does what the model does
-    pub done-left : DoneAs m b (apply inForce (up s) b)
+    pub done-left : DoneAs (up s) m b (apply inForce (up s) b)
     unfolding apply
-    done-left = done-by m b a _ gate-is (by-gate _ (gate-left s S (decode b) (length (m .slots))))
+    done-left = done-by (up s) m b a _ gate-is (by-gate _ (gate-left s S (decode b) (length (m .slots))))
     -- on memory that holds a hub
 
-  done-as : (h : Model.Hub) (m : Memory) (b : List ℕ) → Holds h m → Sized m → Bytes b → DoneAs m b (apply inForce h b)
-  done-as (blank row) m b (e, r) Z B = subst (λ (l : List Model.Slot). DoneAs m b (apply inForce (blank l) b)) (sym r) (done-blank m b Z B e)
+  done-as : (h : Model.Hub) (m : Memory) (b : List ℕ) → Holds h m → Sized m → Bytes b → DoneAs h m b (apply inForce h b)
+  done-as (blank row) m b (e, r) Z B = subst (λ (l : List Model.Slot). DoneAs (blank l) m b (apply inForce (blank l) b)) (sym r) (done-blank m b Z B e)
   done-as (up s) m b L Z B = done-left s m b L Z
 
   -- the public function's contract

@@ -5,6 +5,7 @@ use mathlib.Core.List.{List, [], _++_}
 use Prim.Native.Nat.{ℕ, _<_}
 use lib.ListN.{replicate}
 use Rattle.model.specs.Store as Model
+use native.Mathlib.Omega.{arith}
 use Rattle.model.specs.Store.{Store, up, workerAt, withDoing, place}
 use Rattle.model.specs.Answer as Answers
 use Rattle.model.specs.Record as Record
@@ -20,7 +21,7 @@ use Rattle.simulation.specs.Memory.{Memory, hubRep, handWords, inHandWor
 use Rattle.simulation.specs.Left.{Sized}
 use Rattle.simulation.specs.Shell.{obeyIn}
 use Rattle.simulation.proofs.Sound.{Sound}
-use Rattle.simulation.proofs.Laid.{memory-path, hub-is, slots-is, newest-is, free-is, queue-is, lens-is, worker-at, worker-put, list-kept}
+use Rattle.simulation.proofs.Laid.{write-kept, memory-path, hub-is, slots-is, newest-is, free-is, queue-is, lens-is, worker-at, worker-put, list-kept}
 use Rattle.simulation.proofs.Refuse.{Follows}
 
 -- an operation begins with no time read and no list in hand
@@ -42,20 +43,21 @@ module _ (s : Store) (m : Memory) (S : Sound s) (Z : Sized m) (laid : m ≡ writ
       ap (λ (l : List ℕ). record { doing = doingRep (terms o .first); announced = x .announced; pool = x .pool; times = l })
       (ap timesRep idle ∙ sym (first-times o))
 
-  begun-hub : withWorkerIn (m .hub) w (atPlace (workerIn (m .hub) w) (doingRep (terms o .first))) ≡ hubRep (place s w (terms o .first))
+  begun-hub : withWorkerIn (m .hub) w (atPlace (workerIn (m .hub) w) (doingRep (terms o .first))) ≡ hubRep (place s w (terms o .first)) (m .hub .window)
   begun-hub =
       ap (λ (h : Hub). withWorkerIn h w (atPlace (workerIn h w) (doingRep (terms o .first)))) (hub-is s m laid)
-      ∙ ap (λ (x : Worker). withWorkerIn (hubRep s) w (atPlace x (doingRep (terms o .first)))) (worker-at s S w inside (workerAt s w .doing) refl)
-      ∙ ap (withWorkerIn (hubRep s) w) begun-worker
-      ∙ worker-put s S w inside begunWorker
+      ∙ ap (λ (x : Worker). withWorkerIn (hubRep s (m .hub .window)) w (atPlace x (doingRep (terms o .first)))) (worker-at s S w inside (workerAt s w .doing) refl)
+      ∙ ap (withWorkerIn (hubRep s (m .hub .window)) w) begun-worker
+      ∙ worker-put s S w inside (m .hub .window) begunWorker
 
   -- the code begins the operation as the model does
-  pub begun : Follows m (Start w (doingRep (terms o .first))) (record { hub = up (place s w (terms o .first)); answer = Answers.Ok })
+  pub begun : Follows (up s) m (Start w (doingRep (terms o .first))) (record { hub = up (place s w (terms o .first)); answer = Answers.Ok })
   unfolding obeyIn
   begun =
       record {
         memory =
             memory-path begun-hub (slots-is s m laid) (newest-is s m laid) (free-is s m laid) (queue-is s m laid) (lens-is s m laid)
-            (list-kept s S w inside m Z laid Model.Idle begunWorker [] idle (first-hand o));
+            (list-kept s S w inside m Z laid Model.Idle begunWorker [] idle (first-hand o))
+            ∙ write-kept s (place s w (terms o .first)) m (omega arith);
         answer = refl;
       }

@@ -37,7 +37,7 @@ hub-append h (b ∷ l) n = hub-append (applyRuled h b .hub) l n
 memory-append : (h : Hub) (l n : List Ruled) (m : Memory) → memoryAfter h (l ++ n) m ≡ memoryAfter (hubAfter h l) n (memoryAfter h l m)
 unfolding hubAfter memoryAfter
 memory-append h [] n m = refl
-memory-append h (b ∷ l) n m = memory-append (applyRuled h b .hub) l n (writeHub (applyRuled h b .hub) m)
+memory-append h (b ∷ l) n m = memory-append (applyRuled h b .hub) l n (writeHub h (applyRuled h b .hub) m)
 
 abbrev bytesOf : List Exchange → List (List ℕ)
 bytesOf es = map (λ e. e .bytes) es

@@ -25,7 +25,7 @@ use Rattle.slots.specs.declared.Slot.{Slot}
 use Rattle.slots.specs.Slots.{slotRep, slotOf, vacantSlot, linkedAnd, linkedTo}
 use Rattle.state.specs.declared.Hub.{Hub}
 use Rattle.ready.specs.Ready.{sizesFit, readyOf}
-use Rattle.simulation.specs.Memory.{Memory, cut, write, writeHub}
+use Rattle.simulation.specs.Memory.{Memory, cut, write, beginAt, nextWindow, writeHub}
 use Rattle.simulation.specs.Left.{LeftByRecords, Left, Sized, ready}
 use Rattle.simulation.specs.Shell.{doneOf}
 use Rattle.simulation.specs.Holds.{Holds, AsModel}
@@ -104,14 +104,14 @@ left-few L =
     omega (arith, B .1, B .2)
 
 left-cut : {s : Store} (m : Memory) → Left s m → Left s (cut m)
-left-cut {s} m L = record { store = L .store; laid = ap cut (L .laid) ∙ write-cut s (left-few (L .store)) m }
+left-cut {s} m L = record { store = L .store; begins = L .begins; laid = ap cut (L .laid) ∙ write-cut s (left-few (L .store)) m }
 
 ------------------------------------------------------------------------
 -- A hub that is not set up, whose row is lent
 
 -- what the model makes of a record in two ways: the same is written over memory m and answered, and the slots are few
-record Alike (m : Memory) (a a′ : Applied) : Type 0 where
-  memory : writeHub (a .hub) m ≡ writeHub (a′ .hub) m
+record Alike (m : Memory) (h h′ : Model.Hub) (a a′ : Applied) : Type 0 where
+  memory : writeHub h (a .hub) m ≡ writeHub h′ (a′ .hub) m
   answer : a .answer ≡ a′ .answer
   few : FewIn (a′ .hub)
 
@@ -122,17 +122,17 @@ module _ (m : Memory) (l : List Slot) where
   abbrev row′ : List Model.Slot
   row′ = map slotOf (take 2048 l)
 
-  refused-cut : (k : ℕ) → Alike m (refuse (blank row′) k) (refuse (blank row) k)
+  refused-cut : (k : ℕ) → Alike m (blank row′) (blank row) (refuse (blank row′) k) (refuse (blank row) k)
   refused-cut k = record { memory = refl; answer = refl; few = tt }
 
   -- the slots that a setup takes
   made-cut : (z : Sizes) → z .N ≤ 2048 → take (z .N) row′ ≡ take (z .N) row
   made-cut z h = ap (take (z .N)) (map-take slotOf 2048 l) ∙ take-take (z .N) 2048 row h
 
-  set-up-cut : (z : Sizes) → Alike m (setUp inForce (blank row′) z) (setUp inForce (blank row) z)
+  set-up-cut : (z : Sizes) → Alike m (blank row′) (blank row) (setUp inForce (blank row′) z) (setUp inForce (blank row) z)
   unfolding setUp fresh
   set-up-cut z =
-      both (Alike m) (inRanges z && leb (z .N) (length row′)) (inRanges z && leb (z .N) (length row)) _ _ _ _
+      both (Alike m (blank row′) (blank row)) (inRanges z && leb (z .N) (length row′)) (inRanges z && leb (z .N) (length row)) _ _ _ _
       (and-same (inRanges z) _ _ (λ e. rw (map-take slotOf 2048 l) (long-cut (z .N) row (in-ranges z e .N≤2048))))
       (λ e. let h : z .N ≤ 2048 = in-ranges z (and-both (inRanges z) (leb (z .N) (length row)) e .0) .N≤2048 in
       record {
@@ -142,14 +142,14 @@ module _ (m : Memory) (l : List Slot) where
       })
       (λ e. refused-cut 5)
 
-  decoded-cut : (r : Decoded) → Alike m (applyDecoded inForce (blank row′) r) (applyDecoded inForce (blank row) r)
+  decoded-cut : (r : Decoded) → Alike m (blank row′) (blank row) (applyDecoded inForce (blank row′) r) (applyDecoded inForce (blank row) r)
   unfolding applyDecoded obey
   decoded-cut (Asks (SetUp z)) = set-up-cut z
   decoded-cut (Asks (Begin w o)) = refused-cut 8
   decoded-cut (Asks (Step w)) = refused-cut 8
   decoded-cut (Refuses k) = refused-cut k
 
-  apply-cut : (b : List ℕ) → Alike m (apply inForce (blank row′) b) (apply inForce (blank row) b)
+  apply-cut : (b : List ℕ) → Alike m (blank row′) (blank row) (apply inForce (blank row′) b) (apply inForce (blank row) b)
   unfolding apply
   apply-cut b = decoded-cut (decode b)
 
@@ -165,9 +165,11 @@ module _ (m m′ : Memory) (rest : drop 2048 (m′ .slots) ≡ drop 2048 (m .slo
       (ap (λ (z : Memory). z .newest) e) (ap (λ (z : Memory). z .free) e) (ap (λ (z : Memory). z .queue) e) (ap (λ (z : Memory). z .lens) e)
       (ap (λ (z : Memory). z .merged) e)
 
-  written : (h : Model.Hub) → FewIn h → cut m′ ≡ writeHub h (cut m) → m′ ≡ writeHub h m
-  written (blank row) f e = whole m refl e
-  written (up s) f e = whole (write s m) (write-rest s f m) (e ∙ sym (write-cut s f m))
+  written : (h₀ h : Model.Hub) → FewIn h → cut m′ ≡ writeHub h₀ h (cut m) → m′ ≡ writeHub h₀ h m
+  written h₀ (blank row) f e = whole m refl e
+  written h₀ (up s) f e =
+      let x : Memory = beginAt m (nextWindow h₀ s (m .hub .window)) in
+      whole (write s x) (write-rest s f x) (e ∙ sym (write-cut s f x))
 
   takes-cut : (t : Bool) (d : Decoded) → takesStepIn t (cut m) d ≡ takesStepIn t m d
   unfolding takesStepIn
@@ -215,14 +217,14 @@ module _ (m m′ : Memory) (rest : drop 2048 (m′ .slots) ≡ drop 2048 (m .slo
         let h : Model.Hub = blank (row (cut m) (m .slots)) in
         let A = D .asModel (blank (row′ (cut m) (m .slots))) (ready-cut m ∙ e, refl) in
         let L = apply-cut (cut m) (m .slots) b in
-        as-model m m′ Z h b y (e, refl) (written (apply inForce h b .hub) (L .few) (one-memory A ∙ L .memory)) (one-answer A ∙ L .answer)
+        as-model m m′ Z h b y (e, refl) (written h (apply inForce h b .hub) (L .few) (one-memory A ∙ L .memory)) (one-answer A ∙ L .answer)
 
     as-model-cut : (h : Model.Hub) → Holds h m → AsModel h m (exchangeOf b y ∷ []) m′
     as-model-cut (up s) L =
         let A = D .asModel (up s) (left-cut m L) in
         let N = left-next (L .store) b in
         let f : FewIn (apply inForce (up s) b .hub) = subst FewIn (sym (N .1)) (left-few (N .2)) in
-        as-model m m′ Z (up s) b y L (written (apply inForce (up s) b .hub) f (one-memory A)) (one-answer A)
+        as-model m m′ Z (up s) b y L (written (up s) (apply inForce (up s) b .hub) f (one-memory A)) (one-answer A)
     as-model-cut (blank l) H =
         subst (λ (q : List Model.Slot). AsModel (blank q) m (exchangeOf b y ∷ []) m′) (sym (H .1)) (blank-as-model-cut (H .0))
 
@@ -251,11 +253,11 @@ module _ (m m′ : Memory) (b : List ℕ) (y : Answer) (Z : Sized m) (D : Does m
   left-uncut : {s : Store} → Left s (cut m) → Left s m
   left-uncut {s} L =
       let few = left-few (L .store) in
-      record { store = L .store; laid = whole m m refl (write s m) (write-rest s few m) (L .laid ∙ sym (write-cut s few m)) }
+      record { store = L .store; begins = L .begins; laid = whole m m refl (write s m) (write-rest s few m) (L .laid ∙ sym (write-cut s few m)) }
 
-  cut-written : (h : Model.Hub) → FewIn h → m′ ≡ writeHub h m → cut m′ ≡ writeHub h (cut m)
-  cut-written (blank row) f e = ap cut e
-  cut-written (up s) f e = ap cut e ∙ write-cut s f m
+  cut-written : (h₀ h : Model.Hub) → FewIn h → m′ ≡ writeHub h₀ h m → cut m′ ≡ writeHub h₀ h (cut m)
+  cut-written h₀ (blank row) f e = ap cut e
+  cut-written h₀ (up s) f e = ap cut e ∙ write-cut s f (beginAt m (nextWindow h₀ s (m .hub .window)))
 
   blank-uncut : ready (cut m) ≡ false → AsModel (blank (map slotOf (take 2048 (m .slots)))) (cut m) (exchangeOf b y ∷ []) (cut m′)
   blank-uncut e =
@@ -263,7 +265,7 @@ module _ (m m′ : Memory) (b : List ℕ) (y : Answer) (Z : Sized m) (D : Does m
       let L = apply-cut (cut m) (m .slots) b in
       let a : Applied = apply inForce (blank (row (cut m) (m .slots))) b in
       as-model (cut m) (cut m′) (sized-cut m Z) (blank (row′ (cut m) (m .slots))) b y (e, refl)
-      (cut-written (a .hub) (L .few) (one-memory A) ∙ sym (L .memory)) (one-answer A ∙ sym (L .answer))
+      (cut-written (blank (row (cut m) (m .slots))) (a .hub) (L .few) (one-memory A) ∙ sym (L .memory)) (one-answer A ∙ sym (L .answer))
 
   as-model-uncut : (h : Model.Hub) → Holds h (cut m) → AsModel h (cut m) (exchangeOf b y ∷ []) (cut m′)
   as-model-uncut (blank l) H =
@@ -272,7 +274,7 @@ module _ (m m′ : Memory) (b : List ℕ) (y : Answer) (Z : Sized m) (D : Does m
       let A = D .asModel (up s) (left-uncut L) in
       let N = left-next (L .store) b in
       let f : FewIn (apply inForce (up s) b .hub) = subst FewIn (sym (N .1)) (left-few (N .2)) in
-      as-model (cut m) (cut m′) (sized-cut m Z) (up s) b y L (cut-written (apply inForce (up s) b .hub) f (one-memory A)) (one-answer A)
+      as-model (cut m) (cut m′) (sized-cut m Z) (up s) b y L (cut-written (up s) (apply inForce (up s) b .hub) f (one-memory A)) (one-answer A)
 
   ends-uncut : (t : Bool) (d : Decoded) (k : Option ℕ) → EndsBy t m d k m′ → EndsBy t (cut m) d k (cut m′)
   ends-uncut t d none E = tt

@@ -24,7 +24,7 @@ use Rattle.worker.specs.declared.Doing.the-variants as D
 use Rattle.ranges.specs.Words.{flat}
 use Rattle.ranges.proofs.WordLaws.{length-flat, flat-snoc, range-in}
 use Rattle.state.specs.declared.Hub.{Hub}
-use Rattle.state.specs.State.{atPlace, withWorkersIn, withFreeIn}
+use Rattle.state.specs.State.{emptyWindow, atPlace, withWorkersIn, withFreeIn}
 use Rattle.step.specs.declared.Next.the-variants.{Free}
 use Rattle.step.specs.Step.{stepOf}
 use Rattle.flush.specs.Flush.{partOf}
@@ -35,7 +35,7 @@ use Rattle.simulation.specs.Shell.{offWorker, freedIn, nextIn, goIn}
 use Rattle.simulation.proofs.Laws.{free-push, merged-map}
 use Rattle.simulation.proofs.Sound.{Sound, Apart, PlaceIn}
 use Rattle.simulation.proofs.Simulates.{Simulates, recordAt, simulated}
-use Rattle.simulation.proofs.Laid.{cond-yes, cond-no, memory-path, hub-is, slots-is, newest-is, free-is, queue-is, lens-is, slot-is}
+use Rattle.simulation.proofs.Laid.{write-kept, cond-yes, cond-no, memory-path, hub-is, slots-is, newest-is, free-is, queue-is, lens-is, slot-is}
 use Rattle.simulation.proofs.Laid.{place-at, worker-put, list-is, list-kept}
 use Rattle.simulation.proofs.Rows.{unlinked-row}
 use Rattle.simulation.proofs.FlushReaders.{Placed, off-list, off-records}
@@ -160,11 +160,11 @@ module _ (s : Store) (m : Memory) (w : ℕ) (ρ : Range) (l : List Range) (S : S
   abbrev movedIn : ℕ → ℕ → Hub → ℕ → List Worker
   movedIn i j h k = map (offWorker i j) (set (h .workers) w (atPlace (recordAt s w d) (D.FlushFree k)))
 
-  workers-left : movedIn (short freed) (short (slotAtIn (m .slots) freed .older)) (m .hub) (n - 1) ≡ hubRep left .workers
+  workers-left : movedIn (short freed) (short (slotAtIn (m .slots) freed .older)) (m .hub) (n - 1) ≡ hubRep left emptyWindow .workers
   workers-left =
       let less : n - 1 ≡ length l = omega arith in
       (λ i. movedIn (short-is i) (older-is i) (hub-is s m laid i) (less i))
-      ∙ ap (λ (h : Hub). map (offWorker c (short o)) (h .workers)) (worker-put s S w wb went)
+      ∙ ap (λ (h : Hub). map (offWorker c (short o)) (h .workers)) (worker-put s S w wb (m .hub .window) went)
       ∙ off-records left c o small ws placed
 
   pub freed-sim : Simulates s m w d
@@ -174,5 +174,5 @@ module _ (s : Store) (m : Memory) (w : ℕ) (ρ : Range) (l : List Range) (S : S
       simulated s m w d S laid wb e _ _ stepped
       (ap (nextIn m w (recordAt s w d)) (cond-no (eqb n 0) _ (Free n) some))
       (memory-path (λ i. withFreeIn (withWorkersIn (hub-is s m laid i) (workers-left i)) (count-left i))
-      slots-left (newest-is s m laid) free-left (queue-is s m laid) (lens-is s m laid) merged-left)
+      slots-left (newest-is s m laid) free-left (queue-is s m laid) (lens-is s m laid) merged-left ∙ write-kept s left m (omega arith))
       (ap Model·Answer.Freed short-is)

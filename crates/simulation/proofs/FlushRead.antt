@@ -8,6 +8,7 @@ use Rattle.model.specs.Store as Model
 use Rattle.model.specs.Store.{Store, Range, workerAt, holders}
 use Rattle.model.specs.Steps.{stepAt}
 use Rattle.model.proofs.Basic.{lt-cases}
+use Rattle.queue.specs.State.{Begins}
 use Rattle.simulation.specs.Memory.{Memory, write}
 use Rattle.simulation.specs.Left.{Sized}
 use Rattle.simulation.proofs.Sound.{Sound}
@@ -15,7 +16,7 @@ use Rattle.simulation.proofs.Simulates.{Simulates}
 use Rattle.simulation.proofs.FlushReadTime.{read-time-sim}
 use Rattle.simulation.proofs.FlushSplit.{split-sim}
 
-pub flush-read-sim : (s : Store) (m : Memory) (w : ℕ) (l : List Range) (ts : List ℕ) → Sound s → Sized m → m ≡ write s m → w < s .site .P
+pub flush-read-sim : (s : Store) (m : Memory) (w : ℕ) (l : List Range) (ts : List ℕ) → Sound s → Sized m → Begins (m .hub .window) → m ≡ write s m → w < s .site .P
     → workerAt s w .doing ≡ Model.FlushRead l ts → Sound (stepAt s w (Model.FlushRead l ts) .store) → Simulates s m w (Model.FlushRead l ts)
-flush-read-sim s m w l ts S Z laid wb e next =
-    ⊎-elim (λ h. read-time-sim s m w l ts S Z laid wb e (h .0)) (λ h. split-sim s m w l ts S Z laid wb e (h .0)) (lt-cases (length ts) (holders s))
+flush-read-sim s m w l ts S Z B laid wb e next =
+    ⊎-elim (λ h. read-time-sim s m w l ts S Z laid wb e (h .0)) (λ h. split-sim s m w l ts S Z B laid wb e (h .0)) (lt-cases (length ts) (holders s))

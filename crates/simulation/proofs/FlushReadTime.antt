@@ -30,7 +30,7 @@ use Rattle.simulation.proofs.Laws.{worker-in}
 use Rattle.simulation.proofs.Sound.{Sound}
 use Rattle.simulation.proofs.Simulates.{Simulates, recordAt}
 use Rattle.simulation.proofs.Laid.{cond-yes, hub-is, list-kept}
-use Rattle.simulation.proofs.FlushQueue.{queue-held}
+use Rattle.simulation.proofs.FlushQueue.{queue-held, queue-kept}
 use Rattle.simulation.proofs.Moved.{moved-sim}
 
 -- an announced time, and none, is read from memory
@@ -92,4 +92,4 @@ module _ (s : Store) (m : Memory) (w : ℕ) (l : List Range) (ts : List ℕ) (S 
       let test : ltb k (m .hub .p) ≡ true = ap (λ (h : Hub). ltb k (h .p)) (hub-is s m laid) ∙ lt-ltb k (s .site .P) more in
       moved-sim s m w S laid wb d e after (s .queue) Going _ (queueIn m) (m .merged) stepped
       (ap (nextIn m w (recordAt s w d)) (cond-yes (ltb k (m .hub .p)) (Read (length l) k) (Split (length l)) test))
-      (λ i. recordOf (sym (length-append ts (time ∷ [])) i) (times-are i)) (queue-held s m laid) kept
+      (λ i. recordOf (sym (length-append ts (time ∷ [])) i) (times-are i)) (queue-kept s m (s .queue) (queueIn m) (omega arith) (queue-held s m laid)) kept

@@ -18,9 +18,9 @@ use Rattle.worker.proofs.Ranges.{ranges-rep}
 use Rattle.ranges.specs.Words.{rangesAt, flat}
 use Rattle.ranges.proofs.WordLaws.{length-flat}
 use Rattle.ranges.proofs.MergeLaws.{merge-nil, length-merge}
-use Rattle.queue.specs.State.{Queue, pushed}
+use Rattle.queue.specs.State.{Queue, Begins, pushed}
 use Rattle.queue.specs.Rep.{joinedRanges, queueRep}
-use Rattle.queue.proofs.Rep.{flat-append, joined-append, rangesAt-over, push-rep-over, push-queued}
+use Rattle.queue.proofs.Rep.{Sized, flat-append, joined-append, rangesAt-over, push-rep-over, push-queued}
 use Rattle.splitting.specs.Splitting.{poolWords, requeued}
 
 -- one pool more
@@ -54,7 +54,7 @@ words-all : (y : List Range) (d : List ℕ) → take (3 * length y) (over (flat 
 words-all y d = take-over (flat y) d (3 * length y) (length-flat y)
 
 -- of a queue that holds the pools ps: the local pool p, the needed ranges y
-module _ (ps : List (List Range)) (q : Queue) (p y : List Range) (b : ℕ) (size : length (q .lens) ≡ 2048) (poolsIn : q ≡ queueRep ps q)
+module _ (ps : List (List Range)) (q : Queue) (p y : List Range) (b : ℕ) (size : Sized q) (begins : Begins (q .window)) (poolsIn : q ≡ queueRep ps q)
     (some : length ps ≤ length (joinedRanges ps)) (pos : 1 ≤ b) (few : length p ≤ 64)
     (room : length (joinedRanges ps) + length y + length p < 2048) where
   abbrev words : List ℕ
@@ -72,7 +72,7 @@ module _ (ps : List (List Range)) (q : Queue) (p y : List Range) (b : ℕ) (size
   -- the local pool last
   local : (qs : List (List Range)) (r : Queue) → r ≡ queueRep qs q → length qs < 2048 → length (joinedRanges qs) + length p ≤ 2048
       → pushed r own (length p) ≡ queueRep (qs ++ queuedPool p) q
-  local qs r e h k = push-queued qs q r own p size e (ap (take (3 * length p)) own-is ∙ words-all p (replicate 192 0)) h k
+  local qs r e h k = push-queued qs q r own p size begins e (ap (take (3 * length p)) own-is ∙ words-all p (replicate 192 0)) h k
 
   ----------------------------------------------------------------------
   -- The three cases
@@ -92,9 +92,9 @@ module _ (ps : List (List Range)) (q : Queue) (p y : List Range) (b : ℕ) (size
       let jr = joined-more qs (drop half y) in
       let lq = length-append ps (take half y ∷ []) in
       let lr = length-append qs (drop half y ∷ []) in
-      let first = push-rep-over ps q q words half (take half y) size poolsIn t (words-first y z half n) (omega arith) (omega arith) (omega arith) in
+      let first = push-rep-over ps q q words half (take half y) size begins poolsIn t (words-first y z half n) (omega arith) (omega arith) (omega arith) in
       let second =
-      push-rep-over qs q (pushed q words half) (drop (3 * half) words) (length y - half) (drop half y) size first u
+      push-rep-over qs q (pushed q words half) (drop (3 * half) words) (length y - half) (drop half y) size begins first u
       (words-others y z half n) (omega arith) (omega arith) (omega arith) in
       local rs _ second (omega arith) (omega arith)
 
@@ -106,7 +106,7 @@ module _ (ps : List (List Range)) (q : Queue) (p y : List Range) (b : ℕ) (size
       let qs : List (List Range) = ps ++ (y ∷ []) in
       let jq = joined-more ps y in
       let lq = length-append ps (y ∷ []) in
-      let first = push-rep-over ps q q words (length y) y size poolsIn refl (words-all y (replicate 768 0)) (omega arith) (omega arith) (omega arith) in
+      let first = push-rep-over ps q q words (length y) y size begins poolsIn refl (words-all y (replicate 768 0)) (omega arith) (omega arith) (omega arith) in
       local qs _ first (omega arith) (omega arith)
 
   abbrev joined : Queue
@@ -119,7 +119,7 @@ module _ (ps : List (List Range)) (q : Queue) (p y : List Range) (b : ℕ) (size
       let a : rangesAt own 0 (length p) ≡ p = ap (λ (z : List ℕ). rangesAt z 0 (length p)) own-is ∙ rangesAt-over p (replicate 192 0) in
       let c : rangesAt words 0 (length y) ≡ y = rangesAt-over y (replicate 768 0) in
       (λ i. pushed q (over (flat (merge (a i) (c i))) (replicate 960 0)) (sym n i))
-      ∙ push-queued ps q q (over (flat l) (replicate 960 0)) l size poolsIn (words-all l (replicate 960 0)) (omega arith) (omega arith)
+      ∙ push-queued ps q q (over (flat l) (replicate 960 0)) l size begins poolsIn (words-all l (replicate 960 0)) (omega arith) (omega arith)
 
   -- by the two tests
   pub requeued-is : requeued q (poolRep p) words (length y) b ≡ queueRep (ps ++ neededPools b y ++ queuedPool (merge p (joining b y))) q

@@ -6,7 +6,7 @@ use mathlib.Core.List.{List, [], _∷_, _++_, reverse}
 use Prim.Native.Nat.{ℕ, suc, _+_, _-_, _*_, _≤_, _<_}
 use native.Mathlib.Omega.{arith}
 use lib.Dec.{ltb}
-use lib.ListN.{length, set, take, replicate, length-reverse}
+use lib.ListN.{length, set, take, replicate, length-reverse, length-append}
 use borrow.Author.Tests.{lt-ltb, le-ltb, le-leb}
 use Rattle.lists.specs.Over.{over}
 use Rattle.lists.proofs.Over.{take-over}
@@ -28,7 +28,7 @@ use Rattle.worker.specs.declared.Doing.the-variants as D
 use Rattle.worker.specs.Rep.{padded, poolRep, announcedRep}
 use Rattle.ranges.specs.Words.{flat, rangesAt}
 use Rattle.ranges.proofs.WordLaws.{length-flat}
-use Rattle.queue.specs.State.{Queue}
+use Rattle.queue.specs.State.{Queue, Begins}
 use Rattle.queue.specs.Rep.{joinedRanges, queueRep}
 use Rattle.queue.proofs.Rep.{rangesAt-over}
 use Rattle.state.specs.declared.Hub.{Hub}
@@ -42,7 +42,7 @@ use Rattle.simulation.specs.Shell.{queueIn, splitIn, nextIn, goIn}
 use Rattle.simulation.proofs.Sound.{Sound, PlaceIn}
 use Rattle.simulation.proofs.Simulates.{Simulates, recordAt}
 use Rattle.simulation.proofs.Laid.{cond-yes, cond-no, hub-is, place-at, among, pool-short, list-is, list-put}
-use Rattle.simulation.proofs.FlushQueue.{length-joined, queue-held, ranges-few}
+use Rattle.simulation.proofs.FlushQueue.{length-joined, queue-sized, queue-held, queue-kept, ranges-few}
 use Rattle.simulation.proofs.FlushRequeue.{requeued-is}
 use Rattle.simulation.proofs.Moved.{workers-byte, moved-sim}
 
@@ -66,7 +66,7 @@ pools-ranges b (p ∷ ps) t = omega (arith, t .0 .0, pools-ranges b ps (t .1))
 may-cut : (w m p k : ℕ) → w < 16 → m ≤ 256 → p ≤ 16 → k ≤ 64 → mayCut w m p k ≡ true
 may-cut w m p k a b c d = rw (lt-ltb w 16 a, le-leb m 256 b, le-leb p 16 c, le-leb k 64 d)
 
-module _ (s : Store) (m : Memory) (w : ℕ) (l : List Range) (ts : List ℕ) (S : Sound s) (Z : Sized m) (laid : m ≡ write s m) (wb : w < s .site .P)
+module _ (s : Store) (m : Memory) (w : ℕ) (l : List Range) (ts : List ℕ) (S : Sound s) (Z : Sized m) (B : Begins (m .hub .window)) (laid : m ≡ write s m) (wb : w < s .site .P)
     (e : workerAt s w .doing ≡ Model.FlushRead l ts) (all : s .site .P ≤ length ts) where
   abbrev d : Model.Doing
   d = Model.FlushRead l ts
@@ -161,7 +161,7 @@ module _ (s : Store) (m : Memory) (w : ℕ) (l : List Range) (ts : List ℕ) (S 
       let c = S .bounds .batch in
       cond-yes (maySplit w (length l) p local) _ q may
       ∙ (λ i. requeued q local (over (flat (stay-is i)) (replicate 768 0)) (stays i) ((ap batchOf (workers-byte s m S laid) ∙ sym (S .batch)) i))
-      ∙ requeued-is (s .queue) q (own .pool) stay b (Z .lens) (queue-held s m laid) some (c .0) (omega (arith, pool-short s S w wb)) room
+      ∙ requeued-is (s .queue) q (own .pool) stay b (queue-sized m Z) B (queue-held s m laid) some (c .0) (omega (arith, pool-short s S w wb)) room
 
   ----------------------------------------------------------------------
   -- The record and the list in hand
@@ -189,4 +189,10 @@ module _ (s : Store) (m : Memory) (w : ℕ) (l : List Range) (ts : List ℕ) (S 
       let test : ltb (length ts) p ≡ false = ap (ltb (length ts)) workers-is ∙ le-ltb (length ts) (s .site .P) all in
       moved-sim s m w S laid wb d e after pools Going _ _ _ stepped
       (ap (nextIn m w (recordAt s w d)) (cond-no (ltb (length ts) p) (Read (length l) (length ts)) (Split (length l)) test))
-      (ap recordOf left-is) queue-split merged-split
+      (ap recordOf left-is)
+      (queue-kept s m pools _ (omega (
+        arith,
+        length-append (s .queue ++ neededPools b stay) (queuedPool (merge (own .pool) (joining b stay))),
+        length-append (s .queue) (neededPools b stay),
+      )) queue-split)
+      merged-split

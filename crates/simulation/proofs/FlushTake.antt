@@ -1,5 +1,5 @@
 -- Flush (1): the code's step is the model's. The two pools taken are the model's first two, merged they are at most 256 ranges, and the
--- rest of the queue moves to the front.
+-- window moves on to the rest of the queue.
 use mathlib.Core.Path.{_≡_, refl, sym, ap, _∙_}
 use mathlib.Core.List.{List, []}
 use Prim.Native.Nat.{ℕ, _*_, _≤_, _<_}
@@ -20,8 +20,8 @@ use Rattle.worker.specs.Rep.{poolRep, announcedRep, workerRep}
 use Rattle.worker.proofs.Rep.{padded-nil}
 use Rattle.ranges.specs.Words.{flat}
 use Rattle.ranges.proofs.WordLaws.{length-flat}
-use Rattle.queue.specs.State.{Queue, taken, rest}
-use Rattle.queue.specs.Rep.{queueRep}
+use Rattle.queue.specs.State.{Queue, Begins, taken, rest}
+use Rattle.queue.specs.Rep.{queueRep, withWindow, windowAfter}
 use Rattle.queue.proofs.Rep.{take-rep}
 use Rattle.step.specs.Step.{stepOf}
 use Rattle.flush.specs.Flush.{partOf, withPart}
@@ -31,10 +31,10 @@ use Rattle.simulation.specs.Shell.{queueIn, tookIn, nextIn, goIn}
 use Rattle.simulation.proofs.Sound.{Sound}
 use Rattle.simulation.proofs.Simulates.{Simulates}
 use Rattle.simulation.proofs.Laid.{all-set, among, list-put}
-use Rattle.simulation.proofs.FlushQueue.{queue-held, pools-few, ranges-few}
+use Rattle.simulation.proofs.FlushQueue.{queue-sized, queue-held, pools-few, ranges-few}
 use Rattle.simulation.proofs.Moved.{moved-sim}
 
-module _ (s : Store) (m : Memory) (w : ℕ) (S : Sound s) (Z : Sized m) (laid : m ≡ write s m) (wb : w < s .site .P)
+module _ (s : Store) (m : Memory) (w : ℕ) (S : Sound s) (Z : Sized m) (B : Begins (m .hub .window)) (laid : m ≡ write s m) (wb : w < s .site .P)
     (e : workerAt s w .doing ≡ Model.FlushTake) (next : Sound (stepAt s w Model.FlushTake .store)) where
   abbrev two : List Range
   two = firstTwo (s .queue)
@@ -53,10 +53,10 @@ module _ (s : Store) (m : Memory) (w : ℕ) (S : Sound s) (Z : Sized m) (laid : 
       let b = S .bounds .batch .1 in
       omega arith
 
-  took : (taken q ≡ two) × (rest q ≡ queueRep (drop 2 (s .queue)) q)
+  took : (taken q ≡ two) × (rest q ≡ queueRep (drop 2 (s .queue)) (withWindow q (windowAfter (s .queue) (drop 2 (s .queue)) (q .window))))
   took =
       let n = S .bounds .slots .1 in
-      take-rep (s .queue) q (queue-held s m laid) (omega (arith, pools-few s S)) (omega (arith, ranges-few s S)) few
+      take-rep (s .queue) q (queue-sized m Z) B (queue-held s m laid) (omega (arith, pools-few s S)) (omega (arith, ranges-few s S)) few
 
   abbrev recordOf : ℕ → List ℕ → Worker
   recordOf n ts =

@@ -21,7 +21,7 @@ use Rattle.worker.specs.declared.Worker.{Worker}
 use Rattle.worker.specs.Rep.{workerRep}
 use Rattle.slots.specs.declared.Slot.{Slot}
 use Rattle.slots.specs.Slots.{slotRep, slotOf, vacantSlot, madeSlot, madeTo}
-use Rattle.state.specs.State.{freshHub}
+use Rattle.state.specs.State.{emptyWindow, freshHub}
 use Rattle.arrays.specs.Arrays.{short, fillTo}
 use Rattle.simulation.specs.Memory.{hubRep, handWords, mergedOver}
 use Rattle.simulation.proofs.Laid.{hub-path}
@@ -141,10 +141,10 @@ over-replicate x zero n h = refl
 over-replicate x (suc k) zero h = absurd (omega arith)
 over-replicate x (suc k) (suc n) h = ap (λ l. x ∷ l) (over-replicate x k n (omega arith))
 
-pub hub-made : (b : ℕ) (z : Sizes) (row : List Model.Slot) → z .P ≤ 16 → freshHub (z .P) (z .V') (z .N) (z .clock) ≡ hubRep (fresh b z row)
+pub hub-made : (b : ℕ) (z : Sizes) (row : List Model.Slot) → z .P ≤ 16 → freshHub (z .P) (z .V') (z .N) (z .clock) ≡ hubRep (fresh b z row) emptyWindow
 unfolding fresh
 hub-made b z row h =
-    hub-path refl refl refl refl (sym (up-length (z .V') (z .N - z .V'))) refl refl
+    hub-path refl refl refl refl (sym (up-length (z .V') (z .N - z .V'))) refl
     (sym
     (ap (λ (l : List Worker). over l (replicate 16 (workerRep startWorker))) (map-replicate workerRep (z .P) startWorker)
     ∙ over-replicate (workerRep startWorker) (z .P) 16 h))

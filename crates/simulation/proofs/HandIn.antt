@@ -30,7 +30,7 @@ use Rattle.simulation.specs.Shell.{withRecord, answered, queueIn, handed
 use Rattle.simulation.proofs.Sound.{Sound, PlaceIn}
 use Rattle.simulation.proofs.Simulates.{Simulates}
 use Rattle.simulation.proofs.Laid.{all-set, slot-is, place-at, among, list-kept}
-use Rattle.simulation.proofs.FlushQueue.{queue-held}
+use Rattle.simulation.proofs.FlushQueue.{queue-held, queue-kept}
 use Rattle.simulation.proofs.Moved.{workers-byte, moved-sim}
 
 -- the worker after it, by whether the pool is full
@@ -103,4 +103,4 @@ module _ (s : Store) (m : Memory) (w r c : ℕ) (S : Sound s) (Z : Sized m) (lai
       moved-sim s m w S laid wb d e x (s .queue) (cond full Going Done) (recordOf own (handed (poolRep pool) full)) (queueIn m) (m .merged)
       (ap (λ (y : Model·Answer.Answer). record { store = withWorker s w x; answer = y }) (same-answer full))
       (ap (λ (z : Handed). answered (withRecord m w (recordOf own z)) (z .answer)) handed-is)
-      (record-is own pool full) (queue-held s m laid) (list-kept s S w wb m Z laid d x [] e (no-list r c full))
+      (record-is own pool full) (queue-kept s m (s .queue) (queueIn m) (omega arith) (queue-held s m laid)) (list-kept s S w wb m Z laid d x [] e (no-list r c full))

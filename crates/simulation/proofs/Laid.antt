@@ -2,12 +2,12 @@
 use mathlib.Core.Path.{_≡_, refl, sym, ap, _∙_, subst}
 use mathlib.Core.Bool.{Bool, true, false, true≢false, cond}
 use mathlib.Core.List.{List, _++_, map, reverse}
-use Prim.Native.Nat.{ℕ, _≤_, _<_}
+use Prim.Native.Nat.{ℕ, _*_, _≤_, _<_}
 use lib.ListN.{length, getD, set, length-set}
 use lib.Seq.{getD-set-same}
-use Rattle.lists.specs.Over.{over}
+use Rattle.lists.specs.Over.{over, overAt}
 use Rattle.model.specs.Store as Model
-use Rattle.model.specs.Store.{Store, startWorker, workerAt, slotAt, withWorker, withDoing}
+use Rattle.model.specs.Store.{Store, up, startWorker, workerAt, slotAt, withWorker, withDoing}
 use Rattle.model.specs.Demand.{All}
 use Rattle.model.proofs.Basic.{All-at}
 use Rattle.worker.specs.Rep.{workerRep}
@@ -16,9 +16,11 @@ use Rattle.slots.specs.Slots.{slotRep, vacantSlot}
 use Rattle.ranges.specs.Words.{flat}
 use Rattle.queue.specs.Rep.{joinedRanges}
 use Rattle.state.specs.declared.Hub.{Hub}
-use Rattle.state.specs.State.{workerIn, withWorkerIn}
+use Rattle.state.specs.State.{emptyWindow, workerIn, withWorkerIn}
 use Rattle.flush.specs.Flush.{partOf, withPart}
-use Rattle.simulation.specs.Memory.{Memory, hubRep, inHandWords, mergedOver, write}
+use Rattle.values.specs.declared.Window.{Window}
+use Rattle.simulation.specs.Memory.{Memory, hubRep, inHandWords, mergedOver, write, beginAt, writeHub}
+use Rattle.queue.proofs.Rep.{window-kept}
 use Rattle.simulation.specs.Left.{Sized}
 use Rattle.simulation.proofs.Laws.{worker-in, worker-set, slot-at, part-of, part-set, part-kept}
 use Rattle.simulation.proofs.Sound.{Sound, PlaceIn}
@@ -42,10 +44,10 @@ pub memory-path : {m m′ : Memory} → m .hub ≡ m′ .hub → m .slots ≡ m�
 memory-path h s n f q l g =
     λ i. record { hub = h i; slots = s i; newest = n i; free = f i; queue = q i; lens = l i; merged = g i }
 
-pub hub-path : {h h′ : Hub} → h .p ≡ h′ .p → h .v ≡ h′ .v → h .n ≡ h′ .n → h .clock ≡ h′ .clock → h .free ≡ h′ .free → h .pools ≡ h′ .pools
-    → h .queued ≡ h′ .queued → h .workers ≡ h′ .workers → h ≡ h′
-hub-path p v n c f k q w =
-    λ i. record { p = p i; v = v i; n = n i; clock = c i; free = f i; pools = k i; queued = q i; workers = w i }
+pub hub-path : {h h′ : Hub} → h .p ≡ h′ .p → h .v ≡ h′ .v → h .n ≡ h′ .n → h .clock ≡ h′ .clock → h .free ≡ h′ .free
+    → h .window ≡ h′ .window → h .workers ≡ h′ .workers → h ≡ h′
+hub-path p v n c f q w =
+    λ i. record { p = p i; v = v i; n = n i; clock = c i; free = f i; window = q i; workers = w i }
 
 ------------------------------------------------------------------------
 -- The member of a list that was replaced
@@ -56,7 +58,7 @@ all-set P l i x h t = subst P (getD-set-same l i x x h) (All-at P (set l i x) i 
 -- Memory in which the store s lies
 
 module _ (s : Store) (m : Memory) (laid : m ≡ write s m) where
-  pub hub-is : m .hub ≡ hubRep s
+  pub hub-is : m .hub ≡ hubRep s (m .hub .window)
   hub-is = ap (λ (x : Memory). x .hub) laid
 
   pub slots-is : m .slots ≡ over (map slotRep (s .slots)) (m .slots)
@@ -68,10 +70,10 @@ module _ (s : Store) (m : Memory) (laid : m ≡ write s m) where
   pub free-is : m .free ≡ over (reverse (s .free)) (m .free)
   free-is = ap (λ (x : Memory). x .free) laid
 
-  pub queue-is : m .queue ≡ over (flat (joinedRanges (s .queue))) (m .queue)
+  pub queue-is : m .queue ≡ overAt (3 * m .hub .window .from) (flat (joinedRanges (s .queue))) (m .queue)
   queue-is = ap (λ (x : Memory). x .queue) laid
 
-  pub lens-is : m .lens ≡ over (map length (s .queue)) (m .lens)
+  pub lens-is : m .lens ≡ overAt (m .hub .window .first) (map length (s .queue)) (m .lens)
   lens-is = ap (λ (x : Memory). x .lens) laid
 
   pub merged-is : m .merged ≡ mergedOver (s .workers) (m .merged)
@@ -81,12 +83,16 @@ module _ (s : Store) (m : Memory) (laid : m ≡ write s m) where
   pub slot-is : (c : ℕ) → c < length (s .slots) → getD (m .slots) c vacantSlot ≡ slotRep (slotAt s c)
   slot-is c h = ap (λ (l : List Slot). getD l c vacantSlot) slots-is ∙ slot-at (s .slots) (m .slots) c h
 
+-- a store without fewer pools is written where the window begins
+pub write-kept : (s t : Store) (m : Memory) → length (s .queue) ≤ length (t .queue) → write t m ≡ writeHub (up s) (up t) m
+write-kept s t m h = ap (λ (v : Window). write t (beginAt m v)) (sym (window-kept (s .queue) (t .queue) (m .hub .window) h))
+
 ------------------------------------------------------------------------
 -- A worker of a sound store
 
 module _ (s : Store) (S : Sound s) (w : ℕ) (wb : w < s .site .P) where
   -- of the hub by value, at the place d
-  pub worker-at : (d : Model.Doing) → workerAt s w .doing ≡ d → workerIn (hubRep s) w ≡ workerRep (withDoing (workerAt s w) d)
+  pub worker-at : (d : Model.Doing) → workerAt s w .doing ≡ d → workerIn (hubRep s emptyWindow) w ≡ workerRep (withDoing (workerAt s w) d)
   worker-at d e =
       worker-in s w (S .bounds .workers .2) (S .bounds .workers .1) wb ∙ ap (λ (y : Model.Doing). workerRep (withDoing (workerAt s w) y)) e
 
@@ -100,8 +106,8 @@ module _ (s : Store) (S : Sound s) (w : ℕ) (wb : w < s .site .P) where
   pool-short = All-at (λ x. length (x .pool) ≤ s .site .B) (s .workers) w startWorker among (S .bounds .local)
 
   -- its record replaced
-  pub worker-put : (x : Model.Worker) → withWorkerIn (hubRep s) w (workerRep x) ≡ hubRep (withWorker s w x)
-  worker-put x = worker-set s w x (S .bounds .workers .2) (S .bounds .workers .1) wb
+  pub worker-put : (v : Window) (x : Model.Worker) → withWorkerIn (hubRep s v) w (workerRep x) ≡ hubRep (withWorker s w x) v
+  worker-put v x = worker-set s v w x (S .bounds .workers .2) (S .bounds .workers .1) wb
 
   -- the list that it has in hand, in memory in which the store lies
   module _ (m : Memory) (Z : Sized m) (laid : m ≡ write s m) where

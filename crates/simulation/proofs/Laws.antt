@@ -16,7 +16,8 @@ use Rattle.worker.specs.declared.Worker.{Worker}
 use Rattle.worker.specs.Rep.{workerRep}
 use Rattle.slots.specs.declared.Slot.{Slot}
 use Rattle.slots.specs.Slots.{slotRep, vacantSlot}
-use Rattle.state.specs.State.{nobody, workerIn, withWorkersIn, withWorkerIn}
+use Rattle.values.specs.declared.Window.{Window}
+use Rattle.state.specs.State.{emptyWindow, nobody, workerIn, withWorkersIn, withWorkerIn}
 use Rattle.step.specs.Step.{newestAt}
 use Rattle.flush.specs.Flush.{partOf, withPart}
 use Rattle.simulation.specs.Memory.{hubRep, inHandWords, mergedOver}
@@ -94,17 +95,17 @@ mapped-set {A} {B} f l d i v h = over-set (map f l) d i (f v) (rw (length-map l 
 
 -- a worker's record is the model's worker in memory
 pub worker-in : (s : Store) (w : ℕ) → length (s .workers) ≡ s .site .P → s .site .P ≤ 16 → w < s .site .P
-    → workerIn (hubRep s) w ≡ workerRep (workerAt s w)
+    → workerIn (hubRep s emptyWindow) w ≡ workerRep (workerAt s w)
 worker-in s w e b h =
     let k : w < length (s .workers) = omega arith in
     getD-over-in (map workerRep (s .workers)) (replicate 16 (workerRep startWorker)) w nobody (rw (length-map (s .workers) workerRep) k)
     ∙ getD-map workerRep (s .workers) w startWorker nobody k
 
 -- a worker's record replaced is the model's worker replaced
-pub worker-set : (s : Store) (w : ℕ) (x : Model.Worker) → length (s .workers) ≡ s .site .P → s .site .P ≤ 16 → w < s .site .P
-    → withWorkerIn (hubRep s) w (workerRep x) ≡ hubRep (withWorker s w x)
-worker-set s w x e b h =
-    ap (λ (l : List Worker). withWorkersIn (hubRep s) l) (mapped-set workerRep (s .workers) (replicate 16 (workerRep startWorker)) w x (omega arith))
+pub worker-set : (s : Store) (v : Window) (w : ℕ) (x : Model.Worker) → length (s .workers) ≡ s .site .P → s .site .P ≤ 16 → w < s .site .P
+    → withWorkerIn (hubRep s v) w (workerRep x) ≡ hubRep (withWorker s w x) v
+worker-set s v w x e b h =
+    ap (λ (l : List Worker). withWorkersIn (hubRep s v) l) (mapped-set workerRep (s .workers) (replicate 16 (workerRep startWorker)) w x (omega arith))
 
 ------------------------------------------------------------------------
 -- The row of slots

@@ -13,18 +13,18 @@ use Rattle.values.specs.declared.Answer.{Answer}
 use Rattle.worker.specs.declared.Worker.{Worker}
 use Rattle.worker.specs.Rep.{doingRep, workerRep}
 use Rattle.queue.specs.State.{Queue}
-use Rattle.queue.specs.Rep.{queueRep}
+use Rattle.queue.specs.Rep.{queueRep, withWindow, windowAfter}
 use Rattle.state.specs.declared.Hub.{Hub}
-use Rattle.state.specs.State.{withWorkerIn, withCounts}
+use Rattle.state.specs.State.{withWorkerIn, withWindowIn}
 use Rattle.simulation.specs.Memory.{Memory, hubRep, mergedOver, write}
 use Rattle.simulation.specs.Shell.{queueIn, goIn}
 use Rattle.simulation.proofs.Sound.{Sound}
 use Rattle.simulation.proofs.Simulates.{Simulates, recordAt, simulated}
 use Rattle.simulation.proofs.Laid.{memory-path, hub-is, slots-is, newest-is, free-is, worker-put}
 
--- the hub by value with worker w's record and the queue's counts replaced
+-- the hub by value with worker w's record and the queue's window replaced
 abbrev pub movedHub : Hub → ℕ → Worker → Queue → Hub
-movedHub h w x q = withCounts (withWorkerIn h w x) (q .pools) (q .queued)
+movedHub h w x q = withWindowIn (withWorkerIn h w x) (q .window)
 
 -- the memory with worker w's record, the queue and the merged lists replaced
 abbrev pub movedIn : Memory → ℕ → Worker → Queue → List ℕ → Memory
@@ -49,13 +49,13 @@ module _ (s : Store) (m : Memory) (w : ℕ) (S : Sound s) (laid : m ≡ write s 
       → (x : Model.Worker) (ps : List (List Range)) (y : Answer) (X : Worker) (q : Queue) (g : List ℕ)
       → stepAt s w d ≡ record { store = withQueue (withWorker s w x) ps; answer = answerOf y }
       → goIn m w (recordAt s w d) (doingRep d) ≡ record { memory = movedIn m w X q g; answer = y }
-      → X ≡ workerRep x → q ≡ queueRep ps (queueIn m) → g ≡ mergedOver (set (s .workers) w x) (m .merged) → Simulates s m w d
+      → X ≡ workerRep x → q ≡ queueRep ps (withWindow (queueIn m) (windowAfter (s .queue) ps (m .hub .window))) → g ≡ mergedOver (set (s .workers) w x) (m .merged) → Simulates s m w d
   moved-sim d e x ps y X q g model code own queue merged =
       simulated s m w d S laid wb e _ _ model code
       (memory-path
       (ap (λ (z : Worker). movedHub (m .hub) w z q) own
       ∙ ap (λ (h : Hub). movedHub h w (workerRep x) q) (hub-is s m laid)
-      ∙ ap (λ (h : Hub). withCounts h (q .pools) (q .queued)) (worker-put s S w wb x)
-      ∙ ap (λ (z : Queue). withCounts (hubRep (withWorker s w x)) (z .pools) (z .queued)) queue)
+      ∙ ap (λ (h : Hub). withWindowIn h (q .window)) (worker-put s S w wb (m .hub .window) x)
+      ∙ ap (λ (z : Queue). withWindowIn (hubRep (withWorker s w x) (m .hub .window)) (z .window)) queue)
       (slots-is s m laid) (newest-is s m laid) (free-is s m laid) (ap (λ (z : Queue). z .queue) queue) (ap (λ (z : Queue). z .lens) queue) merged)
       refl

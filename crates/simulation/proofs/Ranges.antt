@@ -28,7 +28,7 @@ use Rattle.ready.specs.Ready.{
   sizesFit,
   readyOf,
 }
-use Rattle.ready.proofs.Sizes.{and-both, sizes-tell, sizes-yes}
+use Rattle.ready.proofs.Sizes.{WindowIn, and-both, sizes-tell, sizes-yes}
 use Rattle.simulation.specs.Memory.{Memory}
 use Rattle.simulation.specs.Left.{ready}
 use Rattle.simulation.specs.Ranges.{batchIn, PlaceInRange, WorkerInRange, InRanges, ReadyExactly}
@@ -38,10 +38,6 @@ use Rattle.simulation.proofs.Scans as Scans
 where-both : (t y : Bool) → cond t y false ≡ true → (t ≡ true) × (y ≡ true)
 where-both true y e = (refl, e)
 where-both false y e = absurd (true≢false (sym e))
-
--- the queue is scanned from its first range on
-from-zero : (j : ℕ) → 0 + j ≡ j
-from-zero j = omega arith
 
 ------------------------------------------------------------------------
 -- One worker
@@ -118,11 +114,12 @@ module _ (m : Memory) where
   unfolding ready readyOf
   tells e =
       let h = m .hub in
+      let w = h .window in
       let A : Bool = belowTo (m .newest) (h .n) (h .v) in
       let B : Bool = belowTo (m .free) (h .n) (h .free) in
-      let C : Bool = slotsBelow (m .queue) 0 (h .n) (h .queued) in
-      let D : Bool = lensFit (m .lens) (2 * batchIn h) (h .pools) in
-      let E : Bool = eqb (lensSum (m .lens) (h .pools)) (h .queued) in
+      let C : Bool = slotsBelow (m .queue) (w .from) (h .n) (w .queued) in
+      let D : Bool = lensFit (m .lens) (w .first) (2 * batchIn h) (w .pools) in
+      let E : Bool = eqb (lensSum (m .lens) (w .first) (w .pools)) (w .queued) in
       let F : Bool = workersFit h (m .merged) local list (h .p) in
       let G : Bool = linkedTo (m .slots) (h .n) (h .n) in
       let all = where-both (sizesFit h (length (m .slots))) (A && B && (C && D) && (E && F) && G) e in
@@ -138,15 +135,14 @@ module _ (m : Memory) where
         v = z .v;
         n = z .n;
         free = z .free;
-        queued = z .queued;
-        pools = z .pools;
-        lengths = Scans.lens-tell (m .lens) (2 * batchIn h) (h .pools) (cd .1);
-        sum = eqb-true (lensSum (m .lens) (h .pools)) (h .queued) (ef .0);
+        queued = z .window .queued;
+        pools = z .window .pools;
+        begins = record { first = z .window .first; from = z .window .from };
+        lengths = Scans.lens-tell (m .lens) (w .first) (2 * batchIn h) (w .pools) (cd .1);
+        sum = eqb-true (lensSum (m .lens) (w .first) (w .pools)) (w .queued) (ef .0);
         newest = Scans.below-tells (m .newest) (h .n) (h .v) (ab .0);
         freeSlots = Scans.below-tells (m .free) (h .n) (h .free) (ab .1);
-        queueSlots =
-            λ j b.
-            subst (λ (i : ℕ). getD (m .queue) (3 * i) 0 < h .n) (from-zero j) (Scans.slots-tell (m .queue) 0 (h .n) (h .queued) (cd .0) j b);
+        queueSlots = Scans.slots-tell (m .queue) (w .from) (h .n) (w .queued) (cd .0);
         neighbours = Scans.linked-tells (m .slots) (h .n) (h .n) (parts .1);
         workers =
             λ w b.
@@ -158,15 +154,17 @@ module _ (m : Memory) where
   unfolding ready readyOf
   yes R =
       let h = m .hub in
+      let w = h .window in
+      let window : WindowIn w (besides h) =
+      record { pools = R .pools; queued = R .queued; first = R .begins .first; from = R .begins .from } in
       rw (
         sizes-yes h (length (m .slots))
-            (record { p = R .p; v = R .v; n = R .n; free = R .free; pools = R .pools; queued = R .queued }),
+            (record { p = R .p; v = R .v; n = R .n; free = R .free; window = window }),
         Scans.below-yes (m .newest) (h .n) (h .v) (R .newest),
         Scans.below-yes (m .free) (h .n) (h .free) (R .freeSlots),
-        Scans.slots-yes (m .queue) 0 (h .n) (h .queued)
-            (λ j b. subst (λ (i : ℕ). getD (m .queue) (3 * i) 0 < h .n) (sym (from-zero j)) (R .queueSlots j b)),
-        Scans.lens-yes (m .lens) (2 * batchIn h) (h .pools) (R .lengths),
-        eq-eqb (lensSum (m .lens) (h .pools)) (h .queued) (R .sum),
+        Scans.slots-yes (m .queue) (w .from) (h .n) (w .queued) (R .queueSlots),
+        Scans.lens-yes (m .lens) (w .first) (2 * batchIn h) (w .pools) (R .lengths),
+        eq-eqb (lensSum (m .lens) (w .first) (w .pools)) (w .queued) (R .sum),
         Scans.workers-yes h (m .merged) local list (h .p) (λ w b. worker-yes w (omega (arith, b, R .p .1)) (workerIn h w) (R .workers w b)),
         Scans.linked-yes (m .slots) (h .n) (h .n) (R .neighbours),
       )

@@ -23,15 +23,20 @@ use Rattle.worker.specs.About.{aboutOf}
 use Rattle.worker.specs.Rep.{padded, poolRep, doingRep}
 use Rattle.worker.proofs.Rep.{padded-at}
 use Rattle.slots.specs.Slots.{vacantSlot}
-use Rattle.state.specs.State.{workerIn}
+use Rattle.values.specs.declared.Window.{Window}
+use Rattle.state.specs.State.{emptyWindow, workerIn}
 use Rattle.ranges.specs.Words.{flat}
 use Rattle.ranges.proofs.WordLaws.{length-flat}
+use Rattle.queue.specs.State.{Begins}
 use Rattle.queue.specs.Rep.{joinedRanges}
+use Rattle.queue.proofs.Rep.{lens-held, words-held}
 use Rattle.flush.specs.Flush.{partOf}
 use Rattle.ready.specs.Ready.{poolFits, listFits, rangesFit, handFits, placeFits, workerFits, lensSum}
 use Rattle.simulation.specs.Memory.{Memory, memory, hubRep, handWords, inHandWords, write}
 use Rattle.simulation.specs.Left.{Sized, ready}
-use Rattle.simulation.specs.Ranges.{InRanges}
+use Rattle.simulation.specs.Shell.{queueIn}
+use Rattle.simulation.proofs.FlushQueue.{queue-sized, queue-held}
+use Rattle.simulation.specs.Ranges.{lengthIn, InRanges}
 use Rattle.simulation.proofs.Each.{All-reverse, All-joined}
 use Rattle.simulation.proofs.Scans as Scans
 use Rattle.simulation.proofs.Scans.{ranges-below, NearIn, lens-sum}
@@ -153,10 +158,10 @@ unfolding sumBy
 each-counted [] t = omega arith
 each-counted (l ∷ q) t = omega (arith, t .0, each-counted q (t .1))
 
-module _ {s : Store} (m : Memory) (S : Sound s) (Z : Sized m) (laid : m ≡ write s m) where
+module _ {s : Store} (m : Memory) (S : Sound s) (Z : Sized m) (B : Begins (m .hub .window)) (laid : m ≡ write s m) where
   -- the memory with the store's hub in place of its own, which is the same
   abbrev same : Memory
-  same = memory (hubRep s) (m .slots) (m .newest) (m .free) (m .queue) (m .lens) (m .merged)
+  same = memory (hubRep s (m .hub .window)) (m .slots) (m .newest) (m .free) (m .queue) (m .lens) (m .merged)
 
   -- what a worker holds is no newest version
   held : (w : ℕ) → w < s .site .P
@@ -170,7 +175,7 @@ module _ {s : Store} (m : Memory) (S : Sound s) (Z : Sized m) (laid : m ≡ writ
       omega (arith, a, S .batch)
 
   worker-yes : (w : ℕ) → w < s .site .P
-      → workerFits (workerIn (hubRep s) w) w (m .merged) (local same) (list same) (s .site .P) (s .site .V') (s .site .N) ≡ true
+      → workerFits (workerIn (hubRep s emptyWindow) w) w (m .merged) (local same) (list same) (s .site .P) (s .site .V') (s .site .N) ≡ true
   unfolding workerFits handFits
   worker-yes w b =
       let t : ℕ = workerAt s w .announced in
@@ -202,21 +207,37 @@ module _ {s : Store} (m : Memory) (S : Sound s) (Z : Sized m) (laid : m ≡ writ
       (All-occurrences (s .free) (S .free)) in
       omega (arith, e, All-at (λ (f : ℕ). f < s .site .N) (reverse (s .free)) i 0 h t)
 
-  queue-below : (j : ℕ) → j < length (joinedRanges (s .queue)) → getD (m .queue) (3 * j) 0 < s .site .N
+  abbrev w : Window
+  w = m .hub .window
+
+  queue-below : (j : ℕ) → j < length (joinedRanges (s .queue)) → getD (m .queue) (3 * (w .from + j)) 0 < s .site .N
   queue-below j b =
       let l : List Range = joinedRanges (s .queue) in
-      let e : getD (m .queue) (3 * j) 0 ≡ getD (over (flat l) (m .queue)) (3 * j) 0 = ap (λ (q : List ℕ). getD q (3 * j) 0) (queue-is s m laid) in
-      omega (arith, e, ranges-below l (m .queue) (s .site .N) (slots-of s l (All-joined (RangeIn s) (s .queue) (S .queue))) j b)
+      let d : List ℕ = drop (3 * w .from) (m .queue) in
+      let i : 3 * (w .from + j) ≡ 3 * w .from + 3 * j = omega arith in
+      let e : getD (m .queue) (3 * (w .from + j)) 0 ≡ getD (over (flat l) d) (3 * j) 0 =
+      ap (λ (k : ℕ). getD (m .queue) k 0) i
+      ∙ sym (getD-drop (3 * w .from) (m .queue) (3 * j) 0)
+      ∙ ap (λ (q : List ℕ). getD q (3 * j) 0) (words-held (s .queue) (queueIn m) (queue-sized m Z) B (queue-held s m laid)) in
+      omega (arith, e, ranges-below l d (s .site .N) (slots-of s l (All-joined (RangeIn s) (s .queue) (S .queue))) j b)
 
-  lens-in : (i : ℕ) → i < length (s .queue) → (1 ≤ getD (m .lens) i 0) × (getD (m .lens) i 0 ≤ 2 * batchOf (s .site .P))
+  lens-behind : drop (w .first) (m .lens) ≡ over (map length (s .queue)) (drop (w .first) (m .lens))
+  lens-behind = lens-held (s .queue) (queueIn m) (queue-sized m Z) B (queue-held s m laid)
+
+  lens-in : (i : ℕ) → i < length (s .queue) → (1 ≤ lengthIn m i) × (lengthIn m i ≤ 2 * batchOf (s .site .P))
   lens-in i b =
       let h : i < length (map length (s .queue)) = omega (arith, b, length-map (s .queue) length) in
-      let e : getD (m .lens) i 0 ≡ length (getD (s .queue) i []) =
-      ap (λ (l : List ℕ). getD l i 0) (lens-is s m laid)
-      ∙ getD-over-in (map length (s .queue)) (m .lens) i 0 h
+      let e : lengthIn m i ≡ length (getD (s .queue) i []) =
+      sym (getD-drop (w .first) (m .lens) i 0)
+      ∙ ap (λ (l : List ℕ). getD l i 0) lens-behind
+      ∙ getD-over-in (map length (s .queue)) (drop (w .first) (m .lens)) i 0 h
       ∙ getD-map length (s .queue) i [] 0 b in
       let a = All-at (λ (l : List Range). (1 ≤ length l) × (length l ≤ 2 * s .site .B)) (s .queue) i [] b (S .bounds .queued) in
       (omega (arith, e, a .0), omega (arith, e, a .1, S .batch))
+
+  lens-added : lensSum (m .lens) (w .first) (length (s .queue)) ≡ length (joinedRanges (s .queue))
+  unfolding over
+  lens-added = lens-sum (s .queue) (m .lens) _ (w .first) lens-behind
 
   near-in : (c : ℕ) → c < s .site .N → NearIn (s .site .N) (getD (m .slots) c vacantSlot)
   near-in c b = subst (NearIn (s .site .N)) (sym (slot-is s m laid c (omega (arith, b, S .bounds .slots .2)))) (S .near c b)
@@ -238,13 +259,14 @@ module _ {s : Store} (m : Memory) (S : Sound s) (Z : Sized m) (laid : m ≡ writ
             free = omega (arith, S .bounds .total);
             queued = omega (arith, S .bounds .total, length-joined (s .queue));
             pools = pools-few;
+            begins = record { first = B .first; from = B .from };
             lengths = lens-in;
-            sum = ap (λ (l : List ℕ). lensSum l (length (s .queue))) (lens-is s m laid) ∙ lens-sum (s .queue) (m .lens);
+            sum = lens-added;
             newest = newest-below;
             freeSlots = free-below;
             queueSlots = queue-below;
             neighbours = near-in;
-            workers = λ w b. worker-tells same w (omega (arith, b, S .bounds .workers .1)) (workerIn (hubRep s) w) (worker-yes w b);
+            workers = λ w b. worker-tells same w (omega (arith, b, S .bounds .workers .1)) (workerIn (hubRep s emptyWindow) w) (worker-yes w b);
           }
 
   -- memory in which a sound store lies counts as set up

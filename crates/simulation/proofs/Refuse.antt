@@ -10,12 +10,12 @@ use Rattle.gate.specs.declared.Gate.the-variants.{Refuse}
 use Rattle.simulation.specs.Memory.{Memory, writeHub}
 use Rattle.simulation.specs.Shell.{obeyIn}
 
--- what the model makes of a record, a, is what the code leaves and answers that carries out the decision g on the memory m
-pub record Follows (m : Memory) (g : Gate) (a : Applied) : Type 0 where
-  pub memory : obeyIn m g .memory ≡ writeHub (a .hub) m
+-- what the model makes of a record, a, on the hub h, is what the code leaves and answers that carries out the decision g on the memory m
+pub record Follows (h : Model.Hub) (m : Memory) (g : Gate) (a : Applied) : Type 0 where
+  pub memory : obeyIn m g .memory ≡ writeHub h (a .hub) m
   pub answer : answerOf (obeyIn m g .answer) ≡ a .answer
 
 -- refusal k, of a hub of the model that lies in the memory
-pub refused : (h : Model.Hub) (m : Memory) (k : ℕ) → m ≡ writeHub h m → Follows m (Refuse k) (refuse h k)
+pub refused : (h : Model.Hub) (m : Memory) (k : ℕ) → m ≡ writeHub h h m → Follows h m (Refuse k) (refuse h k)
 unfolding obeyIn
 refused h m k laid = record { memory = laid; answer = refl }

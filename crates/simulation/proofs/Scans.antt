@@ -1,5 +1,5 @@
 -- The scans of the test of lent memory (crate `ready`) pass where each entry that they look at is in range, and nowhere else.
-use mathlib.Core.Path.{_≡_, refl, sym, _∙_, subst}
+use mathlib.Core.Path.{_≡_, refl, sym, ap, _∙_, subst}
 use mathlib.Core.Bool.{Bool, true, false, cond, _&&_, _||_, true≢false}
 use mathlib.Core.Logic.{_⊎_, inl, inr, ⊎-elim}
 use mathlib.Core.List.{List, [], _∷_, _++_, map}
@@ -7,8 +7,9 @@ use Prim.Native.Nat.{ℕ, zero, suc, _+_, _*_, _≤_, _<_}
 use native.Mathlib.Nat.{not-suc-le-zero, le-of-suc-le-suc}
 use native.Mathlib.Omega.{arith}
 use lib.Dec.{ltb, leb, eqb}
-use lib.ListN.{length, getD, length-append}
+use lib.ListN.{length, drop, getD, length-append}
 use borrow.Author.Tests.{lt-ltb, le-ltb, le-leb, eq-eqb, ltb-true, ltb-false, leb-true, eqb-true}
+use lib.Seq.{getD-drop, drop-drop}
 use Rattle.lists.specs.Over.{over}
 use Rattle.lists.proofs.Over.{getD-over-in}
 use Rattle.model.specs.Store.{Range, absent}
@@ -165,38 +166,41 @@ module _ (l : List Slot) (n : ℕ) where
 ------------------------------------------------------------------------
 -- The queued pools
 
-module _ (lens : List ℕ) (most k : ℕ) where
-  test-len : ℕ → Bool
-  test-len i = leb 1 (getD lens i 0) && leb (getD lens i 0) most
+module _ (lens : List ℕ) (from most k : ℕ) where
+  abbrev len : ℕ → ℕ
+  len i = getD lens (from + i) 0
 
-  pub lens-yes : ((i : ℕ) → i < k → (1 ≤ getD lens i 0) × (getD lens i 0 ≤ most)) → lensFit lens most k ≡ true
+  test-len : ℕ → Bool
+  test-len i = leb 1 (len i) && leb (len i) most
+
+  pub lens-yes : ((i : ℕ) → i < k → (1 ≤ len i) × (len i ≤ most)) → lensFit lens from most k ≡ true
   unfolding lensFit test-len
   lens-yes g =
-      all-yes (lensFit lens most) test-len (λ j. refl) refl k
-      (λ i h. rw (le-leb 1 (getD lens i 0) (g i h .0), le-leb (getD lens i 0) most (g i h .1)))
+      all-yes (lensFit lens from most) test-len (λ j. refl) refl k
+      (λ i h. rw (le-leb 1 (len i) (g i h .0), le-leb (len i) most (g i h .1)))
 
-  pub lens-tell : lensFit lens most k ≡ true → (i : ℕ) → i < k → (1 ≤ getD lens i 0) × (getD lens i 0 ≤ most)
+  pub lens-tell : lensFit lens from most k ≡ true → (i : ℕ) → i < k → (1 ≤ len i) × (len i ≤ most)
   unfolding lensFit test-len
   lens-tell e i h =
-      let q =
-      and-both (leb 1 (getD lens i 0)) (leb (getD lens i 0) most) (all-tell (lensFit lens most) test-len (λ j. refl) k e i h) in
-      (leb-true 1 (getD lens i 0) (q .0), leb-true (getD lens i 0) most (q .1))
+      let q = and-both (leb 1 (len i)) (leb (len i) most) (all-tell (lensFit lens from most) test-len (λ j. refl) k e i h) in
+      (leb-true 1 (len i) (q .0), leb-true (len i) most (q .1))
 
-lensSum-cons : (x : ℕ) (l : List ℕ) (k : ℕ) → lensSum (x ∷ l) (suc k) ≡ x + lensSum l k
+lensSum-cons : (lens : List ℕ) (i k : ℕ) → lensSum lens i (suc k) ≡ getD lens i 0 + lensSum lens (suc i) k
 unfolding lensSum
-lensSum-cons x l zero = omega arith
-lensSum-cons x l (suc k) = omega (arith, lensSum-cons x l k)
+lensSum-cons lens i zero = let e : i + 0 ≡ i = omega arith in rw e (omega arith)
+lensSum-cons lens i (suc k) = let e : i + suc k ≡ suc i + k = omega arith in rw e (omega (arith, lensSum-cons lens i k))
 
 -- the pools' lengths add up to how many ranges they have together
-lensSum-front : (q : List (List Range)) (d : List ℕ) → lensSum (map length q ++ d) (length q) ≡ length (joinedRanges q)
+pub lens-sum : (q : List (List Range)) (lens d : List ℕ) (i : ℕ) → drop i lens ≡ map length q ++ d
+    → lensSum lens i (length q) ≡ length (joinedRanges q)
 unfolding lensSum
-lensSum-front [] d = refl
-lensSum-front (l ∷ q) d =
-    omega (arith, lensSum-cons (length l) (map length q ++ d) (length q), lensSum-front q d, length-append l (joinedRanges q))
-
-pub lens-sum : (q : List (List Range)) (d : List ℕ) → lensSum (over (map length q) d) (length q) ≡ length (joinedRanges q)
-unfolding over
-lens-sum q d = lensSum-front q _
+lens-sum [] lens d i e = refl
+lens-sum (l ∷ q) lens d i e =
+    let z : i + 0 ≡ i = omega arith in
+    let n : i + 1 ≡ suc i = omega arith in
+    let x : getD lens i 0 ≡ length l = sym (rw z at (getD-drop i lens 0 0)) ∙ ap (λ (r : List ℕ). getD r 0 0) e in
+    let f : drop (suc i) lens ≡ map length q ++ d = sym (rw n at (drop-drop 1 i lens)) ∙ ap (drop 1) e in
+    omega (arith, lensSum-cons lens i (length q), lens-sum q lens d (suc i) f, length-append l (joinedRanges q))
 
 ------------------------------------------------------------------------
 -- Workers

@@ -2,13 +2,13 @@
 -- written over the memory.
 use mathlib.Core.Path.{_≡_, refl, sym, ap, _∙_}
 use mathlib.Core.Bool.{Bool, true, false, cond, _&&_}
-use mathlib.Core.List.{List, map}
+use mathlib.Core.List.{List, [], map}
 use Prim.Native.Nat.{ℕ, zero, suc, _-_, _≤_}
 use native.Mathlib.Omega.{arith}
 use lib.Dec.{ltb, leb}
 use lib.ListN.{length, getD, length-map}
 use borrow.Author.Tests.{leb-true, le-leb}
-use Rattle.lists.proofs.Over.{over-nil}
+use Rattle.queue.proofs.MemoryLaws.{overAt-none}
 use Rattle.model.specs.Store as Model
 use Rattle.model.specs.Store.{blank, up, lastClock}
 use Rattle.model.specs.Batch.{batchOf}
@@ -85,7 +85,7 @@ module _ (m : Memory) (Z : Sized m) where
 
   -- an accepted setup
   made : (z : Sizes) → InRanges z → z .N ≤ length (m .slots)
-      → Follows m (Make (z .P) (z .V') (z .N) (z .clock)) (record { hub = up (fresh (batchOf (z .P)) z row); answer = Answers.Ok })
+      → Follows (blank row) m (Make (z .P) (z .V') (z .N) (z .clock)) (record { hub = up (fresh (batchOf (z .P)) z row); answer = Answers.Ok })
   unfolding obeyIn setUpIn fresh
   made z I long =
       record {
@@ -93,17 +93,17 @@ module _ (m : Memory) (Z : Sized m) where
             memory-path (hub-made (batchOf (z .P)) z row (I .P≤16)) (slots-made (m .slots) (z .V') (z .N) long)
             (newest-made (m .newest) (z .V') (omega (arith, I .V≤256, Z .newest)) (omega (arith, I .V≤256)))
             (free-made (m .free) (z .N) (z .N - z .V') (z .V') (omega (arith, I .V≤N)) (omega (arith, I .N≤2048, Z .free)) (omega (arith, I .N≤2048)))
-            (sym (over-nil (m .queue))) (sym (over-nil (m .lens))) (merged-made (z .P) (m .merged));
+            (overAt-none (m .queue) 0 []) (overAt-none (m .lens) 0 []) (merged-made (z .P) (m .merged));
         answer = refl;
       }
 
   set-up : (z : Sizes) → z .clock ≤ lastClock
-      → Follows m (cond (sizesOk (z .P) (z .V') (z .N) (z .clock) (length (m .slots))) (Make (z .P) (z .V') (z .N) (z .clock)) (Refuse 5))
+      → Follows (blank row) m (cond (sizesOk (z .P) (z .V') (z .N) (z .clock) (length (m .slots))) (Make (z .P) (z .V') (z .N) (z .clock)) (Refuse 5))
       (setUp inForce (blank row) z)
   unfolding setUp
   set-up z h =
       let long : length (m .slots) ≡ length row = sym (length-map (m .slots) slotOf) in
-      both (Follows m) (sizesOk (z .P) (z .V') (z .N) (z .clock) (length (m .slots))) (inRanges z && leb (z .N) (length row)) _ _ _ _
+      both (Follows (blank row) m) (sizesOk (z .P) (z .V') (z .N) (z .clock) (length (m .slots))) (inRanges z && leb (z .N) (length row)) _ _ _ _
       (same-sizes z (length (m .slots)) h ∙ ap (λ (n : ℕ). inRanges z && leb (z .N) n) long)
       (λ e. let a = and-both (inRanges z) (leb (z .N) (length row)) e in
       made z (in-ranges z (a .0)) (omega (arith, leb-true (z .N) (length row) (a .1))))
@@ -111,7 +111,7 @@ module _ (m : Memory) (Z : Sized m) where
 
   -- the code does what the model's hub does that is not set up and whose row is lent
   pub follows-blank : (r : Record.Decoded) → ClockFits r
-      → Follows m (gateBy (decodedRep r) false (length (m .slots)) (m .hub)) (applyDecoded inForce (blank (map slotOf (m .slots))) r)
+      → Follows (blank row) m (gateBy (decodedRep r) false (length (m .slots)) (m .hub)) (applyDecoded inForce (blank (map slotOf (m .slots))) r)
   unfolding whoOf gateOf applyDecoded obey
   follows-blank (Record.Refuses k) f = refused (blank row) m k refl
   follows-blank (Record.Asks (Record.SetUp z)) f = set-up z f

@@ -12,17 +12,17 @@ use Rattle.simulation.proofs.FlushFree.{freed-sim}
 use Rattle.simulation.proofs.Assembly.{StepsSimulate}
 
 pub steps : StepsSimulate
-steps s m w Model.Idle L S Z laid h e N = idle-sim s m w S Z laid h e
-steps s m w (Model.PutPublish r x) L S Z laid h e N = put-publish-sim s m w r x S Z laid h e
-steps s m w (Model.PutStamp r c) L S Z laid h e N = put-stamp-sim s m w r c S Z laid h e
-steps s m w (Model.PutHandIn r c) L S Z laid h e N = put-hand-in-sim s m w r c S Z laid h e N
-steps s m w Model.FlushTake L S Z laid h e N = flush-take-sim s m w S Z laid h e N
-steps s m w (Model.FlushRead l ts) L S Z laid h e N = flush-read-sim s m w l ts S Z laid h e N
-steps s m w (Model.FlushFree []) L S Z laid h e N = flush-done-sim s m w S Z laid h e
-steps s m w (Model.FlushFree (ρ ∷ l)) L S Z laid h e N = freed-sim s m w ρ l S Z laid h e N
-steps s m w (Model.OnTime Model.OpenAnnounce) L S Z laid h e N = open-announce-sim s m w S Z laid h e
-steps s m w (Model.OnTime Model.OpenPass) L S Z laid h e N = open-pass-sim s m w S Z laid h e
-steps s m w (Model.OnTime Model.CloseWithdraw) L S Z laid h e N = close-withdraw-sim s m w S Z laid h e
-steps s m w (Model.ReadEnter g) L S Z laid h e N = read-enter-sim s m w S Z laid h g e
-steps s m w (Model.ReadStand g c) L S Z laid h e N = read-stand-sim s m w g c S Z laid h e N
-steps s m w (Model.GetShow r) L S Z laid h e N = get-show-sim s m w S Z laid h r e
+steps s m w Model.Idle L S Z B laid h e N = idle-sim s m w S Z laid h e
+steps s m w (Model.PutPublish r x) L S Z B laid h e N = put-publish-sim s m w r x S Z laid h e
+steps s m w (Model.PutStamp r c) L S Z B laid h e N = put-stamp-sim s m w r c S Z laid h e
+steps s m w (Model.PutHandIn r c) L S Z B laid h e N = put-hand-in-sim s m w r c S Z laid h e N
+steps s m w Model.FlushTake L S Z B laid h e N = flush-take-sim s m w S Z B laid h e N
+steps s m w (Model.FlushRead l ts) L S Z B laid h e N = flush-read-sim s m w l ts S Z B laid h e N
+steps s m w (Model.FlushFree []) L S Z B laid h e N = flush-done-sim s m w S Z laid h e
+steps s m w (Model.FlushFree (ρ ∷ l)) L S Z B laid h e N = freed-sim s m w ρ l S Z laid h e N
+steps s m w (Model.OnTime Model.OpenAnnounce) L S Z B laid h e N = open-announce-sim s m w S Z laid h e
+steps s m w (Model.OnTime Model.OpenPass) L S Z B laid h e N = open-pass-sim s m w S Z laid h e
+steps s m w (Model.OnTime Model.CloseWithdraw) L S Z B laid h e N = close-withdraw-sim s m w S Z laid h e
+steps s m w (Model.ReadEnter g) L S Z B laid h e N = read-enter-sim s m w S Z laid h g e
+steps s m w (Model.ReadStand g c) L S Z B laid h e N = read-stand-sim s m w g c S Z laid h e N
+steps s m w (Model.GetShow r) L S Z B laid h e N = get-show-sim s m w S Z laid h r e

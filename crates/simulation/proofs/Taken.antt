@@ -4,6 +4,7 @@ use mathlib.Core.Path.{_≡_, refl, ap, _∙_}
 use mathlib.Core.List.{List, [], _++_, map, reverse}
 use Prim.Native.Nat.{ℕ, _<_}
 use lib.ListN.{length}
+use native.Mathlib.Omega.{arith}
 use Rattle.lists.specs.Over.{over}
 use Rattle.model.specs.Store as Model
 use Rattle.model.specs.Store.{Store, workerAt, withClock, withSlots, withNewest, withFree, withWorker}
@@ -23,7 +24,7 @@ use Rattle.simulation.specs.Left.{Sized}
 use Rattle.simulation.specs.Shell.{takenIn, nextIn, finishIn, stepAtIn, goIn}
 use Rattle.simulation.proofs.Sound.{Sound}
 use Rattle.simulation.proofs.Simulates.{Simulates, recordAt, simulated}
-use Rattle.simulation.proofs.Laid.{memory-path, hub-is, queue-is, lens-is, worker-put, list-kept}
+use Rattle.simulation.proofs.Laid.{write-kept, memory-path, hub-is, queue-is, lens-is, worker-put, list-kept}
 
 -- the store with worker w's record, the clock, the slots, the newest versions and the free slots replaced
 abbrev pub after : Store → ℕ → Model.Worker → ℕ → List Model.Slot → List ℕ → List ℕ → Store
@@ -62,8 +63,9 @@ module _ (s : Store) (m : Memory) (w : ℕ) (d : Model.Doing) (S : Sound s) (Z :
       simulated s m w d S laid wb e _ _ (T .model) (ap (finishIn m w X) (T .code))
       (memory-path
       (ap (λ (h : Hub). left h Y) (hub-is s m laid)
-      ∙ ap (left (hubRep s)) record-is
-      ∙ ap (λ (h : Hub). withFreeIn (withClockIn h k) (length free)) (worker-put s S w wb x))
+      ∙ ap (left (hubRep s (m .hub .window))) record-is
+      ∙ ap (λ (h : Hub). withFreeIn (withClockIn h k) (length free)) (worker-put s S w wb (m .hub .window) x))
       refl refl (T .freeKept) (queue-is s m laid) (lens-is s m laid)
-      (list-kept s S w wb m Z laid d x [] e (T .words)))
+      (list-kept s S w wb m Z laid d x [] e (T .words))
+      ∙ write-kept s (after s w x k l newest free) m (omega arith))
       refl

@@ -29,7 +29,7 @@ unfoldable pub memoryAfter : Hub → List Ruled → Memory → Memory
 memoryAfter h [] m = m
 memoryAfter h (b ∷ bs) m =
     let k = applyRuled h b .hub in
-    memoryAfter k bs (writeHub k m)
+    memoryAfter k bs (writeHub h k m)
 
 -- The memory m held the hub h, then es was sent and answered, and the memory m′ was left: all as the model has it.
 pub record AsModel (h : Hub) (m : Memory) (es : List Exchange) (m′ : Memory) : Type 0 where

@@ -10,6 +10,7 @@ use Rattle.model.specs.Batch.{batchOf}
 use Rattle.model.specs.Rules.{Ruled}
 use Rattle.model.specs.Apply.{applyRuled, hubAfter}
 use Rattle.slots.specs.Slots.{linkedTo}
+use Rattle.queue.specs.State.{Begins}
 use Rattle.ready.specs.Ready.{readyOf}
 use Rattle.simulation.specs.Memory.{Memory, write}
 
@@ -26,6 +27,7 @@ pub record LeftByRecords (s : Store) : Type 0 where
 -- memory in which such a store lies
 pub record Left (s : Store) (m : Memory) : Type 0 where
   pub store : LeftByRecords s
+  pub begins : Begins (m .hub .window)
   pub laid : m ≡ write s m
 
 -- the arrays have the lengths that their types give
@@ -33,8 +35,8 @@ pub record Sized (m : Memory) : Type 0 where
   pub workers : length (m .hub .workers) ≡ 16
   pub newest : length (m .newest) ≡ 256
   pub free : length (m .free) ≡ 2048
-  pub queue : length (m .queue) ≡ 6144
-  pub lens : length (m .lens) ≡ 2048
+  pub queue : length (m .queue) ≡ 12288
+  pub lens : length (m .lens) ≡ 4096
   pub merged : length (m .merged) ≡ 12288
 
 -- lent memory counts as set up

@@ -1,21 +1,23 @@
 -- The memory that is lent with each record, and how a store of the model lies in it. Entries that a store does not name keep their contents.
 use mathlib.Core.List.{List, [], _∷_, _++_, map, reverse}
-use Prim.Native.Nat.{ℕ}
+use Prim.Native.Nat.{ℕ, _*_}
 use lib.ListN.{length, take, drop, replicate}
-use Rattle.lists.specs.Over.{over}
+use Rattle.lists.specs.Over.{over, overAt}
 use Rattle.model.specs.About.{Hand, Empty, Covered, Merged, Needless, about}
 use Rattle.model.specs.Store as Model
 use Rattle.model.specs.Store.{Store, startWorker}
 use Rattle.worker.specs.Rep.{workerRep}
 use Rattle.ranges.specs.Words.{flat}
-use Rattle.queue.specs.Rep.{joinedRanges}
+use Rattle.values.specs.declared.Window.{Window}
+use Rattle.queue.specs.Rep.{joinedRanges, windowAt, windowAfter}
 use Rattle.slots.specs.declared.Slot.{Slot}
 use Rattle.slots.specs.Slots.{slotRep}
 use Rattle.state.specs.declared.Hub.{Hub}
+use Rattle.state.specs.State.{emptyWindow, withWindowIn}
 
 -- the hub by value; the row of slots; for each register the slot of its newest version; the free slots, the one that is taken first last;
--- the ranges of the queued pools, one pool after the other; the pools' lengths; and for each worker 256 ranges for the list that its flush
--- has in hand
+-- the ranges of the queued pools, one pool after the other, and the pools' lengths, each from where the hub's window begins; and for each worker
+-- 256 ranges for the list that its flush has in hand
 pub record Memory : Type 0 where
   pub hub : Hub
   pub slots : List Slot
@@ -45,16 +47,16 @@ cut m =
 ------------------------------------------------------------------------
 -- A store in memory
 
-abbrev pub hubRep : Store → Hub
-hubRep s =
+-- the hub by value, with the queue in a window that begins where w does
+abbrev pub hubRep : Store → Window → Hub
+hubRep s w =
     record {
       p = s .site .P;
       v = s .site .V';
       n = s .site .N;
       clock = s .clock;
       free = length (s .free);
-      pools = length (s .queue);
-      queued = length (joinedRanges (s .queue));
+      window = windowAt (s .queue) (w .first) (w .from);
       workers = over (map workerRep (s .workers)) (replicate 16 (workerRep startWorker));
     }
 
@@ -74,20 +76,39 @@ unfoldable pub mergedOver : List Model.Worker → List ℕ → List ℕ
 mergedOver [] d = d
 mergedOver (x ∷ l) d = over (inHandWords (x .doing)) (take 768 d) ++ mergedOver l (drop 768 d)
 
--- the memory with a store written over it
+-- the memory with a store written over it, the queue from where the window begins
 abbrev pub write : Store → Memory → Memory
 write s m =
+    let w = m .hub .window in
     record {
-      hub = hubRep s;
+      hub = hubRep s w;
       slots = over (map slotRep (s .slots)) (m .slots);
       newest = over (s .newest) (m .newest);
       free = over (reverse (s .free)) (m .free);
-      queue = over (flat (joinedRanges (s .queue))) (m .queue);
-      lens = over (map length (s .queue)) (m .lens);
+      queue = overAt (3 * w .from) (flat (joinedRanges (s .queue))) (m .queue);
+      lens = overAt (w .first) (map length (s .queue)) (m .lens);
       merged = mergedOver (s .workers) (m .merged);
     }
 
--- the same of a hub of the model; where it is not set up, the memory is as it was
-abbrev pub writeHub : Model.Hub → Memory → Memory
-writeHub (Model.blank row) m = m
-writeHub (Model.up s) m = write s m
+-- memory whose window is another
+abbrev pub beginAt : Memory → Window → Memory
+beginAt m w =
+    record {
+      hub = withWindowIn (m .hub) w;
+      slots = m .slots;
+      newest = m .newest;
+      free = m .free;
+      queue = m .queue;
+      lens = m .lens;
+      merged = m .merged;
+    }
+
+-- The window of the store s after the hub h, whose window was w: a setup's begins at the front.
+abbrev pub nextWindow : Model.Hub → Store → Window → Window
+nextWindow (Model.blank row) s w = emptyWindow
+nextWindow (Model.up s₀) s w = windowAfter (s₀ .queue) (s .queue) w
+
+-- the memory of the hub h with the next hub written over it; where that is not set up, the memory is as it was
+abbrev pub writeHub : Model.Hub → Model.Hub → Memory → Memory
+writeHub h (Model.blank row) m = m
+writeHub h (Model.up s) m = write s (beginAt m (nextWindow h s (m .hub .window)))

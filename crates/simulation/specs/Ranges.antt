@@ -14,6 +14,7 @@ use Rattle.worker.specs.About.{aboutOf}
 use Rattle.slots.specs.Slots.{vacantSlot}
 use Rattle.state.specs.declared.Hub.{Hub}
 use Rattle.state.specs.State.{workerIn}
+use Rattle.queue.specs.State.{Begins}
 use Rattle.ready.specs.Ready.{lensSum}
 use Rattle.simulation.specs.Memory.{Memory}
 use Rattle.simulation.specs.Left.{ready}
@@ -29,6 +30,10 @@ FewRanges h k b = (k ≤ b) × (k ≤ h .n - h .v)
 -- a neighbour is absent (H8.9) or a slot
 abbrev pub Neighbour : Hub → ℕ → Type 0
 Neighbour h o = (o ≡ absent) ⊎ (o < h .n)
+
+-- the length of the queue's pool i
+abbrev pub lengthIn : Memory → ℕ → ℕ
+lengthIn m i = getD (m .lens) (m .hub .window .first + i) 0
 
 -- what worker w's place names: a register, a slot, a list in hand of so many ranges, a count of times read
 pub record PlaceInRange (m : Memory) (w : ℕ) (y : Facts) : Type 0 where
@@ -62,19 +67,21 @@ pub record InRanges (m : Memory) : Type 0 where
   -- there are at most N - V free slots (H8.12)
   pub free : m .hub .free ≤ m .hub .n - m .hub .v
   -- at most N - V ranges are queued (H8.13)
-  pub queued : m .hub .queued ≤ m .hub .n - m .hub .v
+  pub queued : m .hub .window .queued ≤ m .hub .n - m .hub .v
   -- there are no more pools than ranges in them (H8.13)
-  pub pools : m .hub .pools ≤ m .hub .queued
+  pub pools : m .hub .window .pools ≤ m .hub .window .queued
+  -- the queue begins in the first half of its memory, at no more lengths than ranges (H8.21)
+  pub begins : Begins (m .hub .window)
   -- a queued pool has 1 to 2B ranges (H8.14)
-  pub lengths : (i : ℕ) → i < m .hub .pools → (1 ≤ getD (m .lens) i 0) × (getD (m .lens) i 0 ≤ 2 * batchIn (m .hub))
+  pub lengths : (i : ℕ) → i < m .hub .window .pools → (1 ≤ lengthIn m i) × (lengthIn m i ≤ 2 * batchIn (m .hub))
   -- the pools' lengths add up to the queued ranges (H8.13)
-  pub sum : lensSum (m .lens) (m .hub .pools) ≡ m .hub .queued
+  pub sum : lensSum (m .lens) (m .hub .window .first) (m .hub .window .pools) ≡ m .hub .window .queued
   -- slots are below N (H8.17): the newest of each register,
   pub newest : (r : ℕ) → r < m .hub .v → getD (m .newest) r 0 < m .hub .n
   -- each free one,
   pub freeSlots : (i : ℕ) → i < m .hub .free → getD (m .free) i 0 < m .hub .n
   -- that of each queued range, which has three words, the slot first
-  pub queueSlots : (j : ℕ) → j < m .hub .queued → getD (m .queue) (3 * j) 0 < m .hub .n
+  pub queueSlots : (j : ℕ) → j < m .hub .window .queued → getD (m .queue) (3 * (m .hub .window .from + j)) 0 < m .hub .n
   -- each neighbour of a slot below N, if there is one, is below N (H8.19)
   pub neighbours : (c : ℕ) → c < m .hub .n
       → Neighbour (m .hub) (getD (m .slots) c vacantSlot .older) × Neighbour (m .hub) (getD (m .slots) c vacantSlot .newer)

@@ -16,7 +16,7 @@ use Rattle.worker.specs.declared.Doing.the-variants.{FlushRead, FlushFree}
 use Rattle.worker.specs.declared.Worker.{Worker}
 use Rattle.worker.specs.Rep.{poolRep}
 use Rattle.state.specs.declared.Hub.{Hub}
-use Rattle.state.specs.State.{freshHub, workerIn, atPlace, withWorkersIn, withWorkerIn, withClockIn, withFreeIn, withCounts}
+use Rattle.state.specs.State.{freshHub, workerIn, atPlace, withWorkersIn, withWorkerIn, withClockIn, withFreeIn, withWindowIn}
 use Rattle.arrays.specs.Arrays.{short, fillTo}
 use Rattle.gate.specs.declared.Gate.{Gate}
 use Rattle.gate.specs.declared.Gate.the-variants.{Refuse, Make, Start, Go}
@@ -71,7 +71,7 @@ abbrev pub answered : Memory → Answer → Result
 answered m y = record { memory = m; answer = y }
 
 abbrev pub queueIn : Memory → Queue
-queueIn m = record { queue = m .queue; lens = m .lens; pools = m .hub .pools; queued = m .hub .queued }
+queueIn m = record { queue = m .queue; lens = m .lens; window = m .hub .window }
 
 ------------------------------------------------------------------------
 -- A step of worker w, whose record is x
@@ -97,7 +97,7 @@ tookIn m w x =
     record {
       memory =
           record {
-            hub = withCounts (withWorkerIn (m .hub) w y) (rest q .pools) (rest q .queued);
+            hub = withWindowIn (withWorkerIn (m .hub) w y) (rest q .window);
             slots = m .slots;
             newest = m .newest;
             free = m .free;
@@ -135,7 +135,7 @@ splitIn m w x n =
     record {
       memory =
           record {
-            hub = withCounts (withWorkerIn (m .hub) w y) (q .pools) (q .queued);
+            hub = withWindowIn (withWorkerIn (m .hub) w y) (q .window);
             slots = m .slots;
             newest = m .newest;
             free = m .free;

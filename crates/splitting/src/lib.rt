@@ -10,7 +10,7 @@ ghost use Rattle.queue.specs.State.{poolsIn};
 ghost use Rattle.worker.specs.Pool.{rangesIn};
 ghost use Rattle.flush.specs.Flush.{partOf, withPart};
 ghost use Rattle.splitting.specs.Splitting.{requeued, joinedAfter, mayCut, splitLeft, splitQueue, splitMerged, splitNeeded, splitLocal, splitJoined};
-use queue::Counts;
+use values::Window;
 use worker::Pool;
 
 fn wide(x: u16) -> u32
@@ -39,20 +39,20 @@ fn pool_words(q: Pool, out: &mut [u32])
 // The pools that are queued: of the first `stay` ranges of needed, and the local pool. `size` is the batch size.
 // What `local` and `joined` hold at entry does not matter: the local pool's words are written to the one, the joined list to the other.
 fn requeue(
-    queue: &mut [u32; 6144],
-    lens: &mut [u32; 2048],
-    counts: Counts,
+    queue: &mut [u32; 12288],
+    lens: &mut [u32; 4096],
+    window: Window,
     q: Pool,
     needed: &[u32; 768],
     stay: usize,
     size: usize,
     local: &mut [u32; 192],
     joined: &mut [u32; 960],
-) -> Counts
+) -> Window
     requires { ⌜ (q .len ≤ 64) × (stay ≤ 256) × (size < 4294967296) ⌝ }
     ensures { λ r. ⌜
-        record { queue = now (queue .exit); lens = now (lens .exit); pools = r .pools; queued = r .queued }
-        ≡ requeued (record { queue = now (queue .entry); lens = now (lens .entry); pools = counts .pools; queued = counts .queued }) q (now (needed .entry)) stay size
+        poolsIn (now (queue .exit)) (now (lens .exit)) r
+        ≡ requeued (poolsIn (now (queue .entry)) (now (lens .entry)) window) q (now (needed .entry)) stay size
         ⌝ }
     ensures { λ _. ⌜ now (local .exit) ≡ over (flat (rangesIn q)) (now (local .entry)) ⌝ }
     ensures { λ _. ⌜ now (joined .exit) ≡ joinedAfter q (now (needed .entry)) stay size (now (joined .entry)) ⌝ }
@@ -63,16 +63,16 @@ fn requeue(
         let h = (stay + 1) / 2;
         let at = 3 * h;
         let all = &needed[..];
-        let first = queue::push(queue, lens, counts, all, h);
+        let first = queue::push(queue, lens, window, all, h);
         let second = queue::push(queue, lens, first, &all[at..], stay - h);
         return queue::push(queue, lens, second, local, n);
     }
     if size < stay {
-        let first = queue::push(queue, lens, counts, needed, stay);
+        let first = queue::push(queue, lens, window, needed, stay);
         return queue::push(queue, lens, first, local, n);
     }
     ranges::merge(local, n, needed, stay, joined);
-    queue::push(queue, lens, counts, joined, n + stay)
+    queue::push(queue, lens, window, joined, n + stay)
 }
 
 // The first m ranges of worker w's part of the merged lists, split by the first p times.
@@ -101,18 +101,18 @@ fn may_split(w: usize, m: usize, p: usize, len: usize) -> bool
     ((w < 16) & (m <= 256)) & ((p <= 16) & (len <= 64))
 }
 
-// How many needless ranges are left to free, and the queue's counts.
+// How many needless ranges are left to free, and the queue's window.
 pub struct Parted {
     pub left: u16,
-    pub counts: Counts,
+    pub window: Window,
 }
 
 // Flush (3), of worker w's first m ranges by the first p times: the needless ranges stay in its part, the needed ones and the local pool go
 // to the queue. The last three arrays are space to work in; what they hold at entry does not matter.
 pub fn flush_split(
-    queue: &mut [u32; 6144],
-    lens: &mut [u32; 2048],
-    counts: Counts,
+    queue: &mut [u32; 12288],
+    lens: &mut [u32; 4096],
+    window: Window,
     merged: &mut [u32; 12288],
     w: usize,
     m: u16,
@@ -125,8 +125,8 @@ pub fn flush_split(
 ) -> Parted
     ensures { λ r. ⌜ r .left ≡ splitLeft (now (merged .entry)) w m (now (times .entry)) p q ⌝ }
     ensures { λ r. ⌜
-        poolsIn (now (queue .exit)) (now (lens .exit)) (r .counts)
-        ≡ splitQueue (poolsIn (now (queue .entry)) (now (lens .entry)) counts) (now (merged .entry)) w m (now (times .entry)) p q
+        poolsIn (now (queue .exit)) (now (lens .exit)) (r .window)
+        ≡ splitQueue (poolsIn (now (queue .entry)) (now (lens .entry)) window) (now (merged .entry)) w m (now (times .entry)) p q
         ⌝ }
     ensures { λ _. ⌜ now (merged .exit) ≡ splitMerged (now (merged .entry)) w m (now (times .entry)) p q ⌝ }
     ensures { λ _. ⌜ now (needed .exit) ≡ splitNeeded (now (merged .entry)) w m (now (times .entry)) p q (now (needed .entry)) ⌝ }
@@ -140,7 +140,7 @@ pub fn flush_split(
         let after = requeue(
             queue,
             lens,
-            counts,
+            window,
             q,
             needed,
             n - k,
@@ -150,8 +150,8 @@ pub fn flush_split(
         );
         return Parted {
             left: (k % 65536) as u16,
-            counts: after,
+            window: after,
         };
     }
-    Parted { left: 0, counts }
+    Parted { left: 0, window }
 }

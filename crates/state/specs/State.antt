@@ -3,12 +3,17 @@ use mathlib.Core.List.{List, []}
 use Prim.Native.Nat.{ℕ, _-_}
 use lib.ListN.{getD, set, replicate}
 use Rattle.model.specs.Store.{startWorker}
+use Rattle.values.specs.declared.Window.{Window}
 use Rattle.worker.specs.Rep.{workerRep}
 use Rattle.worker.specs.declared.Worker.{Worker}
 use Rattle.worker.specs.declared.Doing.{Doing}
 use Rattle.worker.specs.declared.Doing.the-variants.{Idle}
 use Rattle.worker.specs.declared.Announced.the-variants.{Nothing}
 use Rattle.state.specs.declared.Hub.{Hub}
+
+-- the window of an empty queue
+abbrev pub emptyWindow : Window
+emptyWindow = record { first = 0; pools = 0; from = 0; queued = 0 }
 
 -- H2.6 to H2.8, H8.10: all workers at their start, the queue empty. H2.10: the n - v slots that hold no register's version are free.
 abbrev pub freshHub : ℕ → ℕ → ℕ → ℕ → Hub
@@ -19,8 +24,7 @@ freshHub p v n t =
       n = n;
       clock = t;
       free = n - v;
-      pools = 0;
-      queued = 0;
+      window = emptyWindow;
       workers = replicate 16 (workerRep startWorker);
     }
 
@@ -47,8 +51,7 @@ withWorkersIn h l =
       n = h .n;
       clock = h .clock;
       free = h .free;
-      pools = h .pools;
-      queued = h .queued;
+      window = h .window;
       workers = l;
     }
 
@@ -64,8 +67,7 @@ withClockIn h k =
       n = h .n;
       clock = k;
       free = h .free;
-      pools = h .pools;
-      queued = h .queued;
+      window = h .window;
       workers = h .workers;
     }
 
@@ -77,20 +79,18 @@ withFreeIn h k =
       n = h .n;
       clock = h .clock;
       free = k;
-      pools = h .pools;
-      queued = h .queued;
+      window = h .window;
       workers = h .workers;
     }
 
-abbrev pub withCounts : Hub → ℕ → ℕ → Hub
-withCounts h pools queued =
+abbrev pub withWindowIn : Hub → Window → Hub
+withWindowIn h w =
     record {
       p = h .p;
       v = h .v;
       n = h .n;
       clock = h .clock;
       free = h .free;
-      pools = pools;
-      queued = queued;
+      window = w;
       workers = h .workers;
     }

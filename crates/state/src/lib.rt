@@ -1,17 +1,17 @@
 // The hub by value: its sizes, clock and counts, and up to sixteen workers side by side, each with its own record.
 ghost use mathlib.Core.Path.{_≡_};
 ghost use Rattle.state.specs.State.{freshHub};
+use values::Window;
 use worker::Worker;
 
-// P, V and N (H1.1 to H1.3), the clock, how many slots are free, how many pools are queued and how many ranges they have together.
+// P, V and N (H1.1 to H1.3), the clock, how many slots are free, and where the queue lies in its memory.
 pub struct Hub {
     pub p: usize,
     pub v: usize,
     pub n: usize,
     pub clock: u32,
     pub free: usize,
-    pub pools: usize,
-    pub queued: usize,
+    pub window: Window,
     pub workers: [Worker; 16],
 }
 
@@ -25,14 +25,19 @@ impl Hub {
         if v <= n {
             free = n - v;
         }
+        let window = Window {
+            first: 0,
+            pools: 0,
+            from: 0,
+            queued: 0,
+        };
         Hub {
             p,
             v,
             n,
             clock,
             free,
-            pools: 0,
-            queued: 0,
+            window,
             workers: [x; 16],
         }
     }

@@ -15,3 +15,12 @@ pub enum Answer {
     Done,
     No(u8),
 }
+
+// Where the queue lies in its memory: from length `first` on the lengths of so many pools, from range `from` on their ranges, so many
+// together.
+pub struct Window {
+    pub first: usize,
+    pub pools: usize,
+    pub from: usize,
+    pub queued: usize,
+}

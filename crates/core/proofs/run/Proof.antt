@@ -7,7 +7,7 @@ use lib.ListN.{length, length-set}
 use borrow.Author.Needs.{needs}
 use Rattle.model.specs.Record as Model
 use Rattle.state.specs.declared.Hub.{Hub}
-use Rattle.state.specs.State.{withWorkersIn}
+use Rattle.state.specs.State.{withWorkersIn, withWindowIn}
 use Rattle.simulation.specs.Shell.{offWorker}
 use Rattle.simulation.specs.Loop.{after}
 use Rattle.lists.proofs.Mapped.{mapped, length-mapped}
@@ -19,22 +19,22 @@ use Rattle.core.proofs.run.Statement.{statement}
 use Rattle.core.proofs.run.Tie as tie
 
 abbrev Inv-loop2 : tie.InvT-loop2
-Inv-loop2 row bytes count kinds numbers newest free queue lens merged linked up hub₀ needed local joined k w left f j₀ hub j =
+Inv-loop2 row bytes count kinds numbers newest free queue lens merged linked up hub₀ window needed local joined k w left f j₀ hub j =
     (j ≤ 16) × (hub ≡ withWorkersIn hub₀ (mapped (offWorker (f .slot) (f .older)) j (hub₀ .workers))) × (length (hub₀ .workers) ≡ 16)
 
 abbrev μ-loop2 : tie.MeasureT-loop2
-μ-loop2 row bytes count kinds numbers newest free queue lens merged linked up hub₀ needed local joined k w left f j₀ hub j =
+μ-loop2 row bytes count kinds numbers newest free queue lens merged linked up hub₀ window needed local joined k w left f j₀ hub j =
     16 - j
 
 abbrev Inv-loop : tie.InvT-loop
-Inv-loop row₀ bytes count kinds₀ numbers₀ newest₀ free₀ queue₀ lens₀ merged₀ linked up₀ hub₀ last₀ needed₀ local₀ joined₀ k₀
-    row kinds numbers newest free queue lens merged up hub last needed local joined k =
-    SoFar (stateOf up₀ hub₀ row₀ newest₀ free₀ queue₀ lens₀ merged₀ kinds₀ numbers₀ last₀) bytes count k
-    (stateOf up hub row newest free queue lens merged kinds numbers last)
+Inv-loop row₀ bytes count kinds₀ numbers₀ newest₀ free₀ queue₀ lens₀ merged₀ linked up₀ hub₀ window₀ last₀ needed₀ local₀ joined₀ k₀
+    row kinds numbers newest free queue lens merged up hub window last needed local joined k =
+    SoFar (stateOf up₀ (withWindowIn hub₀ window₀) row₀ newest₀ free₀ queue₀ lens₀ merged₀ kinds₀ numbers₀ last₀) bytes count k
+    (stateOf up (withWindowIn hub window) row newest free queue lens merged kinds numbers last)
 
 abbrev μ-loop : tie.MeasureT-loop
-μ-loop row₀ bytes count kinds₀ numbers₀ newest₀ free₀ queue₀ lens₀ merged₀ linked up₀ hub₀ last₀ needed₀ local₀ joined₀ k₀
-    row kinds numbers newest free queue lens merged up hub last needed local joined k =
+μ-loop row₀ bytes count kinds₀ numbers₀ newest₀ free₀ queue₀ lens₀ merged₀ linked up₀ hub₀ window₀ last₀ needed₀ local₀ joined₀ k₀
+    row kinds numbers newest free queue lens merged up hub window last needed local joined k =
     count - k
 
 -- the length of the array of workers
@@ -50,11 +50,11 @@ ready-requires c κs = tt
 loop-holds : tie.Need-loop-holds Inv-loop2 μ-loop2 Inv-loop μ-loop
 unfolding after
 loop-holds c =
-    let A = c .before .before .before .before .before .before .before .before .before .before .before in
+    let A = c .before .before .before .before .before .before .before .before .before .before .before .before in
     record {
       inside = omega arith;
       state = refl;
-      few = λ u. ready-few _ _ _ _ _ _ _ _ (sym (c .ready .ensures) ∙ u);
+      few = λ u. ready-few _ _ _ _ _ _ _ _ (sym (c .before .ready .ensures) ∙ u);
       row = refl;
       sixteen = workers-long A;
       kinds-long = refl;
@@ -88,7 +88,7 @@ put-answer-requires c κs = tt
 add-k : tie.Need-add-k Inv-loop2 μ-loop2 Inv-loop μ-loop
 add-k c =
     let I = c .before .before .before .before .before .before .before .before .before .before .before .before .before .before .before in
-    let A = I .before .before .before .before .before .before .before .before .before .before .before .before .before in
+    let A = I .before .before .before .before .before .before .before .before .before .before .before .before .before .before in
     omega (arith, I .loop-test .taken, A .fits)
 
 loop-less : tie.Need-loop-less Inv-loop2 μ-loop2 Inv-loop μ-loop
@@ -133,7 +133,7 @@ cast-fill-free c = omega arith
 
 fill-free-requires : tie.Need-fill-free-requires Inv-loop2 μ-loop2 Inv-loop μ-loop
 fill-free-requires c κs =
-    let H = c .before .before .before in
+    let H = c .before .before .before .before in
     omega (arith, ap (λ (z : Hub). z .free) (H .fresh .ensures))
 
 cast-set-up : tie.Need-cast-set-up Inv-loop2 μ-loop2 Inv-loop μ-loop
@@ -151,14 +151,14 @@ put-answer-requires-2 c κs = tt
 add-k-2 : tie.Need-add-k-2 Inv-loop2 μ-loop2 Inv-loop μ-loop
 add-k-2 c =
     let J = c .before .before .before .before .before .before .before .before .before .before .before .before in
-    let I = J .before .before .before .before .before .before .before .before .before .before .before in
-    let A = I .before .before .before .before .before .before .before .before .before .before .before .before .before in
+    let I = J .before .before .before .before .before .before .before .before .before .before .before .before in
+    let A = I .before .before .before .before .before .before .before .before .before .before .before .before .before .before in
     omega (arith, I .loop-test .taken, A .fits)
 
 loop-less-2 : tie.Need-loop-less-2 Inv-loop2 μ-loop2 Inv-loop μ-loop
 loop-less-2 c =
     let J = c .before .before .before .before .before .before .before .before .before .before .before .before in
-    let I = J .before .before .before .before .before .before .before .before .before .before .before in
+    let I = J .before .before .before .before .before .before .before .before .before .before .before .before in
     omega (arith, I .loop-test .taken)
 
 loop-again-2 : tie.Need-loop-again-2 Inv-loop2 μ-loop2 Inv-loop μ-loop
@@ -167,7 +167,7 @@ loop-again-2 c =
     let W = P .before .before .before .before in
     let F = W .before .before in
     let N = F .before .before in
-    let H = N .before .before in
+    let H = N .before .before .before in
     let K = H .before .before in
     let G = K .before .before in
     on-make (deciding (G .before .before .before .before .before .before .loop .row) (G .before .before .before .before .before .before .loop .inv)
@@ -180,8 +180,8 @@ loop-again-2 c =
 enum-known-g-3 : tie.Need-enum-known-g-3 Inv-loop2 μ-loop2 Inv-loop μ-loop
 enum-known-g-3 c = search needs
 
-mul-t104 : tie.Need-mul-t104 Inv-loop2 μ-loop2 Inv-loop μ-loop
-mul-t104 c = omega arith
+mul-t102 : tie.Need-mul-t102 Inv-loop2 μ-loop2 Inv-loop μ-loop
+mul-t102 c = omega arith
 
 element-set-from-hub : tie.Need-element-set-from-hub Inv-loop2 μ-loop2 Inv-loop μ-loop
 element-set-from-hub c = omega arith
@@ -193,7 +193,7 @@ add-k-3 : tie.Need-add-k-3 Inv-loop2 μ-loop2 Inv-loop μ-loop
 add-k-3 c =
     let J = c .before .before .before .before .before .before .before .before .before in
     let I = J .before .before .before .before .before .before .before .before in
-    let A = I .before .before .before .before .before .before .before .before .before .before .before .before .before in
+    let A = I .before .before .before .before .before .before .before .before .before .before .before .before .before .before in
     omega (arith, I .loop-test .taken, A .fits)
 
 loop-less-3 : tie.Need-loop-less-3 Inv-loop2 μ-loop2 Inv-loop μ-loop
@@ -222,8 +222,8 @@ step-requires c κs = tt
 enum-known-s : tie.Need-enum-known-s Inv-loop2 μ-loop2 Inv-loop μ-loop
 enum-known-s c = search needs
 
-mul-t122 : tie.Need-mul-t122 Inv-loop2 μ-loop2 Inv-loop μ-loop
-mul-t122 c = omega arith
+mul-t120 : tie.Need-mul-t120 Inv-loop2 μ-loop2 Inv-loop μ-loop
+mul-t120 c = omega arith
 
 element-set-from-hub-2 : tie.Need-element-set-from-hub-2 Inv-loop2 μ-loop2 Inv-loop μ-loop
 element-set-from-hub-2 c = omega arith
@@ -235,7 +235,7 @@ add-k-4 : tie.Need-add-k-4 Inv-loop2 μ-loop2 Inv-loop μ-loop
 add-k-4 c =
     let J = c .before .before .before .before .before .before .before .before .before .before .before .before in
     let I = J .before .before .before .before .before .before .before .before .before .before .before .before in
-    let A = I .before .before .before .before .before .before .before .before .before .before .before .before .before in
+    let A = I .before .before .before .before .before .before .before .before .before .before .before .before .before .before in
     omega (arith, I .loop-test .taken, A .fits)
 
 loop-less-4 : tie.Need-loop-less-4 Inv-loop2 μ-loop2 Inv-loop μ-loop
@@ -264,8 +264,8 @@ enum-known-s-2 c = search needs
 put-hand-in-requires : tie.Need-put-hand-in-requires Inv-loop2 μ-loop2 Inv-loop μ-loop
 put-hand-in-requires c κs = tt
 
-mul-t131 : tie.Need-mul-t131 Inv-loop2 μ-loop2 Inv-loop μ-loop
-mul-t131 c = omega arith
+mul-t129 : tie.Need-mul-t129 Inv-loop2 μ-loop2 Inv-loop μ-loop
+mul-t129 c = omega arith
 
 element-set-from-hub-3 : tie.Need-element-set-from-hub-3 Inv-loop2 μ-loop2 Inv-loop μ-loop
 element-set-from-hub-3 c = omega arith
@@ -277,7 +277,7 @@ add-k-5 : tie.Need-add-k-5 Inv-loop2 μ-loop2 Inv-loop μ-loop
 add-k-5 c =
     let J = c .before .before .before .before .before .before .before .before .before .before .before .before .before .before in
     let I = J .before .before .before .before .before .before .before .before .before .before .before .before .before in
-    let A = I .before .before .before .before .before .before .before .before .before .before .before .before .before in
+    let A = I .before .before .before .before .before .before .before .before .before .before .before .before .before .before in
     omega (arith, I .loop-test .taken, A .fits)
 
 loop-less-5 : tie.Need-loop-less-5 Inv-loop2 μ-loop2 Inv-loop μ-loop
@@ -315,11 +315,11 @@ flush-take-requires c κs =
     (named-by (G .before .before .before .worker-byte .ensures .0) (G .before .before .before .before .record-at .ensures)) (G .gate-for .ensures))
     _ (E .enum-told .given .1) _ _ _ (T .step .ensures)
 
-cast-t146 : tie.Need-cast-t146 Inv-loop2 μ-loop2 Inv-loop μ-loop
-cast-t146 c = omega arith
+cast-t143 : tie.Need-cast-t143 Inv-loop2 μ-loop2 Inv-loop μ-loop
+cast-t143 c = omega arith
 
-mul-t142 : tie.Need-mul-t142 Inv-loop2 μ-loop2 Inv-loop μ-loop
-mul-t142 c = omega arith
+mul-t149 : tie.Need-mul-t149 Inv-loop2 μ-loop2 Inv-loop μ-loop
+mul-t149 c = omega arith
 
 element-set-from-hub-4 : tie.Need-element-set-from-hub-4 Inv-loop2 μ-loop2 Inv-loop μ-loop
 element-set-from-hub-4 c = omega arith
@@ -331,7 +331,7 @@ add-k-6 : tie.Need-add-k-6 Inv-loop2 μ-loop2 Inv-loop μ-loop
 add-k-6 c =
     let J = c .before .before .before .before .before .before .before .before .before .before .before .before .before .before in
     let I = J .before .before .before .before .before .before .before .before .before .before .before .before .before .before in
-    let A = I .before .before .before .before .before .before .before .before .before .before .before .before .before in
+    let A = I .before .before .before .before .before .before .before .before .before .before .before .before .before .before in
     omega (arith, I .loop-test .taken, A .fits)
 
 loop-less-6 : tie.Need-loop-less-6 Inv-loop2 μ-loop2 Inv-loop μ-loop
@@ -370,8 +370,8 @@ element-copy-out-z c = omega arith
 flush-read-requires : tie.Need-flush-read-requires Inv-loop2 μ-loop2 Inv-loop μ-loop
 flush-read-requires c κs = tt
 
-add-t159 : tie.Need-add-t159 Inv-loop2 μ-loop2 Inv-loop μ-loop
-add-t159 c =
+add-t157 : tie.Need-add-t157 Inv-loop2 μ-loop2 Inv-loop μ-loop
+add-t157 c =
     let K = c .before .before .before .before in
     let T = K .before .before .before in
     let E = T .before .before .before .before in
@@ -384,8 +384,8 @@ add-t159 c =
     let p = workers D _ (E .enum-told .given .1) _ _ _ (T .step .ensures) in
     omega (arith, l, p)
 
-mul-t160 : tie.Need-mul-t160 Inv-loop2 μ-loop2 Inv-loop μ-loop
-mul-t160 c = omega arith
+mul-t158 : tie.Need-mul-t158 Inv-loop2 μ-loop2 Inv-loop μ-loop
+mul-t158 c = omega arith
 
 element-set-from-hub-5 : tie.Need-element-set-from-hub-5 Inv-loop2 μ-loop2 Inv-loop μ-loop
 element-set-from-hub-5 c = omega arith
@@ -397,7 +397,7 @@ add-k-7 : tie.Need-add-k-7 Inv-loop2 μ-loop2 Inv-loop μ-loop
 add-k-7 c =
     let J = c .before .before .before .before .before .before .before .before .before .before .before .before .before in
     let I = J .before .before .before .before .before .before .before .before .before .before .before .before .before in
-    let A = I .before .before .before .before .before .before .before .before .before .before .before .before .before in
+    let A = I .before .before .before .before .before .before .before .before .before .before .before .before .before .before in
     omega (arith, I .loop-test .taken, A .fits)
 
 loop-less-7 : tie.Need-loop-less-7 Inv-loop2 μ-loop2 Inv-loop μ-loop
@@ -427,8 +427,8 @@ enum-known-s-4 c = search needs
 flush-split-requires : tie.Need-flush-split-requires Inv-loop2 μ-loop2 Inv-loop μ-loop
 flush-split-requires c κs = tt
 
-mul-t175 : tie.Need-mul-t175 Inv-loop2 μ-loop2 Inv-loop μ-loop
-mul-t175 c = omega arith
+mul-t176 : tie.Need-mul-t176 Inv-loop2 μ-loop2 Inv-loop μ-loop
+mul-t176 c = omega arith
 
 element-set-from-hub-6 : tie.Need-element-set-from-hub-6 Inv-loop2 μ-loop2 Inv-loop μ-loop
 element-set-from-hub-6 c = omega arith
@@ -440,7 +440,7 @@ add-k-8 : tie.Need-add-k-8 Inv-loop2 μ-loop2 Inv-loop μ-loop
 add-k-8 c =
     let J = c .before .before .before .before .before .before .before .before .before .before .before .before .before .before .before .before .before in
     let I = J .before .before .before .before .before .before .before .before .before .before .before .before .before .before .before .before in
-    let A = I .before .before .before .before .before .before .before .before .before .before .before .before .before in
+    let A = I .before .before .before .before .before .before .before .before .before .before .before .before .before .before in
     omega (arith, I .loop-test .taken, A .fits)
 
 loop-less-8 : tie.Need-loop-less-8 Inv-loop2 μ-loop2 Inv-loop μ-loop
@@ -480,8 +480,8 @@ flush-free-requires c κs =
     (named-by (G .before .before .before .worker-byte .ensures .0) (G .before .before .before .before .record-at .ensures)) (G .gate-for .ensures)) in
     (below D _ (E .enum-told .given .1) _ _ _ (T .step .ensures), told D _ (E .enum-told .given .1) _ _ _ (T .step .ensures) _ (K .s5 .given .1))
 
-sub-t203 : tie.Need-sub-t203 Inv-loop2 μ-loop2 Inv-loop μ-loop
-sub-t203 c =
+sub-t200 : tie.Need-sub-t200 Inv-loop2 μ-loop2 Inv-loop μ-loop
+sub-t200 c =
     let K = c .before .before .before .before .before .before in
     let T = K .before .before .before in
     let E = T .before .before .before .before in
@@ -494,8 +494,8 @@ sub-t203 c =
     _ (E .enum-told .given .1) _ _ _ (T .step .ensures) _ (K .s5 .given .1) in
     omega (arith, l)
 
-mul-t202 : tie.Need-mul-t202 Inv-loop2 μ-loop2 Inv-loop μ-loop
-mul-t202 c = omega arith
+mul-t199 : tie.Need-mul-t199 Inv-loop2 μ-loop2 Inv-loop μ-loop
+mul-t199 c = omega arith
 
 element-set-from-hub-7 : tie.Need-element-set-from-hub-7 Inv-loop2 μ-loop2 Inv-loop μ-loop
 element-set-from-hub-7 c = omega arith
@@ -519,8 +519,8 @@ stands-on-requires c κs = tt
 off-requires : tie.Need-off-requires Inv-loop2 μ-loop2 Inv-loop μ-loop
 off-requires c κs = tt
 
-mul-t221 : tie.Need-mul-t221 Inv-loop2 μ-loop2 Inv-loop μ-loop
-mul-t221 c = omega arith
+mul-t218 : tie.Need-mul-t218 Inv-loop2 μ-loop2 Inv-loop μ-loop
+mul-t218 c = omega arith
 
 element-set-from-hub-8 : tie.Need-element-set-from-hub-8 Inv-loop2 μ-loop2 Inv-loop μ-loop
 element-set-from-hub-8 c = omega arith
@@ -568,7 +568,7 @@ add-k-9 : tie.Need-add-k-9 Inv-loop2 μ-loop2 Inv-loop μ-loop
 add-k-9 c =
     let J = c .before .before .before .before .before .before .before .before .before .before .before .before .before .before .before .before in
     let I = J .before .before .before .before .before .before .before .before .before .before .before .before .before .before .before in
-    let A = I .before .before .before .before .before .before .before .before .before .before .before .before .before in
+    let A = I .before .before .before .before .before .before .before .before .before .before .before .before .before .before in
     omega (arith, I .loop-test .taken, A .fits)
 
 loop-less-9 : tie.Need-loop-less-9 Inv-loop2 μ-loop2 Inv-loop μ-loop
@@ -593,27 +593,28 @@ loop-again-9 c =
     (named-by (G .before .before .before .worker-byte .ensures .0) (G .before .before .before .before .record-at .ensures)) (G .gate-for .ensures))
     _ (E .enum-told .given .1) _ _ _ (T .step .ensures)
     _ _ _ _ _ _ _ _ _ (K .s5 .given .1) (H .flush-free .ensures .0) (H .flush-free .ensures .1 .0) (H .flush-free .ensures .1 .1)
-    (J .loop2 .inv .0) (X .loop2-test .left) (J .loop2 .inv .1) (P .put-answer9 .ensures)
+    (J .loop2 .inv .0) (X .loop2-test .left)
+    (ap (λ (z : Hub). withWindowIn z (G .before .before .before .before .before .before .loop .window)) (J .loop2 .inv .1)) (P .put-answer9 .ensures)
 
 same-length : tie.Need-same-length Inv-loop2 μ-loop2 Inv-loop μ-loop
 same-length c =
-    let L = c .before in
-    let A = L .before .before .before .before .before .before .before .before .before .before .before .before in
+    let L = c .before .before in
+    let A = L .before .before .before .before .before .before .before .before .before .before .before .before .before in
     words-long (L .loop .row) (A .args .row .now) (L .loop .inv .row)
 
 same-length-2 : tie.Need-same-length-2 Inv-loop2 μ-loop2 Inv-loop μ-loop
-same-length-2 c = c .before .loop .inv .kinds-long
+same-length-2 c = c .before .before .loop .inv .kinds-long
 
 same-length-3 : tie.Need-same-length-3 Inv-loop2 μ-loop2 Inv-loop μ-loop
-same-length-3 c = c .before .loop .inv .numbers-long
+same-length-3 c = c .before .before .loop .inv .numbers-long
 
 returns : tie.Need-returns Inv-loop2 μ-loop2 Inv-loop μ-loop
 returns c =
-    let L = c .before in
-    let Q = L .before in
+    let L = c .before .before in
+    let Q = L .before .before in
     let B = Q .before .before .before .before .before .before in
     let A = B .before .before .before .before .before in
-    finished _ _ _ _ _ _ _ _ (L .loop .inv) (c .loop-test .left)
+    finished _ _ _ _ _ _ _ _ (L .loop .inv) (c .before .loop-test .left)
     (ready-is _ (A .args .row .now) _ _ _ _ _ _ _ (B .all-linked .ensures) (Q .ready .ensures))
 
 pub run-spec : {M : Type 1} → statement M
@@ -655,7 +656,7 @@ run-spec =
     loop-less-2
     loop-again-2
     enum-known-g-3
-    mul-t104
+    mul-t102
     element-set-from-hub
     put-answer-requires-3
     add-k-3
@@ -664,7 +665,7 @@ run-spec =
     enum-told
     step-requires
     enum-known-s
-    mul-t122
+    mul-t120
     element-set-from-hub-2
     put-answer-requires-4
     add-k-4
@@ -672,7 +673,7 @@ run-spec =
     loop-again-4
     enum-known-s-2
     put-hand-in-requires
-    mul-t131
+    mul-t129
     element-set-from-hub-3
     put-answer-requires-5
     add-k-5
@@ -680,8 +681,8 @@ run-spec =
     loop-again-5
     enum-told-2
     flush-take-requires
-    cast-t146
-    mul-t142
+    cast-t143
+    mul-t149
     element-set-from-hub-4
     put-answer-requires-6
     add-k-6
@@ -692,8 +693,8 @@ run-spec =
     mul-z
     element-copy-out-z
     flush-read-requires
-    add-t159
-    mul-t160
+    add-t157
+    mul-t158
     element-set-from-hub-5
     put-answer-requires-7
     add-k-7
@@ -701,7 +702,7 @@ run-spec =
     loop-again-7
     enum-known-s-4
     flush-split-requires
-    mul-t175
+    mul-t176
     element-set-from-hub-6
     put-answer-requires-8
     add-k-8
@@ -709,15 +710,15 @@ run-spec =
     loop-again-8
     enum-known-s-5
     flush-free-requires
-    sub-t203
-    mul-t202
+    sub-t200
+    mul-t199
     element-set-from-hub-7
     loop2-holds
     mul-z-2
     element-copy-out-z-2
     stands-on-requires
     off-requires
-    mul-t221
+    mul-t218
     element-set-from-hub-8
     add-j
     loop2-less

@@ -1,4 +1,4 @@
--- `lens_fit` meets its contract. The loop's invariant: `ok` is the answer for the first i pools, of which the definition takes the next
+-- `lens_fit` meets its contract. The loop's invariant: `ok` is the answer for the first j pools, of which the definition takes the next
 -- as the turn does.
 use mathlib.Core.Path.{_≡_, refl}
 use Prim.Native.Nat.{_-_, _≤_}
@@ -9,14 +9,17 @@ use Rattle.ready.proofs.lens_fit.Statement.{statement}
 use Rattle.ready.proofs.lens_fit.Tie as tie
 
 abbrev Inv-loop : tie.InvT-loop
-Inv-loop lens k most ok₀ i₀ ok i = (i ≤ k) × (ok ≡ lensFit lens most i)
+Inv-loop lens i k most ok₀ j₀ ok j = (j ≤ k) × (ok ≡ lensFit lens i most j)
 
 abbrev μ-loop : tie.MeasureT-loop
-μ-loop lens k most ok₀ i₀ ok i = k - i
+μ-loop lens i k most ok₀ j₀ ok j = k - j
 
 loop-holds : tie.Need-loop-holds Inv-loop μ-loop
 unfolding lensFit
 loop-holds c = (omega arith, refl)
+
+add-x : tie.Need-add-x Inv-loop μ-loop
+add-x c = omega arith
 
 mul-x : tie.Need-mul-x Inv-loop μ-loop
 mul-x c = omega arith
@@ -24,8 +27,8 @@ mul-x c = omega arith
 element-copy-out-x : tie.Need-element-copy-out-x Inv-loop μ-loop
 element-copy-out-x c = omega arith
 
-add-i : tie.Need-add-i Inv-loop μ-loop
-add-i c = omega arith
+add-j : tie.Need-add-j Inv-loop μ-loop
+add-j c = omega arith
 
 loop-less : tie.Need-loop-less Inv-loop μ-loop
 loop-less c = omega arith
@@ -35,7 +38,7 @@ unfolding lensFit
 loop-again c = (omega arith, rw (add-one, ← c .before .before .loop .inv .1))
 
 returns : tie.Need-returns Inv-loop μ-loop
-returns c = let e : c .before .loop .i ≡ c .before .before .args .k = omega arith in rw e at (c .before .loop .inv .1)
+returns c = let e : c .before .loop .j ≡ c .before .before .args .k = omega arith in rw e at (c .before .loop .inv .1)
 
 pub lens-fit-spec : {M : Type 1} → statement M
 lens-fit-spec =
@@ -44,9 +47,10 @@ lens-fit-spec =
     Inv-loop
     μ-loop
     loop-holds
+    add-x
     mul-x
     element-copy-out-x
-    add-i
+    add-j
     loop-less
     loop-again
     returns)

@@ -1,4 +1,4 @@
--- `lens_sum` meets its contract. The loop's invariant: the sum is that of the first i entries, each of which is below 2 ^ 32, so that 2,048 of them
+-- `lens_sum` meets its contract. The loop's invariant: the sum is that of the first j lengths, each of which is below 2 ^ 32, so that 4,096 of them
 -- do not wrap.
 use mathlib.Core.Path.{_≡_, refl}
 use Prim.Native.Nat.{_*_, _-_, _≤_}
@@ -10,14 +10,17 @@ use Rattle.ready.proofs.lens_sum.Statement.{statement}
 use Rattle.ready.proofs.lens_sum.Tie as tie
 
 abbrev Inv-loop : tie.InvT-loop
-Inv-loop lens k sum₀ i₀ sum i = (i ≤ k) × (sum ≡ lensSum lens i) × (sum ≤ 4294967296 * i)
+Inv-loop lens i k sum₀ j₀ sum j = (j ≤ k) × (sum ≡ lensSum lens i j) × (sum ≤ 4294967296 * j)
 
 abbrev μ-loop : tie.MeasureT-loop
-μ-loop lens k sum₀ i₀ sum i = k - i
+μ-loop lens i k sum₀ j₀ sum j = k - j
 
 loop-holds : tie.Need-loop-holds Inv-loop μ-loop
 unfolding lensSum
 loop-holds c = (omega arith, refl, omega arith)
+
+add-wide32 : tie.Need-add-wide32 Inv-loop μ-loop
+add-wide32 c = omega arith
 
 mul-wide32 : tie.Need-mul-wide32 Inv-loop μ-loop
 mul-wide32 c = omega arith
@@ -31,8 +34,8 @@ wide32-requires c κs = search needs
 add-sum : tie.Need-add-sum Inv-loop μ-loop
 add-sum c = omega arith
 
-add-i : tie.Need-add-i Inv-loop μ-loop
-add-i c = omega arith
+add-j : tie.Need-add-j Inv-loop μ-loop
+add-j c = omega arith
 
 loop-less : tie.Need-loop-less Inv-loop μ-loop
 loop-less c = omega arith
@@ -42,7 +45,7 @@ unfolding lensSum
 loop-again c = (omega arith, rw (add-one, ← c .before .before .before .loop .inv .1, ← c .wide32 .ensures .0), omega arith)
 
 returns : tie.Need-returns Inv-loop μ-loop
-returns c = let e : c .before .loop .i ≡ c .before .before .args .k = omega arith in rw e at (c .before .loop .inv .1)
+returns c = let e : c .before .loop .j ≡ c .before .before .args .k = omega arith in rw e at (c .before .loop .inv .1)
 
 pub lens-sum-spec : {M : Type 1} → statement M
 lens-sum-spec =
@@ -51,11 +54,12 @@ lens-sum-spec =
     Inv-loop
     μ-loop
     loop-holds
+    add-wide32
     mul-wide32
     element-copy-out-wide32
     wide32-requires
     add-sum
-    add-i
+    add-j
     loop-less
     loop-again
     returns)

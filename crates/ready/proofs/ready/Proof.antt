@@ -31,10 +31,10 @@ all-below-requires-2 : tie.Need-all-below-requires-2
 all-below-requires-2 c κs = omega (arith, told (c .before .before .before .before .before .before))
 
 cast-slots-below : tie.Need-cast-slots-below
-cast-slots-below c = omega (arith, told (c .before .before .before .before .before .before .before .before))
+cast-slots-below c = omega (arith, told (c .before .before .before .before .before .before .before .before .before))
 
 slots-below-requires : tie.Need-slots-below-requires
-slots-below-requires c κs = omega (arith, told (c .before .before .before .before .before .before .before .before))
+slots-below-requires c κs = omega (arith, told (c .before .before .before .before .before .before .before .before .before))
 
 mul-lens-fit : tie.Need-mul-lens-fit
 mul-lens-fit c = search needs
@@ -43,10 +43,10 @@ cast-lens-fit : tie.Need-cast-lens-fit
 cast-lens-fit c = search needs
 
 lens-fit-requires : tie.Need-lens-fit-requires
-lens-fit-requires c κs = omega (arith, told (c .before .before .before .before .before .before .before .before .before))
+lens-fit-requires c κs = omega (arith, told (c .before .before .before .before .before .before .before .before .before .before))
 
 lens-sum-requires : tie.Need-lens-sum-requires
-lens-sum-requires c κs = omega (arith, told (c .before .before .before .before .before .before .before .before .before .before))
+lens-sum-requires c κs = omega (arith, told (c .before .before .before .before .before .before .before .before .before .before .before))
 
 least-requires : tie.Need-least-requires
 least-requires c κs = search needs
@@ -59,8 +59,8 @@ least-requires-2 c κs = search needs
 
 workers-fit-requires : tie.Need-workers-fit-requires
 workers-fit-requires c κs =
-    let z = told (c .before .before .before .before .before .before .before .before .before .before .before .before .before .before) in
-    let size = (c .before .before .before .before .before .before .before .before .before .before .before .before) .batch-of .ensures in (
+    let z = told (c .before .before .before .before .before .before .before .before .before .before .before .before .before .before .before) in
+    let size = (c .before .before .before .before .before .before .before .before .before .before .before .before .before) .batch-of .ensures in (
       omega (arith, z .p .1),
       omega (arith, z .v .1),
       omega (arith, z .n .1),
@@ -72,7 +72,7 @@ returns : tie.Need-returns
 unfolding readyOf
 returns c =
     let scanned = c .before .before .before .before in
-    let free = c .before .before .before .before .before .before .before .before in
+    let free = c .before .before .before .before .before .before .before .before .before in
     let newest = free .before .before in
     let size = newest .before .before .before in
     let sizes = size .before .before in

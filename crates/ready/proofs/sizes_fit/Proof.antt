@@ -7,9 +7,12 @@ use Rattle.ready.proofs.sizes_fit.Tie as tie
 besides-requires : tie.Need-besides-requires
 besides-requires c κs = search needs
 
+window-fits-requires : tie.Need-window-fits-requires
+window-fits-requires c κs = search needs
+
 returns : tie.Need-returns
 unfolding sizesFit
-returns c = rw (c .before .before .before .besides .ensures)
+returns c = rw (← c .before .before .besides .ensures, c .window-fits .ensures)
 
 pub sizes-fit-spec : {M : Type 1} → statement M
-sizes-fit-spec = tie.close (tie.spec besides-requires returns)
+sizes-fit-spec = tie.close (tie.spec besides-requires window-fits-requires returns)

@@ -61,7 +61,7 @@ returns : tie.Need-returns
 returns c =
     let d = c .before .before .before .before .before .before .before in
     let a = d .before .before .before .before .before .args in
-    split-some (poolsIn (a .queue .now) (a .lens .now) (a .counts)) (a .merged .now) (a .times .now) (a .needed .now) (a .local .now) (a .joined .now)
+    split-some (poolsIn (a .queue .now) (a .lens .now) (a .window)) (a .merged .now) (a .times .now) (a .needed .now) (a .local .now) (a .joined .now)
     (a .w) (a .m) (a .p) (a .q) (d .split-part .result) (c .before .before .before .before .before .before .batch .result) _ _ _ _ _
     (told (d .before .before .before)) (d .split-part .ensures .0) (d .split-part .ensures .1 .0) (d .split-part .ensures .1 .1)
     (c .before .before .before .before .before .before .batch .ensures)
@@ -70,7 +70,7 @@ returns c =
 returns-2 : tie.Need-returns-2
 returns-2 c =
     let a = c .before .before .args in
-    split-none (poolsIn (a .queue .now) (a .lens .now) (a .counts)) (a .merged .now) (a .times .now) (a .needed .now) (a .local .now) (a .joined .now)
+    split-none (poolsIn (a .queue .now) (a .lens .now) (a .window)) (a .merged .now) (a .times .now) (a .needed .now) (a .local .now) (a .joined .now)
     (a .w) (a .m) (a .p) (a .q) (sym (c .before .may-split .ensures) ∙ c .if1 .left)
 
 pub flush-split-spec : {M : Type 1} → statement M

@@ -49,7 +49,7 @@ returns c =
     let t = p₁ .before .before .before .before in
     let w = t .before in
     let a = w .before .before .args in
-    two-pools (poolsIn (a .queue .now) (a .lens .now) (a .counts)) (a .q) (a .needed .now) _ (a .local .now) (a .joined .now) (a .stay) (a .size)
+    two-pools (poolsIn (a .queue .now) (a .lens .now) (a .window)) (a .q) (a .needed .now) _ (a .local .now) (a .joined .now) (a .stay) (a .size)
     (w .pool-words .ensures) _ _ _ _ (search needs)
     (t .if1 .taken) (p₁ .push .ensures) (p₂ .push2 .ensures) (c .push3 .ensures)
 
@@ -65,7 +65,7 @@ returns-2 c =
     let t = p₁ .before .before .before .before in
     let w = t .before .before in
     let a = w .before .before .args in
-    one-pool (poolsIn (a .queue .now) (a .lens .now) (a .counts)) (a .q) (a .needed .now) _ (a .local .now) (a .joined .now) (a .stay) (a .size)
+    one-pool (poolsIn (a .queue .now) (a .lens .now) (a .window)) (a .q) (a .needed .now) _ (a .local .now) (a .joined .now) (a .stay) (a .size)
     (w .pool-words .ensures) _ _
     (t .before .if1 .left) (t .if2 .taken) (p₁ .push4 .ensures) (c .push5 .ensures)
 
@@ -84,7 +84,7 @@ returns-3 c =
     let t = m .before .before .before .before .before in
     let w = t .before .before in
     let a = w .before .before .args in
-    one-merged (poolsIn (a .queue .now) (a .lens .now) (a .counts)) (a .q) (a .needed .now) _ (a .local .now) (a .joined .now) (a .stay) (a .size)
+    one-merged (poolsIn (a .queue .now) (a .lens .now) (a .window)) (a .q) (a .needed .now) _ (a .local .now) (a .joined .now) (a .stay) (a .size)
     (w .pool-words .ensures) _ _
     (t .before .if1 .left) (t .if2 .left) (m .merge .ensures) (c .push6 .ensures)
 
