@@ -1,3 +1,4 @@
+pub mod AsWords
 pub mod Buffers
 pub mod Copying
 pub mod Front

@@ -150,6 +150,63 @@ pub fn apply_all(
     done
 }
 
+// Does nothing: where an array is passed as a slice, the proof learns how long it is.
+fn lengths_told(newest: &[u16], free: &[u16], queue: &[u32], lens: &[u32], merged: &[u32]) {}
+
+// The same for a caller that has the slots as words, a row of any length: it is lent as it is, and nothing is copied.
+pub fn apply_words(
+    row: &mut [[u64; 5]],
+    hub: Hub,
+    bytes: &[u8],
+    kinds: &mut [u8],
+    numbers: &mut [u64],
+    newest: &mut [u16; 256],
+    free: &mut [u16; 2048],
+    queue: &mut [u32; 12288],
+    lens: &mut [u32; 4096],
+    merged: &mut [u32; 12288],
+) -> Counted
+    ensures { λ r. ⌜
+        Applies
+        (record {
+          hub = hub;
+          slots = rowOf (now (row .entry));
+          newest = now (newest .entry);
+          free = now (free .entry);
+          queue = now (queue .entry);
+          lens = now (lens .entry);
+          merged = now (merged .entry);
+        })
+        (now (bytes .entry)) (now (kinds .entry)) (now (numbers .entry)) (r .count)
+        (record {
+          hub = r .hub;
+          slots = rowOf (now (row .exit));
+          newest = now (newest .exit);
+          free = now (free .exit);
+          queue = now (queue .exit);
+          lens = now (lens .exit);
+          merged = now (merged .exit);
+        })
+        (now (kinds .exit)) (now (numbers .exit))
+        ⌝ }
+{
+    let n = row.len();
+    lengths_told(newest, free, queue, lens, merged);
+    runs::run_all(
+        row,
+        n,
+        hub,
+        bytes,
+        kinds,
+        numbers,
+        newest,
+        free,
+        queue,
+        lens,
+        merged,
+    )
+}
+
 // ---- for programs that own the row
 
 // What is left of the hub and of the row by value, and how many records were applied.

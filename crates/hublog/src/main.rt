@@ -3,22 +3,23 @@
 use state::Hub;
 
 fn main() {
-    // A read brings at most 32768 records; the text has room for as many lines of 48 bytes, the longest.
-    let mut block_space = [0u8; 524288];
+    // A read brings at most 16384 records; the text has room for as many lines of 48 bytes, the longest.
+    let mut block_space = [0u8; 262144];
     let block: &mut [u8] = &mut block_space;
-    let mut text_space = [0u8; 1572864];
+    let mut text_space = [0u8; 786432];
     let text: &mut [u8] = &mut text_space;
-    let mut kind_space = [0u8; 32768];
+    let mut kind_space = [0u8; 16384];
     let kinds: &mut [u8] = &mut kind_space;
-    let mut number_space = [0u64; 32768];
+    let mut number_space = [0u64; 16384];
     let numbers: &mut [u64] = &mut number_space;
     let mut newest = [0u16; 256];
     let mut free = [0u16; 2048];
     let mut queue = [0u32; 12288];
     let mut lens = [0u32; 4096];
     let mut merged = [0u32; 12288];
-    let none = slots::vacant();
-    let mut slots = [none; 2048];
+    // The slots, five words each.
+    let mut row_space = [[0u64; 5]; 2048];
+    let row: &mut [[u64; 5]] = &mut row_space;
     // No worker, no register, no slot: memory that counts as not set up.
     let mut hub = Hub::fresh(0, 0, 0, 0);
     // The number of the next record, and how many of its bytes stand at the start of the block.
@@ -40,7 +41,7 @@ fn main() {
             return;
         }
         let done = logs::log_part(
-            slots,
+            row,
             hub,
             &block[0..end],
             first,
@@ -53,9 +54,7 @@ fn main() {
             &mut lens,
             &mut merged,
         );
-        let s = done.slots;
         let h = done.hub;
-        slots = s;
         hub = h;
         let used = done.used;
         if !io::write_all(libc::STDOUT_FILENO, &text[0..used]) {

@@ -4,8 +4,8 @@ ghost use mathlib.Core.Bool.{cond};
 ghost use Prim.Native.Nat.{_-_, _*_, _/_, _≤_, min};
 ghost use lib.ListN.{length};
 ghost use Rattle.lists.specs.Over.{shifted};
+ghost use Rattle.versions.specs.Versions.{rowOf};
 ghost use Rattle.logs.specs.Part.{wholeRecords, Logs};
-use slots::Slot;
 use state::Hub;
 
 // ---- the input, cut between records
@@ -45,18 +45,18 @@ fn fitting(bytes: usize, room: usize) -> usize
     most
 }
 
-// What is left of the hub and of the row by value, how many records were applied, and how many bytes of text their lines have.
+// What is left of the hub by value, how many records were applied, and how many bytes of text their lines have.
 pub struct Logged {
     pub hub: Hub,
-    pub slots: [Slot; 2048],
     pub count: usize,
     pub used: usize,
 }
 
-// Applies the records of a part of the input, the first of which has the number `first`, and writes their lines from the start of the text.
+// Applies the records of a part of the input, the first of which has the number `first`, and writes their lines from the start of the text. The
+// slots are a lent row of words.
 // No line is lost: as many records are applied as there is room for, with 48 bytes of text, a kind and a number for each.
 pub fn log_part(
-    row: [Slot; 2048],
+    row: &mut [[u64; 5]],
     hub: Hub,
     bytes: &[u8],
     first: u64,
@@ -73,7 +73,7 @@ pub fn log_part(
         Logs
         (record {
           hub = hub;
-          slots = row;
+          slots = rowOf (now (row .entry));
           newest = now (newest .entry);
           free = now (free .entry);
           queue = now (queue .entry);
@@ -83,7 +83,7 @@ pub fn log_part(
         (now (bytes .entry)) first (now (text .entry)) (now (kinds .entry)) (now (numbers .entry)) (r .count) (r .used)
         (record {
           hub = r .hub;
-          slots = r .slots;
+          slots = rowOf (now (row .exit));
           newest = now (newest .exit);
           free = now (free .exit);
           queue = now (queue .exit);
@@ -95,7 +95,7 @@ pub fn log_part(
     ensures { λ r. ⌜ r .used ≤ length (now (text .exit)) ⌝ }
 {
     let n = fitting(bytes.len(), text.len());
-    let done = hub::apply_owned(
+    let done = hub::apply_words(
         row,
         hub,
         &bytes[0..n],
@@ -110,10 +110,8 @@ pub fn log_part(
     let count = done.count;
     let used = lines::write_lines(text, first, kinds, numbers, count);
     let left = done.hub;
-    let slots = done.slots;
     Logged {
         hub: left,
-        slots,
         count,
         used,
     }

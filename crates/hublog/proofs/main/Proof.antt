@@ -8,20 +8,20 @@ use Rattle.hublog.proofs.main.Statement.{statement}
 use Rattle.hublog.proofs.main.Tie as tie
 
 abbrev Inv-loop : tie.InvT-loop
-Inv-loop block₀ text₀ kinds₀ numbers₀ newest₀ free₀ queue₀ lens₀ merged₀ slots₀ hub₀ first₀ kept₀ turns₀ t28 t29 block text kinds
-    numbers newest free queue lens merged slots hub first kept turns =
+Inv-loop block₀ text₀ kinds₀ numbers₀ newest₀ free₀ queue₀ lens₀ merged₀ row₀ hub₀ first₀ kept₀ turns₀ t27 t28 block text kinds
+    numbers newest free queue lens merged row hub first kept turns =
     kept ≤ length block
 
 abbrev μ-loop : tie.MeasureT-loop
-μ-loop block₀ text₀ kinds₀ numbers₀ newest₀ free₀ queue₀ lens₀ merged₀ slots₀ hub₀ first₀ kept₀ turns₀ t28 t29 block text kinds
-    numbers newest free queue lens merged slots hub first kept turns =
+μ-loop block₀ text₀ kinds₀ numbers₀ newest₀ free₀ queue₀ lens₀ merged₀ row₀ hub₀ first₀ kept₀ turns₀ t27 t28 block text kinds
+    numbers newest free queue lens merged row hub first kept turns =
     turns
 
 slice-aggregate-block : tie.Need-slice-aggregate-block Inv-loop μ-loop
 slice-aggregate-block c = search needs
 
 slice-aggregate-text : tie.Need-slice-aggregate-text Inv-loop μ-loop
-slice-aggregate-text c = sym (length-replicate {0} {A = ℕ} 1572864 0)
+slice-aggregate-text c = sym (length-replicate {0} {A = ℕ} 786432 0)
 
 slice-aggregate-kinds : tie.Need-slice-aggregate-kinds Inv-loop μ-loop
 slice-aggregate-kinds c = search needs
@@ -29,8 +29,8 @@ slice-aggregate-kinds c = search needs
 slice-aggregate-numbers : tie.Need-slice-aggregate-numbers Inv-loop μ-loop
 slice-aggregate-numbers c = search needs
 
-vacant-requires : tie.Need-vacant-requires Inv-loop μ-loop
-vacant-requires c κs = search needs
+slice-aggregate-row : tie.Need-slice-aggregate-row Inv-loop μ-loop
+slice-aggregate-row c = search needs
 
 fresh-requires : tie.Need-fresh-requires Inv-loop μ-loop
 fresh-requires c κs = search needs
@@ -100,7 +100,7 @@ wrapping-add-u64-requires c κs = search needs
 
 keep-rest-requires : tie.Need-keep-rest-requires Inv-loop μ-loop
 keep-rest-requires c κs =
-    let w = c .before .before .before .before .before .before .before .before .before .before .before .before .before in
+    let w = c .before .before .before .before .before .before .before .before .before .before .before .before .before .before in
     let t = w .before .before .before .before .before .before .before .before .before .before .before .before .before .before in
     let r = t .before .before .before .before in
     (t .to-log .ensures .1, r .read-after .ensures .1)
@@ -109,7 +109,7 @@ loop-less : tie.Need-loop-less Inv-loop μ-loop
 loop-less c =
     let s = c .before .before .before .before .before .before .before .before .before .before .before .before in
     let w = s .before .before .before .before .before .before .before .before .before .before .before .before in
-    let t = w .before .before .before .before .before .before .before .before .before .before .before .before in
+    let t = w .before .before .before .before .before .before .before .before .before .before .before .before .before in
     omega (arith, t .loop-test .taken)
 
 loop-again : tie.Need-loop-again Inv-loop μ-loop
@@ -128,7 +128,7 @@ main-spec =
     slice-aggregate-text
     slice-aggregate-kinds
     slice-aggregate-numbers
-    vacant-requires
+    slice-aggregate-row
     fresh-requires
     loop-holds
     sub-turns

@@ -9,17 +9,17 @@ use Rattle.logs.proofs.log_part.Tie as tie
 fitting-requires : tie.Need-fitting-requires
 fitting-requires c κs = search needs
 
-sub-apply-owned : tie.Need-sub-apply-owned
-sub-apply-owned c = search needs
+sub-apply-words : tie.Need-sub-apply-words
+sub-apply-words c = search needs
 
-part-apply-owned-start : tie.Need-part-apply-owned-start
-part-apply-owned-start c = search needs
+part-apply-words-start : tie.Need-part-apply-words-start
+part-apply-words-start c = search needs
 
-part-apply-owned-end : tie.Need-part-apply-owned-end
-part-apply-owned-end c = search needs
+part-apply-words-end : tie.Need-part-apply-words-end
+part-apply-words-end c = search needs
 
-apply-owned-requires : tie.Need-apply-owned-requires
-apply-owned-requires c κs = search needs
+apply-words-requires : tie.Need-apply-words-requires
+apply-words-requires c κs = search needs
 
 write-lines-requires : tie.Need-write-lines-requires
 write-lines-requires c κs = search needs
@@ -33,27 +33,31 @@ same-length-2 c = search needs
 same-length-3 : tie.Need-same-length-3
 same-length-3 c = search needs
 
+same-length-4 : tie.Need-same-length-4
+same-length-4 c = search needs
+
 returns : tie.Need-returns
 returns c =
-    let w = c .before .before .before .before in
-    let a = w .before .before .before .before .before .before .before .before in
-    let f = a .before .before .before .before .before .before .before .before .before in
+    let w = c .before .before .before in
+    let a = w .before .before .before .before .before .before .before .before .before in
+    let f = a .before .before .before .before .before .before .before .before .before .before in
     let x = f .before .before .before .before .before .args in
     let e = w .write-lines .ensures in
     let b = f .fitting .result - 0 in
-    (part-logged _ _ (handed-on (x .bytes .now) (x .text .now) b (omega (arith, f .fitting .ensures)) (a .apply-owned .ensures)) e, e .inside)
+    (part-logged _ _ (handed-on (x .bytes .now) (x .text .now) b (omega (arith, f .fitting .ensures)) (a .apply-words .ensures)) e, e .inside)
 
 pub log-part-spec : {M : Type 1} → statement M
 log-part-spec =
     tie.close
     (tie.spec
     fitting-requires
-    sub-apply-owned
-    part-apply-owned-start
-    part-apply-owned-end
-    apply-owned-requires
+    sub-apply-words
+    part-apply-words-start
+    part-apply-words-end
+    apply-words-requires
     write-lines-requires
     same-length
     same-length-2
     same-length-3
+    same-length-4
     returns)
