@@ -24,6 +24,19 @@ pub length-decimal : (x : ℕ) → length (decimal x) ≤ 20
 unfolding decimal
 length-decimal x = length-digits 19 x
 
+digits-least : (f x : ℕ) → 1 ≤ length (digits f x)
+unfolding digits
+digits-least zero x = omega arith
+digits-least (suc f) x = by (ltb x 10) (digits f (x / 10))
+  where
+    by : (b : Bool) (l : List ℕ) → 1 ≤ length (cond b ((48 + x % 10) ∷ []) (l ++ ((48 + x % 10) ∷ [])))
+    by true l = omega arith
+    by false l = rw length-append (omega arith)
+
+pub decimal-least : (x : ℕ) → 1 ≤ length (decimal x)
+unfolding decimal
+decimal-least x = digits-least 19 x
+
 pub length-lastDigits : (k x : ℕ) → length (lastDigits k x) ≡ k
 unfolding lastDigits
 length-lastDigits zero x = refl

@@ -1,6 +1,7 @@
 -- The words and the line of an answer, from its kind and its number.
 use mathlib.Core.Path.{_≡_}
-use mathlib.Core.List.{List, _++_}
+use mathlib.Core.Bool.{Bool, true, false, cond}
+use mathlib.Core.List.{List, [], _∷_, _++_}
 use Prim.Native.Nat.{ℕ, zero, suc}
 use Rattle.model.specs.Log.{text, decimal, words}
 use Rattle.values.specs.declared.Answer.{Answer}
@@ -20,6 +21,40 @@ wordsFrom (suc (suc (suc (suc (suc (suc k)))))) x = text "no " ++ decimal x
 -- the line of record n with such an answer
 unfoldable pub lineFrom : ℕ → ℕ → ℕ → List ℕ
 lineFrom n kind number = decimal n ++ text " " ++ wordsFrom kind number ++ text "\n"
+
+-- the part of a line after the record's number, up to the number of the answer or with the line's end
+unfoldable pub upToNumber : ℕ → List ℕ
+upToNumber zero = text " ok\n"
+upToNumber (suc zero) = text " going\n"
+upToNumber (suc (suc zero)) = text " freed "
+upToNumber (suc (suc (suc zero))) = text " at "
+upToNumber (suc (suc (suc (suc zero)))) = text " value "
+upToNumber (suc (suc (suc (suc (suc zero))))) = text " done\n"
+upToNumber (suc (suc (suc (suc (suc (suc k)))))) = text " no "
+
+unfoldable pub hasNumber : ℕ → Bool
+hasNumber zero = false
+hasNumber (suc zero) = false
+hasNumber (suc (suc zero)) = true
+hasNumber (suc (suc (suc zero))) = true
+hasNumber (suc (suc (suc (suc zero)))) = true
+hasNumber (suc (suc (suc (suc (suc zero))))) = false
+hasNumber (suc (suc (suc (suc (suc (suc k)))))) = true
+
+-- the rest of the line
+unfoldable pub fromNumber : ℕ → ℕ → List ℕ
+fromNumber kind x = cond (hasNumber kind) (decimal x ++ text "\n") []
+
+-- a row of eight bytes for each kind: the part of the line up to the number, and in the last byte its length, and 8 more where there is a number
+unfoldable pub rows : List ℕ
+rows =
+    text " ok\n" ++ (0 ∷ 0 ∷ 0 ∷ 4 ∷ [])
+    ++ text " going\n" ++ (7 ∷ [])
+    ++ text " freed " ++ (15 ∷ [])
+    ++ text " at " ++ (0 ∷ 0 ∷ 0 ∷ 12 ∷ [])
+    ++ text " value " ++ (15 ∷ [])
+    ++ text " done\n" ++ (0 ∷ 6 ∷ [])
+    ++ text " no " ++ (0 ∷ 0 ∷ 0 ∷ 12 ∷ [])
 
 -- the words from an answer's own kind and number are the model's
 abbrev pub SameWords : Type 0

@@ -17,6 +17,13 @@ pub record Appended (p : List ℕ) (i : ℕ) (d e : List ℕ) (j : ℕ) : Type 0
   pub memory : e ≡ overAt i p d
   pub next : j ≡ i + length p
 
+-- e is the memory d with the text p written from index i on and at most eight bytes spilled after it, and j is the index after the text
+pub record Spills (p : List ℕ) (i : ℕ) (d e : List ℕ) (j : ℕ) : Type 0 where
+  pub spilled : List ℕ
+  pub few : length spilled ≤ 8
+  pub memory : e ≡ overAt i (p ++ spilled) d
+  pub next : j ≡ i + length p
+
 -- the length of the longest line: twenty digits, a space, `value ` with twenty digits, and the line's end
 abbrev pub longest : ℕ
 longest = 48
@@ -64,6 +71,19 @@ pub record LinesWritten (out : List ℕ) (n : ℕ) (kinds numbers : List ℕ) (c
   pub bytes : used ≡ writtenLines out n kinds numbers (counted count kinds numbers) .used
   pub memory : out′ ≡ writtenLines out n kinds numbers (counted count kinds numbers) .memory
   pub inside : used ≤ length out′
+
+-- The lines of the first k answers of a buffer were written from the start of `out`, which is out′ then, and end at index `at`. Bytes spilled
+-- after them, and are covered by the next `sure` lines, of at least five bytes each: these are among the first `most`, and there is room for them.
+pub record Partly (out : List ℕ) (n : ℕ) (kinds numbers : List ℕ) (most : ℕ) (out′ : List ℕ) (at k : ℕ) : Type 0 where
+  pub spilled : List ℕ
+  pub sure : ℕ
+  pub near : sure ≤ 2
+  pub few : length spilled ≤ 5 * sure
+  pub within : k + sure ≤ most
+  pub fits : at + longest * sure ≤ length out
+  pub kept : length out′ ≡ length out
+  pub memory : out′ ≡ overAt at spilled (writtenLines out n kinds numbers k .memory)
+  pub used : at ≡ writtenLines out n kinds numbers k .used
 
 ------------------------------------------------------------------------
 -- The text where there is room

@@ -1,12 +1,17 @@
 // The log's lines (H10).
 ghost use mathlib.Core.Path.{_≡_};
-ghost use mathlib.Core.List.{_++_};
-ghost use Prim.Native.Nat.{ℕ, _+_, _*_, _≤_, min};
-ghost use lib.ListN.{length, drop, replicate};
+ghost use mathlib.Core.List.{List, [], _∷_, _++_};
+ghost use Prim.Native.Nat.{ℕ, _+_, _*_, _/_, _≤_, _<_, min};
+ghost use lib.ListN.{length, take, drop, replicate};
 ghost use Rattle.model.specs.Log.{decimal};
-ghost use Rattle.lines.specs.Digits.{Spelled};
-ghost use Rattle.lines.specs.Words.{wordsFrom};
-ghost use Rattle.lines.specs.Written.{Appended, LineAppended, LinesWritten};
+ghost use Rattle.lines.specs.Digits.{Spelled, tensOf, leadOf};
+ghost use Rattle.lines.specs.Words.{wordsFrom, rows, upToNumber, hasNumber, fromNumber};
+ghost use Rattle.lines.specs.Written.{Appended, Spills, LineAppended, LinesWritten, Partly};
+
+// A row of eight bytes for each kind: a space and the words, up to their number or with the line's end, and in the last byte the length of this
+// text, and 8 more where a number follows.
+const ROWS: [u8; 56] =
+    *b" ok\n\0\0\0\x04 going\n\x07 freed \x0f at \0\0\0\x0c value \x0f done\n\0\x06 no \0\0\0\x0c";
 
 // Writes a text at index `at` of out; answers the index after it.
 fn put_text(out: &mut [u8], at: usize, t: &[u8]) -> usize
@@ -176,20 +181,211 @@ fn least(a: usize, b: usize) -> usize
     b
 }
 
-// Writes the lines of the first `count` answers of a buffer, or of all where it has fewer, from the start of out, the first with the
-// number `first`; answers how many bytes they have. The number is kept as its digits, so that each line only adds one.
-pub fn write_lines(out: &mut [u8], first: u64, kinds: &[u8], numbers: &[u64], count: usize) -> usize
-    ensures { λ r. ⌜ LinesWritten (now (out .entry)) first (now (kinds .entry)) (now (numbers .entry)) count r (now (out .exit)) ⌝ }
+// Writes a byte at index `at` of out; answers the index after it.
+fn put_byte(out: &mut [u8], at: usize, b: u8) -> usize
+    requires { ⌜ at < length (now out) ⌝ }
+    ensures { λ r. ⌜ Appended (b ∷ []) at (now (out .entry)) (now (out .exit)) r ⌝ }
 {
-    let most = least(count, least(kinds.len(), numbers.len()));
+    out[at] = b;
+    at + 1
+}
+
+// Writes the first n bytes of `head`, in one move, and `last` at index `at` of out; answers the index after them.
+fn put_number(out: &mut [u8], at: usize, head: &[u8; 20], n: usize, last: u8) -> usize
+    requires { ⌜ (n ≤ 8) × (at + 9 ≤ length (now out)) ⌝ }
+    ensures { λ r. ⌜ Spills (take n (now (head .entry)) ++ (last ∷ [])) at (now (out .entry)) (now (out .exit)) r ⌝ }
+    ensures { λ r. ⌜ r ≡ at + n + 1 ⌝ }
+{
+    let all = &head[..];
+    put_text(out, at, &all[0..8]);
+    put_byte(out, at + n, last)
+}
+
+// Writes the row of a kind (`rows`) at index `at` of out, in one move; answers the index after the text in it. The bytes after the text spill.
+fn put_row(out: &mut [u8], at: usize, table: &[u8; 56], kind: u8) -> usize
+    requires { ⌜ (now table ≡ rows) × (at + 8 ≤ length (now out)) ⌝ }
+    ensures { λ r. ⌜ Spills (upToNumber kind) at (now (out .entry)) (now (out .exit)) r ⌝ }
+{
+    let all = &table[..];
+    let i = 8 * least(kind as usize, 6);
+    let e = i + 8;
+    put_text(out, at, &all[i..e]);
+    at + (table[i + 7] % 8) as usize
+}
+
+// Whether a number follows in the line of an answer of this kind.
+fn numbered(table: &[u8; 56], kind: u8) -> bool
+    requires { ⌜ now table ≡ rows ⌝ }
+    ensures { λ r. ⌜ r ≡ hasNumber kind ⌝ }
+{
+    let i = 8 * least(kind as usize, 6);
+    table[i + 7] >= 8
+}
+
+// Writes the digit of x at a unit at index `at` of out; answers the index after it. Where it is a zero before x's digits it spills, and the answer
+// is `at`: no branch is needed.
+fn put_lead(out: &mut [u8], at: usize, x: u64, unit: u64) -> usize
+    requires { ⌜ (1 ≤ unit) × (at < length (now out)) ⌝ }
+    ensures { λ r. ⌜ Spills (leadOf x unit) at (now (out .entry)) (now (out .exit)) r ⌝ }
+    ensures { λ r. ⌜ r ≤ at + 1 ⌝ }
+{
+    let next = put_byte(out, at, 48 + (x / unit % 10) as u8);
+    if x < unit {
+        return at;
+    }
+    next
+}
+
+// Writes a number below 100,000,000 in decimal at index `at` of out, from its first digit on; answers the index after it.
+fn put_short(out: &mut [u8], at: usize, x: u64) -> usize
+    requires { ⌜ (x < 100000000) × (at + 8 ≤ length (now out)) ⌝ }
+    ensures { λ r. ⌜ Spills (decimal x) at (now (out .entry)) (now (out .exit)) r ⌝ }
+{
+    let mut end = at;
+    let mut unit = 10000000;
+    while unit > 1 {
+        end = put_lead(out, end, x, unit);
+        unit /= 10;
+    }
+    put_byte(out, end, 48 + (x % 10) as u8)
+}
+
+// Writes a number in decimal at index `at` of out; answers the index after it. One digit, and then at most eight, are written at once.
+fn spill_decimal(out: &mut [u8], at: usize, x: u64) -> usize
+    requires { ⌜ at + 20 ≤ length (now out) ⌝ }
+    ensures { λ r. ⌜ Spills (decimal x) at (now (out .entry)) (now (out .exit)) r ⌝ }
+{
+    if x < 10 {
+        return put_byte(out, at, 48 + (x % 10) as u8);
+    }
+    if x < 100000000 {
+        return put_short(out, at, x);
+    }
+    put_decimal(out, at, x)
+}
+
+// Writes the line of a record at index `at` of out; answers the index after it. The first n bytes of `head` and `last` are the digits of its
+// number. A few bytes spill.
+fn spill_line(
+    out: &mut [u8],
+    at: usize,
+    table: &[u8; 56],
+    head: &[u8; 20],
+    n: usize,
+    last: u8,
+    kind: u8,
+    number: u64,
+) -> usize
+    requires { ⌜ (now table ≡ rows) × (n ≤ 8) × (at + 48 ≤ length (now out)) ⌝ }
+    ensures { λ r. ⌜
+        Spills (take n (now (head .entry)) ++ (last ∷ []) ++ upToNumber kind ++ fromNumber kind number) at (now (out .entry)) (now (out .exit)) r
+        ⌝ }
+{
+    let space = put_number(out, at, head, n, last);
+    let next = put_row(out, space, table, kind);
+    if numbered(table, kind) {
+        let end = spill_decimal(out, next, number);
+        return put_byte(out, end, 10);
+    }
+    next
+}
+
+// Writes the digits from place `start` on at the start of `head`; answers how many they are.
+fn put_front(head: &mut [u8; 20], places: &[u8; 20], start: usize) -> usize
+    requires { ⌜ start ≤ 20 ⌝ }
+    ensures { λ r. ⌜ Appended (drop start (now (places .entry))) 0 (now (head .entry)) (now (head .exit)) r ⌝ }
+{
+    put_digits(head, 0, places, start)
+}
+
+// Writes the digits of the tens of a number, from place `start` on, at the start of `head`; answers how many they are. There are none below 10.
+fn put_tens(head: &mut [u8; 20], places: &[u8; 20], start: usize, first: u64) -> usize
+    requires { ⌜ Spelled (first / 10) (now places) start ⌝ }
+    ensures { λ r. ⌜ take r (now (head .exit)) ≡ tensOf (first / 10) ⌝ }
+{
+    if first < 10 {
+        return 0;
+    }
+    put_front(head, places, start)
+}
+
+// How many lines are written, and the index after them.
+struct Part {
+    done: usize,
+    at: usize,
+}
+
+// Writes all lines but the last, from the start of out; the bytes that spill after them are covered by the next two. The number is kept as its
+// last digit and the digits of its tens, to which every tenth line adds one.
+fn begin_lines(out: &mut [u8], first: u64, kinds: &[u8], numbers: &[u64], most: usize) -> Part
+    requires { ⌜ (most ≤ length (now kinds)) × (most ≤ length (now numbers)) ⌝ }
+    ensures { λ r. ⌜ Partly (now (out .entry)) first (now (kinds .entry)) (now (numbers .entry)) most (now (out .exit)) (r .at) (r .done) ⌝ }
+    ensures { λ r. ⌜ first + r .done < 18446744073709551616 ⌝ }
+{
+    if ((most < 3) | (4294967295 < most)) | ((out.len() < 144) | (4294967295 < first)) {
+        return Part { done: 0, at: 0 };
+    }
+    let table = ROWS;
     let mut places = [48u8; 20];
-    let mut start = spell(&mut places, first);
+    let mut start = spell(&mut places, first / 10);
+    let mut head = [48u8; 20];
+    let mut n = put_tens(&mut head, &places, start, first);
+    let mut last = 48 + (first % 10) as u8;
+    let stop = most - 2;
+    let limit = out.len() - 144;
     let mut at = 0;
     let mut k = 0;
+    while ((k < stop) & (at <= limit)) & (n <= 8) {
+        at = spill_line(out, at, &table, &head, n, last, kinds[k], numbers[k]);
+        if last < 57 {
+            last += 1;
+            k += 1;
+        } else {
+            start = count_up(&mut places, start);
+            n = put_front(&mut head, &places, start);
+            last = 48;
+            k += 1;
+        }
+    }
+    Part { done: k, at }
+}
+
+// Writes the lines from that of answer `from` on, each exactly, from index `begun` of out on; answers the index after them. The number is kept
+// as its digits, so that each line only adds one.
+fn end_lines(
+    out: &mut [u8],
+    first: u64,
+    kinds: &[u8],
+    numbers: &[u64],
+    most: usize,
+    from: usize,
+    begun: usize,
+) -> usize
+    requires { ⌜ (most ≤ length (now kinds)) × (most ≤ length (now numbers)) × (first + from < 18446744073709551616) ⌝ }
+    ensures { λ r. ⌜
+        ((d : List ℕ)
+        → Partly d first (now (kinds .entry)) (now (numbers .entry)) most (now (out .entry)) begun from
+        → Partly d first (now (kinds .entry)) (now (numbers .entry)) most (now (out .exit)) r most)
+        ⌝ }
+{
+    let mut places = [48u8; 20];
+    let mut start = spell(&mut places, first + from as u64);
+    let mut at = begun;
+    let mut k = from;
     while k < most {
         at = write_line(out, at, &places, start, kinds[k], numbers[k]);
         start = count_up(&mut places, start);
         k += 1;
     }
     at
+}
+
+// Writes the lines of the first `count` answers of a buffer, or of all where it has fewer, from the start of out, the first with the
+// number `first`; answers how many bytes they have.
+pub fn write_lines(out: &mut [u8], first: u64, kinds: &[u8], numbers: &[u64], count: usize) -> usize
+    ensures { λ r. ⌜ LinesWritten (now (out .entry)) first (now (kinds .entry)) (now (numbers .entry)) count r (now (out .exit)) ⌝ }
+{
+    let most = least(count, least(kinds.len(), numbers.len()));
+    let begun = begin_lines(out, first, kinds, numbers, most);
+    end_lines(out, first, kinds, numbers, most, begun.done, begun.at)
 }

@@ -1,6 +1,7 @@
 -- `put_decimal` meets its contract: one digit is the number itself, and the digits shown are the number in decimal.
+use Prim.Native.Nat.{_+_, _%_}
 use native.Mathlib.Omega.{arith}
-use Rattle.lines.proofs.Appending.{append-digit, append-spelled}
+use Rattle.lines.proofs.Appending.{append-byte, one-digit, append-spelled}
 use Rattle.lines.proofs.Decimal.{spelled-start}
 use borrow.Author.Needs.{needs}
 use Rattle.lines.proofs.put_decimal.Statement.{statement}
@@ -24,7 +25,7 @@ same-length c = search needs
 returns : tie.Need-returns
 returns c =
     let a = c .before .before .args in
-    append-digit (a .x) (a .out .now) (a .at) (c .if1 .taken) (omega (arith, c .before .before .pre))
+    one-digit (a .x) (c .if1 .taken) (append-byte (48 + a .x % 10) (a .out .now) (a .at) (omega (arith, c .before .before .pre)))
 
 spell-requires : tie.Need-spell-requires
 spell-requires c κs = search needs

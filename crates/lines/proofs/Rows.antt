@@ -1,0 +1,84 @@
+-- The rows of the kinds: what each holds, by computing, and that the line is what they lead to.
+use mathlib.Core.Path.{_≡_, refl, sym, ap, subst, _∙_}
+use mathlib.Core.Bool.{true, false}
+use mathlib.Core.List.{List, [], _∷_, _++_, append-assoc, append-nil}
+use Prim.Native.Nat.{ℕ, zero, suc, _+_, _*_, _-_, _%_, _≤_, min}
+use native.Mathlib.Omega.{arith}
+use lib.Dec.{leb}
+use lib.ListN.{length, take, drop, getD}
+use Rattle.model.specs.Log.{text, decimal}
+use Rattle.lists.specs.Over.{overAt}
+use Rattle.lines.specs.Words.{wordsFrom, lineFrom, rows, upToNumber, hasNumber, fromNumber}
+use Rattle.lines.specs.Written.{Appended, Spills}
+use Rattle.lines.proofs.Spilling.{spills-none, spills-then}
+
+-- row j is that of kind k: eight bytes, of which the last says how many are the text, and whether a number follows
+pub record Row (k j : ℕ) : Type 0 where
+  pub rest : List ℕ
+  pub few : length rest ≤ 8
+  pub is : take 8 (drop (8 * j) rows) ≡ upToNumber k ++ rest
+  pub size : getD rows (8 * j + 7) 0 % 8 ≡ length (upToNumber k)
+  pub mark : leb 8 (getD rows (8 * j + 7) 0) ≡ hasNumber k
+
+pub row : (k : ℕ) → Row k (min k 6)
+unfolding rows upToNumber hasNumber text
+row zero = record { rest = 0 ∷ 0 ∷ 0 ∷ 4 ∷ []; few = omega arith; is = refl; size = refl; mark = refl }
+row (suc zero) = record { rest = 7 ∷ []; few = omega arith; is = refl; size = refl; mark = refl }
+row (suc (suc zero)) = record { rest = 15 ∷ []; few = omega arith; is = refl; size = refl; mark = refl }
+row (suc (suc (suc zero))) = record { rest = 0 ∷ 0 ∷ 0 ∷ 12 ∷ []; few = omega arith; is = refl; size = refl; mark = refl }
+row (suc (suc (suc (suc zero)))) = record { rest = 15 ∷ []; few = omega arith; is = refl; size = refl; mark = refl }
+row (suc (suc (suc (suc (suc zero))))) = record { rest = 0 ∷ 6 ∷ []; few = omega arith; is = refl; size = refl; mark = refl }
+row (suc (suc (suc (suc (suc (suc k)))))) =
+    let l = suc (suc (suc (suc (suc (suc k))))) in
+    let m : 6 ≡ min l 6 = omega arith in
+    subst (λ (j : ℕ). Row l j) m (record { rest = 0 ∷ 0 ∷ 0 ∷ 12 ∷ []; few = omega arith; is = refl; size = refl; mark = refl })
+
+module _ (t : List ℕ) (k j : ℕ) (is : t ≡ rows) (at : j ≡ min k 6) where
+  here : Row k j
+  here = subst (λ (n : ℕ). Row k n) (sym at) (row k)
+
+  -- a row was written
+  pub spills-row : {d e : List ℕ} {i n : ℕ} → Appended (take (8 * j + 8 - 8 * j) (drop (8 * j) t)) i d e n
+      → Spills (upToNumber k) i d e (i + getD t (8 * j + 7) 0 % 8)
+  spills-row {d} {e} {i} {n} w =
+      let m : 8 * j + 8 - 8 * j ≡ 8 = omega arith in
+      record {
+        spilled = here .rest;
+        few = here .few;
+        memory = w .memory ∙ ap (λ (l : List ℕ). overAt i l d) (ap (λ (n : ℕ). take n (drop (8 * j) t)) m ∙ ap (λ (l : List ℕ). take 8 (drop (8 * j) l)) is ∙ here .is);
+        next = ap (λ (n : ℕ). i + n) (ap (λ (l : List ℕ). getD l (8 * j + 7) 0 % 8) is ∙ here .size);
+      }
+
+  pub row-mark : leb 8 (getD t (8 * j + 7) 0) ≡ hasNumber k
+  row-mark = ap (λ (l : List ℕ). leb 8 (getD l (8 * j + 7) 0)) is ∙ here .mark
+
+pub after-row : (k : ℕ) {i j : ℕ} {d e : List ℕ} → Spills (upToNumber k) i d e j → j ≤ i + 7
+after-row k w = omega (arith, w .next, row k .size)
+
+-- the rest of the line, by whether a number follows
+pub with-number : (k x : ℕ) {p d e f g : List ℕ} {i j n m : ℕ} → hasNumber k ≡ true → i ≤ length d → j ≤ length e → Spills p i d e j
+    → Spills (decimal x) j e f n → Appended (text "\n") n f g m → Spills (p ++ fromNumber k x) i d g m
+unfolding fromNumber
+with-number k x h l r a b c = rw h (spills-then l a (spills-then r b (spills-none c)))
+
+pub without-number : (k x : ℕ) {p d e : List ℕ} {i j : ℕ} → hasNumber k ≡ false → Spills p i d e j → Spills (p ++ fromNumber k x) i d e j
+unfolding fromNumber
+without-number k x {p} h a = rw (h, append-nil p) a
+
+-- the row's text and the rest are what follows the number in the line
+row-parts : (k x : ℕ) → upToNumber k ++ fromNumber k x ≡ text " " ++ wordsFrom k x ++ text "\n"
+unfolding upToNumber fromNumber hasNumber wordsFrom text
+row-parts zero x = refl
+row-parts (suc zero) x = refl
+row-parts (suc (suc zero)) x = refl
+row-parts (suc (suc (suc zero))) x = refl
+row-parts (suc (suc (suc (suc zero)))) x = refl
+row-parts (suc (suc (suc (suc (suc zero))))) x = refl
+row-parts (suc (suc (suc (suc (suc (suc k)))))) x = refl
+
+pub line-parts : (n k x : ℕ) → decimal n ++ upToNumber k ++ fromNumber k x ≡ lineFrom n k x
+unfolding lineFrom
+line-parts n k x =
+    append-assoc (decimal n) (upToNumber k) (fromNumber k x) ∙ ap (λ (l : List ℕ). decimal n ++ l) (row-parts k x)
+    ∙ sym (append-assoc (decimal n) (text " " ++ wordsFrom k x) (text "\n"))
+    ∙ ap (λ (l : List ℕ). l ++ text "\n") (sym (append-assoc (decimal n) (text " ") (wordsFrom k x)))
