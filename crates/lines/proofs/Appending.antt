@@ -9,7 +9,6 @@ use lib.Seq.{take-all, take-at, take-add, drop-append-add, drop-drop, length-tak
 use Rattle.lists.specs.Over.{overAt}
 use Rattle.model.specs.Log.{digits, decimal}
 use Rattle.lines.specs.Digits.{Spelled}
-use Rattle.lines.specs.Words.{wordsFrom}
 use Rattle.lines.specs.Written.{Appended}
 use Rattle.lines.proofs.Decimal.{spelled-decimal}
 
@@ -80,7 +79,8 @@ append-halves l s t m {d} {e} {f} {i} {j} {k} h st tm tl a b =
       memory =
           b .memory ∙ ap (overAt (i + n) q) (a .memory ∙ ap (λ (x : List ℕ). overAt i x d) first ∙ before)
           ∙ overAt-again r q (overAt i u d) (i + n) (omega (arith, over-reach u d i h, long))
-          ∙ ap (λ (x : List ℕ). overAt (i + n) x (overAt i u d)) (rw (drop-of-length-le r {i = length q} (omega (arith, length-take (m - n) q))) (append-nil q))
+          ∙ ap (λ (x : List ℕ). overAt (i + n) x (overAt i u d))
+          (rw (drop-of-length-le r {i = length q} (omega (arith, length-take (m - n) q))) (append-nil q))
           ∙ ap (λ (x : ℕ). overAt (i + x) q (overAt i u d)) (sym long) ∙ overAt-append u q d i h ∙ ap (λ (x : List ℕ). overAt i x d) whole;
       next = omega (arith, b .next, length-drop s l, length-drop t l);
     }
@@ -92,17 +92,6 @@ append-then {p} {q} {d} {e} {f} {i} {j} {k} h a b =
       memory = b .memory ∙ rw (a .next, a .memory) (overAt-append p q d i h);
       next = omega (arith, a .next, b .next, length-append p q);
     }
-
--- the words of an answer whose kind is known
-pub append-words : {k j : ℕ} (x : ℕ) {d e : List ℕ} {i n : ℕ} → k ≡ j → Appended (wordsFrom j x) i d e n → Appended (wordsFrom k x) i d e n
-append-words x {d = d} {e = e} {i = i} {n = n} h w = subst (λ (l : ℕ). Appended (wordsFrom l x) i d e n) (sym h) w
-
--- the words of a kind that is none of the first six
-pub append-refusal : {k : ℕ} (x : ℕ) {d e : List ℕ} {i n : ℕ} → 6 ≤ k → Appended (wordsFrom 6 x) i d e n → Appended (wordsFrom k x) i d e n
-unfolding wordsFrom
-append-refusal {k} x {d} {e} {i} {n} h w =
-    let m : k ≡ suc (suc (suc (suc (suc (suc (k - 6)))))) = omega arith in
-    subst (λ (l : ℕ). Appended (wordsFrom l x) i d e n) (sym m) w
 
 -- the rest of a text, from index k on
 pub append-rest : (l : List ℕ) (k n : ℕ) {d e : List ℕ} {i j : ℕ} → length l ≤ k + n → Appended (take n (drop k l)) i d e j
@@ -120,7 +109,8 @@ unfolding overAt
 append-byte v d i k =
     let one : i + 1 ≡ suc i = omega arith in
     record {
-      memory = set-split d i v k ∙ sym (append-assoc (take i d) (v ∷ []) (drop (suc i) d)) ∙ ap (λ (n : ℕ). take i d ++ (v ∷ []) ++ drop n d) (sym one);
+      memory = set-split d i v k ∙ sym (append-assoc (take i d) (v ∷ []) (drop (suc i) d))
+          ∙ ap (λ (n : ℕ). take i d ++ (v ∷ []) ++ drop n d) (sym one);
       next = refl;
     }
 

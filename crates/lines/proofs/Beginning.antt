@@ -8,7 +8,7 @@ use borrow.Author.Tests.{ltb-true, ltb-false, leb-true}
 use lib.Dec.{ltb, leb}
 use lib.ListN.{length, take, drop, getD}
 use Rattle.lines.specs.Digits.{Spelled, tensOf}
-use Rattle.lines.specs.Words.{lineFrom, upToNumber, fromNumber}
+use Rattle.lines.specs.Words.{lineFrom, tailFrom}
 use Rattle.lines.specs.Written.{Appended, Spills, Partly}
 use Rattle.lines.proofs.Counting.{Counting, counting-text, counting-up, counting-carry}
 use Rattle.lines.proofs.Filling.{partly-start, partly-spill}
@@ -84,11 +84,11 @@ module _ (out₀ : List ℕ) (first : ℕ) (kinds numbers : List ℕ) (most : �
         }
 
     module _ {out′ : List ℕ} {at′ : ℕ} (e : Test) (l : length out′ ≡ length out)
-        (w : Spills (take n head ++ (last ∷ []) ++ upToNumber (getD kinds k 0) ++ fromNumber (getD kinds k 0) (getD numbers k 0)) at out out′ at′) where
-      line : take n head ++ (last ∷ []) ++ upToNumber (getD kinds k 0) ++ fromNumber (getD kinds k 0) (getD numbers k 0)
+        (w : Spills (take n head ++ (last ∷ []) ++ tailFrom (getD kinds k 0) (getD numbers k 0)) at out out′ at′) where
+      line : take n head ++ (last ∷ []) ++ tailFrom (getD kinds k 0) (getD numbers k 0)
           ≡ lineFrom (first + k) (getD kinds k 0) (getD numbers k 0)
       line =
-          ap (λ (x : List ℕ). x ++ upToNumber (getD kinds k 0) ++ fromNumber (getD kinds k 0) (getD numbers k 0)) (counting-text (b .counting))
+          ap (λ (x : List ℕ). x ++ tailFrom (getD kinds k 0) (getD numbers k 0)) (counting-text (b .counting))
           ∙ line-parts (first + k) (getD kinds k 0) (getD numbers k 0)
 
       written : Partly out₀ first kinds numbers most out′ at′ (k + 1)

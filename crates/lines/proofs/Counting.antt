@@ -47,7 +47,8 @@ pub tens-some : (q : ℕ) {places head head′ : List ℕ} {start n : ℕ} → 1
 unfolding tensOf overAt decimal
 tens-some q {places} {head} {head′} {start} {n} h g s w =
     let p = drop start places in
-    rw (le-ltb q 1 h) (ap (take n) (w .memory) ∙ take-at p (drop (0 + length p) head) n (omega (arith, w .next)) ∙ spelled-decimal s ∙ digits-more 18 q g)
+    rw (le-ltb q 1 h) (ap (take n) (w .memory) ∙ take-at p (drop (0 + length p) head) n (omega (arith, w .next))
+    ∙ spelled-decimal s ∙ digits-more 18 q g)
 
 module _ {x : ℕ} {places : List ℕ} {start : ℕ} {head : List ℕ} {n last : ℕ} (c : Counting x places start head n last) where
   pub counting-text : take n head ++ (last ∷ []) ≡ decimal x

@@ -22,7 +22,8 @@ digit-more q h g =
     let more : digits 18 (q / 10) ≡ digits 17 (q / 10) = digits-more 17 (q / 10) (omega arith) in
     rw (le-ltb q 1 h) (by (ltb q 10) refl more)
   where
-    by : (b : Bool) {l m : List ℕ} → ltb q 10 ≡ b → l ≡ m → cond (ltb (q / 10) 1) [] l ++ ((48 + q % 10) ∷ []) ≡ cond b ((48 + q % 10) ∷ []) (m ++ ((48 + q % 10) ∷ []))
+    by : (b : Bool) {l m : List ℕ} → ltb q 10 ≡ b → l ≡ m
+        → cond (ltb (q / 10) 1) [] l ++ ((48 + q % 10) ∷ []) ≡ cond b ((48 + q % 10) ∷ []) (m ++ ((48 + q % 10) ∷ []))
     by true e f = let h = ltb-true q 10 e in rw (lt-ltb (q / 10) 1 (omega arith))
     by false e f = let h = ltb-false q 10 e in rw (le-ltb (q / 10) 1 (omega arith), f)
 
@@ -85,7 +86,8 @@ module _ {x at : ℕ} {d e : List ℕ} {end unit : ℕ} (l : Leading x at d e en
       by (suc i) p s =
           let u : unit ≡ unit / 10 * 10 = omega (arith, p) in
           let q : x / (unit / 10) / 10 ≡ x / unit = div-div-eq-div-mul x (unit / 10) 10 ∙ ap (λ (n : ℕ). x / n) (sym u) in
-          let t : tensOf (x / unit / 10) ++ leadOf x unit ≡ tensOf (x / (unit / 10) / 10) = lead-more x unit leading-unit (l .small) ∙ ap tensOf (sym q) in
+          let t : tensOf (x / unit / 10) ++ leadOf x unit ≡ tensOf (x / (unit / 10) / 10) =
+          lead-more x unit leading-unit (l .small) ∙ ap tensOf (sym q) in
           record {
             i = i;
             power = omega (arith, p);

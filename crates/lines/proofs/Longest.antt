@@ -40,8 +40,5 @@ line-least n kind x = simp length-append (omega (arith, decimal-least n, words-l
 pub after-rest : (l : List ℕ) (k : ℕ) {i j : ℕ} {d e : List ℕ} → Appended (drop k l) i d e j → j ≤ i + length l
 after-rest l k w = omega (arith, w .next, length-drop k l)
 
-pub after-words : (kind x : ℕ) {i j : ℕ} {d e : List ℕ} → Appended (wordsFrom kind x) i d e j → j ≤ i + 26
-after-words kind x w = omega (arith, w .next, words-length kind x)
-
 pub after-decimal : (x : ℕ) {i j : ℕ} {d e : List ℕ} → Spills (decimal x) i d e j → j ≤ i + 20
 after-decimal x w = omega (arith, w .next, length-decimal x)

@@ -5,11 +5,12 @@ use mathlib.Core.List.{List, [], _∷_, _++_, append-assoc, append-nil}
 use Prim.Native.Nat.{ℕ, zero, suc, _+_, _*_, _-_, _%_, _≤_, min}
 use native.Mathlib.Omega.{arith}
 use lib.Dec.{leb}
-use lib.ListN.{length, take, drop, getD}
+use lib.ListN.{length, take, drop, getD, length-append}
 use Rattle.model.specs.Log.{text, decimal}
 use Rattle.lists.specs.Over.{overAt}
-use Rattle.lines.specs.Words.{wordsFrom, lineFrom, rows, upToNumber, hasNumber, fromNumber}
+use Rattle.lines.specs.Words.{wordsFrom, lineFrom, rows, upToNumber, hasNumber, tailFrom}
 use Rattle.lines.specs.Written.{Appended, Spills}
+use Rattle.lines.proofs.Longest.{words-length}
 use Rattle.lines.proofs.Spilling.{spills-none, spills-then}
 
 -- row j is that of kind k: eight bytes, of which the last says how many are the text, and whether a number follows
@@ -45,7 +46,8 @@ module _ (t : List ℕ) (k j : ℕ) (is : t ≡ rows) (at : j ≡ min k 6) where
       record {
         spilled = here .rest;
         few = here .few;
-        memory = w .memory ∙ ap (λ (l : List ℕ). overAt i l d) (ap (λ (n : ℕ). take n (drop (8 * j) t)) m ∙ ap (λ (l : List ℕ). take 8 (drop (8 * j) l)) is ∙ here .is);
+        memory = w .memory ∙ ap (λ (l : List ℕ). overAt i l d)
+            (ap (λ (n : ℕ). take n (drop (8 * j) t)) m ∙ ap (λ (l : List ℕ). take 8 (drop (8 * j) l)) is ∙ here .is);
         next = ap (λ (n : ℕ). i + n) (ap (λ (l : List ℕ). getD l (8 * j + 7) 0 % 8) is ∙ here .size);
       }
 
@@ -55,30 +57,38 @@ module _ (t : List ℕ) (k j : ℕ) (is : t ≡ rows) (at : j ≡ min k 6) where
 pub after-row : (k : ℕ) {i j : ℕ} {d e : List ℕ} → Spills (upToNumber k) i d e j → j ≤ i + 7
 after-row k w = omega (arith, w .next, row k .size)
 
--- the rest of the line, by whether a number follows
-pub with-number : (k x : ℕ) {p d e f g : List ℕ} {i j n m : ℕ} → hasNumber k ≡ true → i ≤ length d → j ≤ length e → Spills p i d e j
-    → Spills (decimal x) j e f n → Appended (text "\n") n f g m → Spills (p ++ fromNumber k x) i d g m
-unfolding fromNumber
+-- what follows a record's number, by whether a number follows
+pub with-number : (k x : ℕ) {d e f g : List ℕ} {i j n m : ℕ} → hasNumber k ≡ true → i ≤ length d → j ≤ length e → Spills (upToNumber k) i d e j
+    → Spills (decimal x) j e f n → Appended (text "\n") n f g m → Spills (tailFrom k x) i d g m
+unfolding tailFrom
 with-number k x h l r a b c = rw h (spills-then l a (spills-then r b (spills-none c)))
 
-pub without-number : (k x : ℕ) {p d e : List ℕ} {i j : ℕ} → hasNumber k ≡ false → Spills p i d e j → Spills (p ++ fromNumber k x) i d e j
-unfolding fromNumber
-without-number k x {p} h a = rw (h, append-nil p) a
+pub without-number : (k x : ℕ) {d e : List ℕ} {i j : ℕ} → hasNumber k ≡ false → Spills (upToNumber k) i d e j → Spills (tailFrom k x) i d e j
+unfolding tailFrom
+without-number k x h a = rw (h, append-nil (upToNumber k)) a
 
--- the row's text and the rest are what follows the number in the line
-row-parts : (k x : ℕ) → upToNumber k ++ fromNumber k x ≡ text " " ++ wordsFrom k x ++ text "\n"
-unfolding upToNumber fromNumber hasNumber wordsFrom text
-row-parts zero x = refl
-row-parts (suc zero) x = refl
-row-parts (suc (suc zero)) x = refl
-row-parts (suc (suc (suc zero))) x = refl
-row-parts (suc (suc (suc (suc zero)))) x = refl
-row-parts (suc (suc (suc (suc (suc zero))))) x = refl
-row-parts (suc (suc (suc (suc (suc (suc k)))))) x = refl
+tail-parts : (k x : ℕ) → tailFrom k x ≡ text " " ++ wordsFrom k x ++ text "\n"
+unfolding upToNumber tailFrom hasNumber wordsFrom text
+tail-parts zero x = refl
+tail-parts (suc zero) x = refl
+tail-parts (suc (suc zero)) x = refl
+tail-parts (suc (suc (suc zero))) x = refl
+tail-parts (suc (suc (suc (suc zero)))) x = refl
+tail-parts (suc (suc (suc (suc (suc zero))))) x = refl
+tail-parts (suc (suc (suc (suc (suc (suc k)))))) x = refl
 
-pub line-parts : (n k x : ℕ) → decimal n ++ upToNumber k ++ fromNumber k x ≡ lineFrom n k x
+pub line-parts : (n k x : ℕ) → decimal n ++ tailFrom k x ≡ lineFrom n k x
 unfolding lineFrom
 line-parts n k x =
-    append-assoc (decimal n) (upToNumber k) (fromNumber k x) ∙ ap (λ (l : List ℕ). decimal n ++ l) (row-parts k x)
-    ∙ sym (append-assoc (decimal n) (text " " ++ wordsFrom k x) (text "\n"))
+    ap (λ (l : List ℕ). decimal n ++ l) (tail-parts k x) ∙ sym (append-assoc (decimal n) (text " " ++ wordsFrom k x) (text "\n"))
     ∙ ap (λ (l : List ℕ). l ++ text "\n") (sym (append-assoc (decimal n) (text " ") (wordsFrom k x)))
+
+pub tail-length : (k x : ℕ) → length (tailFrom k x) ≤ 28
+unfolding text
+tail-length k x = rw (tail-parts k x) (simp length-append (omega (arith, words-length k x)))
+
+pub after-tail : (k x : ℕ) {i j : ℕ} {d e : List ℕ} → Spills (tailFrom k x) i d e j → j ≤ i + 28
+after-tail k x w = omega (arith, w .next, tail-length k x)
+
+pub append-line : (n k x : ℕ) {d e : List ℕ} {i j : ℕ} → Appended (decimal n ++ tailFrom k x) i d e j → Appended (lineFrom n k x) i d e j
+append-line n k x {d} {e} {i} {j} w = subst (λ (p : List ℕ). Appended p i d e j) (line-parts n k x) w

@@ -1,10 +1,10 @@
 -- Texts after which bytes spill: a text is written in parts, and each part covers what spilled before it.
-use mathlib.Core.Path.{_≡_, sym, ap, _∙_}
+use mathlib.Core.Path.{_≡_, sym, ap, subst, _∙_}
 use mathlib.Core.List.{List, [], _++_, append-assoc, append-nil}
 use Prim.Native.Nat.{ℕ, _+_, _-_, _≤_}
 use native.Mathlib.Omega.{arith}
 use lib.ListN.{length, take, drop, length-append, length-take, length-drop}
-use lib.Seq.{take-add, length-take-le}
+use lib.Seq.{take-at, take-add, length-take-le}
 use Rattle.lists.specs.Over.{overAt}
 use Rattle.lines.specs.Written.{Appended, Spills}
 use Rattle.lines.proofs.Appending.{overAt-append, overAt-again, over-reach}
@@ -15,7 +15,8 @@ spills-none {p} {d} {e} {i} {j} w =
     record { spilled = []; few = omega arith; memory = w .memory ∙ ap (λ (l : List ℕ). overAt i l d) (sym (append-nil p)); next = w .next }
 
 -- the first n of eight bytes
-pub spills-eight : (l : List ℕ) (n : ℕ) {d e : List ℕ} {i j : ℕ} → n ≤ 8 → 8 ≤ length l → Appended (take 8 l) i d e j → Spills (take n l) i d e (i + n)
+pub spills-eight : (l : List ℕ) (n : ℕ) {d e : List ℕ} {i j : ℕ} → n ≤ 8 → 8 ≤ length l
+    → Appended (take 8 l) i d e j → Spills (take n l) i d e (i + n)
 spills-eight l n {d} {e} {i} {j} h g w =
     let r = take (8 - n) (drop n l) in
     let m : 8 ≡ n + (8 - n) = omega arith in
@@ -60,3 +61,16 @@ spills-then {p} {q} {d} {e} {f} {i} {j} {k} h a b =
           ∙ ap (λ (x : ℕ). overAt x s (overAt i (p ++ q) d)) z ∙ overAt-append (p ++ q) s d i h;
       next = omega (arith, a .next, b .next, length-append p q);
     }
+
+-- a text after which bytes spilled, at the start of memory
+spills-text : {p d e : List ℕ} {n : ℕ} → Spills p 0 d e n → take n e ≡ p
+unfolding overAt
+spills-text {p} {d} {e} {n} w =
+    let r = drop (0 + length (p ++ w .spilled)) d in
+    ap (take n) (w .memory ∙ append-assoc p (w .spilled) r) ∙ take-at p (w .spilled ++ r) n (omega (arith, w .next))
+
+-- it is copied without them
+pub append-copied : {p d e : List ℕ} {n : ℕ} {a b : List ℕ} {i j : ℕ} → Spills p 0 d e n → Appended (take (n - 0) e) i a b j → Appended p i a b j
+append-copied {p} {d} {e} {n} {a} {b} {i} {j} s w =
+    let z : n - 0 ≡ n = omega arith in
+    subst (λ (l : List ℕ). Appended l i a b j) (rw z (spills-text s)) w

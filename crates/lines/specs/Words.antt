@@ -41,11 +41,12 @@ hasNumber (suc (suc (suc (suc zero)))) = true
 hasNumber (suc (suc (suc (suc (suc zero))))) = false
 hasNumber (suc (suc (suc (suc (suc (suc k)))))) = true
 
--- the rest of the line
-unfoldable pub fromNumber : ℕ → ℕ → List ℕ
-fromNumber kind x = cond (hasNumber kind) (decimal x ++ text "\n") []
+-- the whole part of a line after the record's number
+unfoldable pub tailFrom : ℕ → ℕ → List ℕ
+tailFrom kind x = upToNumber kind ++ cond (hasNumber kind) (decimal x ++ text "\n") []
 
--- a row of eight bytes for each kind: the part of the line up to the number, and in the last byte its length, and 8 more where there is a number
+-- a row of eight bytes for each kind: the part of the line up to the number, and in the last byte its length, and 8 more where there is a
+-- number
 unfoldable pub rows : List ℕ
 rows =
     text " ok\n" ++ (0 ∷ 0 ∷ 0 ∷ 4 ∷ [])

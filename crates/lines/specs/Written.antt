@@ -72,8 +72,9 @@ pub record LinesWritten (out : List ℕ) (n : ℕ) (kinds numbers : List ℕ) (c
   pub memory : out′ ≡ writtenLines out n kinds numbers (counted count kinds numbers) .memory
   pub inside : used ≤ length out′
 
--- The lines of the first k answers of a buffer were written from the start of `out`, which is out′ then, and end at index `at`. Bytes spilled
--- after them, and are covered by the next `sure` lines, of at least five bytes each: these are among the first `most`, and there is room for them.
+-- The lines of the first k answers of a buffer were written from the start of `out`, which is out′ then, and end at index `at`. Bytes
+-- spilled after them, and are covered by the next `sure` lines, of at least five bytes each: these are among the first `most`, and there is
+-- room for them.
 pub record Partly (out : List ℕ) (n : ℕ) (kinds numbers : List ℕ) (most : ℕ) (out′ : List ℕ) (at k : ℕ) : Type 0 where
   pub spilled : List ℕ
   pub sure : ℕ

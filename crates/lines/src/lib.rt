@@ -5,11 +5,11 @@ ghost use Prim.Native.Nat.{ℕ, _+_, _*_, _/_, _≤_, _<_, min};
 ghost use lib.ListN.{length, take, drop, replicate};
 ghost use Rattle.model.specs.Log.{decimal};
 ghost use Rattle.lines.specs.Digits.{Spelled, tensOf, leadOf};
-ghost use Rattle.lines.specs.Words.{wordsFrom, rows, upToNumber, hasNumber, fromNumber};
+ghost use Rattle.lines.specs.Words.{rows, upToNumber, hasNumber, tailFrom};
 ghost use Rattle.lines.specs.Written.{Appended, Spills, LineAppended, LinesWritten, Partly};
 
-// A row of eight bytes for each kind: a space and the words, up to their number or with the line's end, and in the last byte the length of this
-// text, and 8 more where a number follows.
+// A row of eight bytes for each kind: a space and the words, up to their number or with the line's end, and in the last byte the length of
+// this text, and 8 more where a number follows.
 const ROWS: [u8; 56] =
     *b" ok\n\0\0\0\x04 going\n\x07 freed \x0f at \0\0\0\x0c value \x0f done\n\0\x06 no \0\0\0\x0c";
 
@@ -122,56 +122,6 @@ fn put_decimal(out: &mut [u8], at: usize, x: u64) -> usize
     put_digits(out, at, &places, start)
 }
 
-// Writes a text, then a number, at index `at` of out; answers the index after them.
-fn put_numbered(out: &mut [u8], at: usize, t: &[u8], x: u64) -> usize
-    requires { ⌜ at + length (now t) + 20 ≤ length (now out) ⌝ }
-    ensures { λ r. ⌜ Appended (now (t .entry) ++ decimal x) at (now (out .entry)) (now (out .exit)) r ⌝ }
-{
-    let next = put_text(out, at, t);
-    put_decimal(out, next, x)
-}
-
-// Writes the words of the answer of this kind and number, at most 26 bytes, at index `at` of out; answers the index after them.
-fn put_words(out: &mut [u8], at: usize, kind: u8, number: u64) -> usize
-    requires { ⌜ at + 26 ≤ length (now out) ⌝ }
-    ensures { λ r. ⌜ Appended (wordsFrom kind number) at (now (out .entry)) (now (out .exit)) r ⌝ }
-{
-    match kind {
-        0 => put_text(out, at, b"ok"),
-        1 => put_text(out, at, b"going"),
-        2 => put_numbered(out, at, b"freed ", number),
-        3 => put_numbered(out, at, b"at ", number),
-        4 => put_numbered(out, at, b"value ", number),
-        5 => put_text(out, at, b"done"),
-        _ => put_numbered(out, at, b"no ", number),
-    }
-}
-
-// Writes the line of the record whose number the places spell, with its answer's kind and number, at index `at` of out; answers the index
-// after it. Where fewer than 48 bytes, the longest line, are left from `at` on, writes nothing and answers `at`.
-fn write_line(
-    out: &mut [u8],
-    at: usize,
-    places: &[u8; 20],
-    start: usize,
-    kind: u8,
-    number: u64,
-) -> usize
-    requires { ⌜ start ≤ 20 ⌝ }
-    ensures { λ r. ⌜ ((n : ℕ) → Spelled n (now (places .entry)) start → LineAppended n kind number at (now (out .entry)) (now (out .exit)) r) ⌝ }
-{
-    if out.len() < at {
-        return at;
-    }
-    if out.len() - at < 48 {
-        return at;
-    }
-    let space = put_digits(out, at, places, start);
-    let word = put_text(out, space, b" ");
-    let end = put_words(out, word, kind, number);
-    put_text(out, end, b"\n")
-}
-
 fn least(a: usize, b: usize) -> usize
     ensures { λ r. ⌜ r ≡ min a b ⌝ }
 {
@@ -201,7 +151,7 @@ fn put_number(out: &mut [u8], at: usize, head: &[u8; 20], n: usize, last: u8) ->
     put_byte(out, at + n, last)
 }
 
-// Writes the row of a kind (`rows`) at index `at` of out, in one move; answers the index after the text in it. The bytes after the text spill.
+// Writes the row of a kind at index `at` of out, in one move; answers the index after the text in it. The rest of the row spills.
 fn put_row(out: &mut [u8], at: usize, table: &[u8; 56], kind: u8) -> usize
     requires { ⌜ (now table ≡ rows) × (at + 8 ≤ length (now out)) ⌝ }
     ensures { λ r. ⌜ Spills (upToNumber kind) at (now (out .entry)) (now (out .exit)) r ⌝ }
@@ -222,8 +172,8 @@ fn numbered(table: &[u8; 56], kind: u8) -> bool
     table[i + 7] >= 8
 }
 
-// Writes the digit of x at a unit at index `at` of out; answers the index after it. Where it is a zero before x's digits it spills, and the answer
-// is `at`: no branch is needed.
+// Writes the digit of x at a unit at index `at` of out; answers the index after it. Where it is a zero before x's digits it spills, and the
+// answer is `at`: no branch is needed.
 fn put_lead(out: &mut [u8], at: usize, x: u64, unit: u64) -> usize
     requires { ⌜ (1 ≤ unit) × (at < length (now out)) ⌝ }
     ensures { λ r. ⌜ Spills (leadOf x unit) at (now (out .entry)) (now (out .exit)) r ⌝ }
@@ -264,8 +214,21 @@ fn spill_decimal(out: &mut [u8], at: usize, x: u64) -> usize
     put_decimal(out, at, x)
 }
 
-// Writes the line of a record at index `at` of out; answers the index after it. The first n bytes of `head` and `last` are the digits of its
-// number. A few bytes spill.
+// Writes what follows a record's number in its line at index `at` of out; answers the index after it. A few bytes spill.
+fn spill_tail(out: &mut [u8], at: usize, table: &[u8; 56], kind: u8, number: u64) -> usize
+    requires { ⌜ (now table ≡ rows) × (at + 28 ≤ length (now out)) ⌝ }
+    ensures { λ r. ⌜ Spills (tailFrom kind number) at (now (out .entry)) (now (out .exit)) r ⌝ }
+{
+    let next = put_row(out, at, table, kind);
+    if numbered(table, kind) {
+        let end = spill_decimal(out, next, number);
+        return put_byte(out, end, 10);
+    }
+    next
+}
+
+// Writes the line of a record at index `at` of out; answers the index after it. The first n bytes of `head` and `last` are the digits of
+// its number. A few bytes spill.
 fn spill_line(
     out: &mut [u8],
     at: usize,
@@ -277,17 +240,45 @@ fn spill_line(
     number: u64,
 ) -> usize
     requires { ⌜ (now table ≡ rows) × (n ≤ 8) × (at + 48 ≤ length (now out)) ⌝ }
-    ensures { λ r. ⌜
-        Spills (take n (now (head .entry)) ++ (last ∷ []) ++ upToNumber kind ++ fromNumber kind number) at (now (out .entry)) (now (out .exit)) r
-        ⌝ }
+    ensures { λ r. ⌜ Spills (take n (now (head .entry)) ++ (last ∷ []) ++ tailFrom kind number) at (now (out .entry)) (now (out .exit)) r ⌝ }
 {
     let space = put_number(out, at, head, n, last);
-    let next = put_row(out, space, table, kind);
-    if numbered(table, kind) {
-        let end = spill_decimal(out, next, number);
-        return put_byte(out, end, 10);
+    spill_tail(out, space, table, kind, number)
+}
+
+// Writes what follows a record's number in its line at index `at` of out, and nothing after it; answers the index after it.
+fn put_tail(out: &mut [u8], at: usize, kind: u8, number: u64) -> usize
+    requires { ⌜ at + 28 ≤ length (now out) ⌝ }
+    ensures { λ r. ⌜ Appended (tailFrom kind number) at (now (out .entry)) (now (out .exit)) r ⌝ }
+{
+    let table = ROWS;
+    let mut tail = [0u8; 28];
+    let n = spill_tail(&mut tail, 0, &table, kind, number);
+    let all = &tail[..];
+    put_text(out, at, &all[0..n])
+}
+
+// Writes the line of the record whose number the places spell, with its answer's kind and number, at index `at` of out; answers the index
+// after it. Where fewer than 48 bytes, the longest line, are left from `at` on, writes nothing and answers `at`.
+fn write_line(
+    out: &mut [u8],
+    at: usize,
+    places: &[u8; 20],
+    start: usize,
+    kind: u8,
+    number: u64,
+) -> usize
+    requires { ⌜ start ≤ 20 ⌝ }
+    ensures { λ r. ⌜ ((n : ℕ) → Spelled n (now (places .entry)) start → LineAppended n kind number at (now (out .entry)) (now (out .exit)) r) ⌝ }
+{
+    if out.len() < at {
+        return at;
     }
-    next
+    if out.len() - at < 48 {
+        return at;
+    }
+    let space = put_digits(out, at, places, start);
+    put_tail(out, space, kind, number)
 }
 
 // Writes the digits from place `start` on at the start of `head`; answers how many they are.
@@ -298,7 +289,7 @@ fn put_front(head: &mut [u8; 20], places: &[u8; 20], start: usize) -> usize
     put_digits(head, 0, places, start)
 }
 
-// Writes the digits of the tens of a number, from place `start` on, at the start of `head`; answers how many they are. There are none below 10.
+// Writes the digits of the tens of `first`, from place `start` on, at the start of `head`; answers how many they are: none below 10.
 fn put_tens(head: &mut [u8; 20], places: &[u8; 20], start: usize, first: u64) -> usize
     requires { ⌜ Spelled (first / 10) (now places) start ⌝ }
     ensures { λ r. ⌜ take r (now (head .exit)) ≡ tensOf (first / 10) ⌝ }
@@ -315,8 +306,8 @@ struct Part {
     at: usize,
 }
 
-// Writes all lines but the last, from the start of out; the bytes that spill after them are covered by the next two. The number is kept as its
-// last digit and the digits of its tens, to which every tenth line adds one.
+// Writes lines from the start of out as long as two more follow, which cover the bytes that spill. The number is kept as its last digit and
+// the digits of its tens, to which every tenth line adds one.
 fn begin_lines(out: &mut [u8], first: u64, kinds: &[u8], numbers: &[u64], most: usize) -> Part
     requires { ⌜ (most ≤ length (now kinds)) × (most ≤ length (now numbers)) ⌝ }
     ensures { λ r. ⌜ Partly (now (out .entry)) first (now (kinds .entry)) (now (numbers .entry)) most (now (out .exit)) (r .at) (r .done) ⌝ }
@@ -350,8 +341,8 @@ fn begin_lines(out: &mut [u8], first: u64, kinds: &[u8], numbers: &[u64], most: 
     Part { done: k, at }
 }
 
-// Writes the lines from that of answer `from` on, each exactly, from index `begun` of out on; answers the index after them. The number is kept
-// as its digits, so that each line only adds one.
+// Writes the lines from that of answer `from` on, each exactly, from index `begun` of out on; answers the index after them. The number is
+// kept as its digits, so that each line only adds one.
 fn end_lines(
     out: &mut [u8],
     first: u64,

@@ -38,12 +38,14 @@ add-last c = search needs
 sub-stop : tie.Need-sub-stop Inv-loop μ-loop
 sub-stop c =
     let E = c .before .before .before .before .before in
-    omega (arith, suits (E .before .before .before .before .args .most) (length (E .before .before .before .before .args .out .now)) (E .before .before .before .before .args .first) (E .if1 .left) .some)
+    let A = E .before .before .before .before .args in
+    omega (arith, suits (A .most) (length (A .out .now)) (A .first) (E .if1 .left) .some)
 
 sub-limit : tie.Need-sub-limit Inv-loop μ-loop
 sub-limit c =
     let E = c .before .before .before .before .before in
-    omega (arith, suits (E .before .before .before .before .args .most) (length (E .before .before .before .before .args .out .now)) (E .before .before .before .before .args .first) (E .if1 .left) .room)
+    let A = E .before .before .before .before .args in
+    omega (arith, suits (A .most) (length (A .out .now)) (A .first) (E .if1 .left) .room)
 
 loop-holds : tie.Need-loop-holds Inv-loop μ-loop
 loop-holds c =
@@ -93,13 +95,16 @@ loop-less c =
 loop-again : tie.Need-loop-again Inv-loop μ-loop
 loop-again c =
     let I = c .before .before .before .before .before .before .before .before .before in
-    beginning-up _ _ _ _ _ (I .before .loop .inv) (I .loop-test .taken) (search needs) (c .before .before .before .spill-line .ensures) (c .if2 .taken)
+    beginning-up _ _ _ _ _ (I .before .loop .inv) (I .loop-test .taken) (search needs)
+    (c .before .before .before .spill-line .ensures) (c .if2 .taken)
 
 count-up-requires : tie.Need-count-up-requires Inv-loop μ-loop
 count-up-requires c κs = search needs
 
 put-front-requires : tie.Need-put-front-requires Inv-loop μ-loop
-put-front-requires c κs = spelled-start (c .before .before .count-up .ensures _ (c .before .before .before .before .before .before .before .before .before .before .before .before .before .before .loop .inv .counting .tens))
+put-front-requires c κs =
+    spelled-start (c .before .before .count-up .ensures _
+    (c .before .before .before .before .before .before .before .before .before .before .before .before .before .before .loop .inv .counting .tens))
 
 add-k-2 : tie.Need-add-k-2 Inv-loop μ-loop
 add-k-2 c =

@@ -7,7 +7,8 @@ use Rattle.lines.proofs.end_lines.Statement.{statement}
 use Rattle.lines.proofs.end_lines.Tie as tie
 
 abbrev Inv-loop : tie.InvT-loop
-Inv-loop out₀ first kinds numbers most from begun places₀ start₀ at₀ k₀ out places start at k = Ending first kinds numbers most out₀ begun from out places start at k
+Inv-loop out₀ first kinds numbers most from begun places₀ start₀ at₀ k₀ out places start at k =
+    Ending first kinds numbers most out₀ begun from out places start at k
 
 abbrev μ-loop : tie.MeasureT-loop
 μ-loop out₀ first kinds numbers most from begun places₀ start₀ at₀ k₀ out places start at k = most - k
@@ -43,7 +44,9 @@ loop-less : tie.Need-loop-less Inv-loop μ-loop
 loop-less c = search needs
 
 loop-again : tie.Need-loop-again Inv-loop μ-loop
-loop-again c = ending-turn _ _ _ _ _ _ _ (c .before .before .before .before .before .before .before .before .before .before .loop .inv) (c .before .before .before .before .before .before .before .before .before .loop-test .taken)
+loop-again c =
+    ending-turn _ _ _ _ _ _ _ (c .before .before .before .before .before .before .before .before .before .before .loop .inv)
+    (c .before .before .before .before .before .before .before .before .before .loop-test .taken)
     (search needs) (c .before .before .before .before .write-line .ensures) (c .count-up .ensures)
 
 same-length : tie.Need-same-length Inv-loop μ-loop

@@ -17,7 +17,9 @@ element-copy-out-result : tie.Need-element-copy-out-result
 element-copy-out-result c = search needs
 
 returns : tie.Need-returns
-returns c = let A = c .before .before in row-mark (A .args .table .now) (A .args .kind) (c .before .least .result) (A .pre) (c .before .least .ensures)
+returns c =
+    let A = c .before .before in
+    row-mark (A .args .table .now) (A .args .kind) (c .before .least .result) (A .pre) (c .before .least .ensures)
 
 pub numbered-spec : {M : Type 1} → statement M
 numbered-spec =

@@ -32,7 +32,8 @@ returns : tie.Need-returns
 returns c =
     let A = c .before .before .before .before .before .before .before .before .before .before .before in
     let h : A .args .at ≤ length (A .args .out .now) = omega arith in
-    let digits = spills-eight (A .args .head .now) (A .args .n) (A .pre .0) (omega arith) (c .before .before .before .before .before .before .put-text .ensures) in
+    let digits = spills-eight (A .args .head .now) (A .args .n) (A .pre .0) (omega arith)
+    (c .before .before .before .before .before .before .put-text .ensures) in
     (spills-then h digits (spills-none (c .before .before .put-byte .ensures)), omega (arith, c .before .before .put-byte .ensures .next))
 
 pub put-number-spec : {M : Type 1} → statement M

@@ -18,7 +18,9 @@ same-length : tie.Need-same-length
 same-length c = search needs
 
 returns : tie.Need-returns
-returns c = spills-none (one-digit (c .before .before .before .before .before .before .args .x) (c .before .before .before .before .if1 .taken) (c .before .before .put-byte .ensures))
+returns c =
+    spills-none (one-digit (c .before .before .before .before .before .before .args .x) (c .before .before .before .before .if1 .taken)
+    (c .before .before .put-byte .ensures))
 
 put-short-requires : tie.Need-put-short-requires
 put-short-requires c κs = search needs

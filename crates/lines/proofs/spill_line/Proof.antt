@@ -1,66 +1,22 @@
--- `spill_line` meets its contract: the number, the row and the rest of the line are written one after the other, and each covers what spilled.
-use mathlib.Core.Path.{sym, _∙_}
-use Prim.Native.Nat.{_≤_}
-use lib.ListN.{length}
+-- `spill_line` meets its contract: what follows the number covers what spilled after it.
 use native.Mathlib.Omega.{arith}
-use Rattle.model.specs.Log.{text}
 use borrow.Author.Needs.{needs}
 use Rattle.lines.proofs.Spilling.{spills-then}
-use Rattle.lines.proofs.Longest.{after-decimal}
-use Rattle.lines.proofs.Rows.{after-row, with-number, without-number}
 use Rattle.lines.proofs.spill_line.Statement.{statement}
 use Rattle.lines.proofs.spill_line.Tie as tie
 
 put-number-requires : tie.Need-put-number-requires
 put-number-requires c κs = search needs
 
-put-row-requires : tie.Need-put-row-requires
-put-row-requires c κs = search needs
-
-numbered-requires : tie.Need-numbered-requires
-numbered-requires c κs = search needs
-
-spill-decimal-requires : tie.Need-spill-decimal-requires
-spill-decimal-requires c κs = omega (arith, after-row)
-
-put-byte-requires : tie.Need-put-byte-requires
-put-byte-requires c κs = omega (arith, after-row, after-decimal)
+spill-tail-requires : tie.Need-spill-tail-requires
+spill-tail-requires c κs = search needs
 
 same-length : tie.Need-same-length
 same-length c = search needs
 
 returns : tie.Need-returns
-unfolding text
 returns c =
-    let N = c .before .before .before .before .before .before .before .before .before in
-    let P = N .before .before .before in
-    let A = P .before .before .before .before .before .before .before in
-    let h : A .args .at ≤ length (A .args .out .now) = omega arith in
-    let row = spills-then h (P .before .before .before .before .put-number .ensures .0) (P .put-row .ensures) in
-    with-number (A .args .kind) (A .args .number) (sym (N .numbered .ensures) ∙ c .before .before .before .before .before .before .before .before .if1 .taken) h
-    (omega (arith, after-row)) row (c .before .before .before .before .before .before .spill-decimal .ensures) (c .before .before .put-byte .ensures)
-
-same-length-2 : tie.Need-same-length-2
-same-length-2 c = search needs
-
-returns-2 : tie.Need-returns-2
-returns-2 c =
-    let P = c .before .before .before .before in
-    let A = P .before .before .before .before .before .before .before in
-    let h : A .args .at ≤ length (A .args .out .now) = omega arith in
-    let row = spills-then h (P .before .before .before .before .put-number .ensures .0) (P .put-row .ensures) in
-    without-number (A .args .kind) (A .args .number) (sym (c .before .numbered .ensures) ∙ c .if1 .left) row
+    spills-then (omega arith) (c .before .before .before .before .before .before .put-number .ensures .0) (c .before .before .spill-tail .ensures)
 
 pub spill-line-spec : {M : Type 1} → statement M
-spill-line-spec =
-    tie.close
-    (tie.spec
-    put-number-requires
-    put-row-requires
-    numbered-requires
-    spill-decimal-requires
-    put-byte-requires
-    same-length
-    returns
-    same-length-2
-    returns-2)
+spill-line-spec = tie.close (tie.spec put-number-requires spill-tail-requires same-length returns)

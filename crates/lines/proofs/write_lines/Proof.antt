@@ -22,7 +22,8 @@ same-length : tie.Need-same-length
 same-length c = search needs
 
 returns : tie.Need-returns
-returns c = partly-end _ _ _ _ _ (c .before .before .end-lines .ensures _ (c .before .before .before .before .before .before .begin-lines .ensures .0)) refl (omega arith)
+returns c =
+    partly-end _ _ _ _ _ (c .before .before .end-lines .ensures _ (c .before .before .before .before .before .before .begin-lines .ensures .0)) refl (omega arith)
 
 pub write-lines-spec : {M : Type 1} → statement M
 write-lines-spec =
