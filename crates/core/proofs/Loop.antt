@@ -23,6 +23,7 @@ use Rattle.worker.specs.declared.Doing.{Doing}
 use Rattle.worker.specs.declared.Doing.the-variants.{FlushRead, FlushFree}
 use Rattle.worker.specs.declared.Pool.{Pool}
 use Rattle.worker.specs.declared.Worker.{Worker}
+use Rattle.worker.specs.Pool.{placed}
 use Rattle.worker.specs.Rep.{poolRep}
 use Rattle.worker.proofs.Rep.{padded-nil}
 use Rattle.record.specs.declared.Decoded.{Decoded}
@@ -46,7 +47,7 @@ use Rattle.step.proofs.Lengths.{length-step}
 use Rattle.flush.specs.declared.Handed.{Handed}
 use Rattle.splitting.specs.declared.Parted.{Parted}
 use Rattle.freeing.specs.declared.Freed as Freeing
-use Rattle.flush.specs.Flush.{putHandInStep, partOf, withPart, flushReadStep}
+use Rattle.flush.specs.Flush.{putHandInStep, handedOn, partOf, withPart, flushReadStep}
 use Rattle.splitting.specs.Splitting.{splitLeft, splitQueue, splitMerged}
 use Rattle.freeing.specs.Freeing.{freedStep, freedRow, freedFree}
 use Rattle.simulation.specs.Memory.{Memory, memory}
@@ -304,27 +305,46 @@ module _ {S : State} {bytes : List ℕ} {count k : ℕ} {T : State} {r : Decoded
     on-taken o kinds numbers last f z = on-go (Taken o) (takenIn m′ w x o) kinds numbers last f refl refl refl (replaced _) z
 
     -- put (3)
-    pub on-hand-in : (c : ℕ) (a : Handed) (kinds numbers : List ℕ) (last : Answer) → s ≡ HandIn c → a ≡ putHandInStep row (x .pool) c (h .p)
+    pub on-hand-in : (c : ℕ) (a : Handed) (slots lows highs : List ℕ) (kinds numbers : List ℕ) (last : Answer) → s ≡ HandIn c
+        → a ≡ handedOn row (x .pool .len) c (h .p) → slots ≡ placed (x .pool .slots) (x .pool .len) c
+        → lows ≡ placed (x .pool .lows) (x .pool .len) (a .low) → highs ≡ placed (x .pool .highs) (x .pool .len) (a .high)
         → Wrote (a .answer) kinds numbers last
         → SoFar S bytes count (k + 1)
         (record {
           up = T .up;
           memory =
               withHub m′
-              (withWorkersIn h (set (h .workers) w (record { doing = a .doing; announced = x .announced; pool = a .pool; times = x .times })));
+              (withWorkersIn h
+              (set (h .workers) w
+              (record {
+                doing = a .doing;
+                announced = x .announced;
+                pool = record { slots = slots; lows = lows; highs = highs; len = a .len };
+                times = x .times;
+              })));
           kinds = kinds;
           numbers = numbers;
           last = last;
         })
-    unfolding nextIn handedIn
-    on-hand-in c a kinds numbers last f ea z =
-        let left : Handed → Result = λ y. record {
+    unfolding nextIn handedIn putHandInStep handedOn
+    on-hand-in c a slots lows highs kinds numbers last f ea es el eh z =
+        let left : Handed → List ℕ → List ℕ → List ℕ → Result = λ y b d e. record {
           memory =
               withHub m′
-              (withWorkersIn h (set (h .workers) w (record { doing = y .doing; announced = x .announced; pool = y .pool; times = x .times })));
+              (withWorkersIn h
+              (set (h .workers) w
+              (record {
+                doing = y .doing;
+                announced = x .announced;
+                pool = record { slots = b; lows = d; highs = e; len = y .len };
+                times = x .times;
+              })));
           answer = y .answer;
         } in
-        on-go (HandIn c) (left a) kinds numbers last f (ap left (sym ea)) refl refl (replaced _) z
+        let low : lows ≡ _ = el ∙ ap (λ (y : Handed). placed (x .pool .lows) (x .pool .len) (y .low)) ea in
+        let high : highs ≡ _ = eh ∙ ap (λ (y : Handed). placed (x .pool .highs) (x .pool .len) (y .high)) ea in
+        on-go (HandIn c) (left a slots lows highs) kinds numbers last f (λ i. left (sym ea i) (sym es i) (sym low i) (sym high i)) refl refl
+        (replaced _) z
 
     -- flush (1)
     pub on-take : (a : Taking) (queue lens merged : List ℕ) (kinds numbers : List ℕ) (last : Answer) → s ≡ Take

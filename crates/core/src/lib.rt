@@ -1,9 +1,12 @@
 // The loop over the records. It owns the hub while it runs, so that a record moves only what its step names; everything else is lent. The
 // slots are a lent row of words. Every public call goes through it.
 ghost use mathlib.Core.Path.{_≡_};
-ghost use Prim.Native.Nat.{_≤_};
+ghost use Prim.Native.Nat.{_≤_, _-_};
 ghost use lib.ListN.{getD, set};
 ghost use Rattle.answers.specs.Numbers.{kindOf, numberOf};
+ghost use Rattle.slots.specs.Slots.{madeTo};
+ghost use Rattle.state.specs.State.{freshHub};
+ghost use Rattle.arrays.specs.Arrays.{short, fillTo};
 ghost use Rattle.versions.specs.Versions.{rowOf};
 ghost use Rattle.simulation.specs.Loop.{Ran};
 ghost use Rattle.simulation.specs.Records.{recordAt};
@@ -73,6 +76,28 @@ fn put_answer(kinds: &mut [u8], numbers: &mut [u64], k: usize, y: Answer) -> Ans
     set_kind(kinds, k, answers::kind(y));
     set_number(numbers, k, answers::number(y));
     y
+}
+
+// A setup that is accepted: the hub, with its newest versions, free slots and slots.
+fn make(
+    row: &mut [[u64; 5]],
+    newest: &mut [u16; 256],
+    free: &mut [u16; 2048],
+    p: u8,
+    v: u16,
+    n: u16,
+    clock: u32,
+) -> Hub
+    ensures { λ r. ⌜ r ≡ freshHub p v n clock ⌝ }
+    ensures { λ _. ⌜ rowOf (now (row .exit)) ≡ madeTo (rowOf (now (row .entry))) v n ⌝ }
+    ensures { λ _. ⌜ now (newest .exit) ≡ fillTo (now (newest .entry)) short v ⌝ }
+    ensures { λ r. ⌜ now (free .exit) ≡ fillTo (now (free .entry)) (λ j. short (n - 1 - j)) (r .free) ⌝ }
+{
+    let hub = Hub::fresh(p as usize, v as usize, n as usize, clock);
+    arrays::fill_newest(newest, v as usize);
+    arrays::fill_free(free, n as usize, hub.free);
+    versions::set_up(row, v as usize, n as usize);
+    hub
 }
 
 // What is left of the hub by value, and the answer to the last record; `Ok` where there was none.
@@ -145,11 +170,8 @@ pub fn run(
                 k += 1;
             }
             Gate::Make { p, v, n, clock } => {
-                hub = Hub::fresh(p as usize, v as usize, n as usize, clock);
+                hub = make(row, newest, free, p, v, n, clock);
                 window = hub.window;
-                arrays::fill_newest(newest, v as usize);
-                arrays::fill_free(free, n as usize, hub.free);
-                versions::set_up(row, v as usize, n as usize);
                 up = true;
                 last = put_answer(kinds, numbers, k, Answer::Ok);
                 k += 1;
@@ -177,13 +199,18 @@ pub fn run(
                         last = put_answer(kinds, numbers, k, answer);
                         k += 1;
                     }
-                    // Put (3).
+                    // Put (3). The pool is taken and put back by value.
                     Next::HandIn { covered } => {
-                        let q = x.pool;
-                        let h = flush::put_hand_in(row, q, covered, hub.p);
+                        let y = hub.workers[w];
+                        let mut pool = y.pool;
+                        let at = pool.len;
+                        let h = flush::put_hand_in(row, at, covered, hub.p);
+                        worker::put_slot(&mut pool.slots, at, covered);
+                        worker::put_time(&mut pool.lows, at, h.low);
+                        worker::put_time(&mut pool.highs, at, h.high);
+                        pool.len = h.len;
                         let doing = h.doing;
-                        let pool = h.pool;
-                        hub.workers[w] = Worker { doing, pool, ..x };
+                        hub.workers[w] = Worker { doing, pool, ..y };
                         let answer = h.answer;
                         last = put_answer(kinds, numbers, k, answer);
                         k += 1;
@@ -208,15 +235,16 @@ pub fn run(
                         let j = (read % 16) as usize;
                         let z = hub.workers[j];
                         let a = z.announced;
-                        let before = x.times;
-                        let times = flush::flush_read(before, read, a);
+                        let y = hub.workers[w];
+                        let mut times = y.times;
+                        flush::flush_read(&mut times, read, a);
                         hub.workers[w] = Worker {
                             doing: Doing::FlushRead {
                                 merged: m,
                                 read: read + 1,
                             },
                             times,
-                            ..x
+                            ..y
                         };
                         last = put_answer(kinds, numbers, k, Answer::Going);
                         k += 1;

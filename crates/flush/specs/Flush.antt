@@ -5,13 +5,15 @@ use Prim.Native.Nat.{ℕ, _+_, _*_, _%_}
 use lib.Dec.{eqb}
 use lib.ListN.{set, take, drop}
 use Rattle.model.specs.Batch.{batchOf}
+use Rattle.values.specs.declared.Answer.{Answer}
 use Rattle.values.specs.declared.Answer.the-variants.{Going, Done}
 use Rattle.slots.specs.declared.Slot.{Slot}
 use Rattle.versions.specs.Versions.{slotAtIn}
 use Rattle.worker.specs.declared.Announced.{Announced}
+use Rattle.worker.specs.declared.Doing.{Doing}
 use Rattle.worker.specs.declared.Doing.the-variants.{Idle, FlushTake}
 use Rattle.worker.specs.declared.Pool.{Pool}
-use Rattle.worker.specs.Pool.{appended}
+use Rattle.worker.specs.Pool.{oneMore, appended}
 use Rattle.worker.specs.Rep.{timeOf}
 use Rattle.flush.specs.declared.Handed.{Handed}
 
@@ -26,13 +28,27 @@ word x = x % 4294967296
 abbrev pub handedPool : Pool → ℕ → Slot → Pool
 handedPool q c v = appended q c (word (v .low)) (word (v .high))
 
-abbrev pub handed : Pool → Bool → Handed
+-- what it leaves: the local pool, the worker's place and the answer
+pub record HandedIn : Type 0 where
+  pub pool : Pool
+  pub doing : Doing
+  pub answer : Answer
+
+abbrev pub handed : Pool → Bool → HandedIn
 handed q full = record { pool = q; doing = cond full FlushTake Idle; answer = cond full Going Done }
 
-unfoldable pub putHandInStep : List Slot → Pool → ℕ → ℕ → Handed
+unfoldable pub putHandInStep : List Slot → Pool → ℕ → ℕ → HandedIn
 putHandInStep l q c p =
     let pool = handedPool q c (slotAtIn l c) in
     handed pool (eqb (pool .len) (batchOf (p % 256)))
+
+-- the same without the arrays of the pool, which has n ranges
+abbrev pub handedOf : ℕ → Slot → Bool → Handed
+handedOf len v full =
+    record { low = word (v .low); high = word (v .high); len = len; doing = cond full FlushTake Idle; answer = cond full Going Done }
+
+unfoldable pub handedOn : List Slot → ℕ → ℕ → ℕ → Handed
+handedOn l n c p = handedOf (oneMore n) (slotAtIn l c) (eqb (oneMore n) (batchOf (p % 256)))
 
 ------------------------------------------------------------------------
 -- The merged lists: 768 words for each worker

@@ -1,4 +1,4 @@
-// Put (3), flush (1) and flush (2): functions of just what they change, the local pool and the times by value, the rest in lent memory.
+// Put (3), flush (1) and flush (2): functions of just what they change, in lent memory.
 ghost use mathlib.Core.Path.{_≡_};
 ghost use Prim.Native.Nat.{_<_};
 ghost use lib.ListN.{length};
@@ -6,41 +6,46 @@ ghost use Rattle.lists.specs.Over.{over};
 ghost use Rattle.ranges.specs.Words.{flat};
 ghost use Rattle.queue.specs.State.{poolsIn, taken, rest};
 ghost use Rattle.versions.specs.Versions.{rowOf};
-ghost use Rattle.flush.specs.Flush.{putHandInStep, partOf, withPart, flushReadStep};
+ghost use Rattle.flush.specs.Flush.{handedOn, partOf, withPart, flushReadStep};
 use queue::Taking;
 use values::Answer;
 use values::Window;
 use worker::Announced;
 use worker::Doing;
-use worker::Pool;
 
 // ---- put (3)
 
-// The local pool, the worker's place and the answer after put (3).
+// Put (3) beside the pool's arrays: the low and the high that go there, how many ranges the pool has then, the worker's place and the answer.
 pub struct Handed {
-    pub pool: Pool,
+    pub low: u32,
+    pub high: u32,
+    pub len: usize,
     pub doing: Doing,
     pub answer: Answer,
 }
 
-// Put (3), of p workers: the covered version's range joins the local pool.
-pub fn put_hand_in(row: &[[u64; 5]], q: Pool, covered: u16, p: usize) -> Handed
-    ensures { λ r. ⌜ r ≡ putHandInStep (rowOf (now (row .entry))) q covered p ⌝ }
+// Put (3), of p workers: the covered version's range joins the n ranges of the local pool.
+pub fn put_hand_in(row: &[[u64; 5]], n: usize, covered: u16, p: usize) -> Handed
+    ensures { λ r. ⌜ r ≡ handedOn (rowOf (now (row .entry))) n covered p ⌝ }
 {
     let v = versions::load(row, covered as usize);
     let low = (v.low % 4294967296) as u32;
     let high = (v.high % 4294967296) as u32;
-    let pool = q.append(covered, low, high);
+    let len = worker::one_more(n);
     let size = batch::batch((p % 256) as u8);
-    if pool.len == size as usize {
+    if len == size as usize {
         return Handed {
-            pool,
+            low,
+            high,
+            len,
             doing: Doing::FlushTake,
             answer: Answer::Going,
         };
     }
     Handed {
-        pool,
+        low,
+        high,
+        len,
         doing: Doing::Idle,
         answer: Answer::Done,
     }
@@ -85,11 +90,9 @@ pub fn flush_take(
 // ---- flush (2)
 
 // Flush (2): the announced time t of worker j is read.
-pub fn flush_read(times: [u64; 16], j: u8, t: Announced) -> [u64; 16]
-    ensures { λ r. ⌜ r ≡ flushReadStep times j t ⌝ }
+pub fn flush_read(times: &mut [u64; 16], j: u8, t: Announced)
+    ensures { λ _. ⌜ now (times .exit) ≡ flushReadStep (now (times .entry)) j t ⌝ }
 {
-    let mut all = times;
     let i = (j % 16) as usize;
-    all[i] = worker::time_of(t);
-    all
+    times[i] = worker::time_of(t);
 }

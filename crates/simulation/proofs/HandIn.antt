@@ -22,8 +22,7 @@ use Rattle.worker.specs.Pool.{appended}
 use Rattle.worker.specs.Rep.{poolRep, announcedRep, workerRep}
 use Rattle.worker.proofs.Ranges.{append-rep}
 use Rattle.step.specs.Step.{stepOf}
-use Rattle.flush.specs.declared.Handed.{Handed}
-use Rattle.flush.specs.Flush.{word, handedPool, handed, putHandInStep}
+use Rattle.flush.specs.Flush.{HandedIn, word, handedPool, handed, putHandInStep}
 use Rattle.simulation.specs.Memory.{Memory, handWords, inHandWords, write}
 use Rattle.simulation.specs.Left.{Sized}
 use Rattle.simulation.specs.Shell.{withRecord, answered, queueIn, handedIn, nextIn, goIn}
@@ -37,7 +36,7 @@ use Rattle.simulation.proofs.Moved.{workers-byte, moved-sim}
 abbrev after : Bool → Model.Worker → List Range → Model.Worker
 after t x p = record { doing = cond t Model.FlushTake Model.Idle; announced = x .announced; pool = p }
 
-abbrev recordOf : Model.Worker → Handed → Worker
+abbrev recordOf : Model.Worker → HandedIn → Worker
 recordOf x z = record { doing = z .doing; announced = announcedRep (x .announced); pool = z .pool; times = replicate 16 0 }
 
 record-is : (x : Model.Worker) (p : List Range) (t : Bool) → recordOf x (handed (poolRep p) t) ≡ workerRep (after t x p)
@@ -102,5 +101,5 @@ module _ (s : Store) (m : Memory) (w r c : ℕ) (S : Sound s) (Z : Sized m) (lai
       let x : Model.Worker = after full own pool in
       moved-sim s m w S laid wb d e x (s .queue) (cond full Going Done) (recordOf own (handed (poolRep pool) full)) (queueIn m) (m .merged)
       (ap (λ (y : Model·Answer.Answer). record { store = withWorker s w x; answer = y }) (same-answer full))
-      (ap (λ (z : Handed). answered (withRecord m w (recordOf own z)) (z .answer)) handed-is)
+      (ap (λ (z : HandedIn). answered (withRecord m w (recordOf own z)) (z .answer)) handed-is)
       (record-is own pool full) (queue-kept s m (s .queue) (queueIn m) (omega arith) (queue-held s m laid)) (list-kept s S w wb m Z laid d x [] e (no-list r c full))

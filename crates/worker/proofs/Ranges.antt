@@ -47,29 +47,25 @@ ranges-are q (ρ ∷ l) z i h =
 ------------------------------------------------------------------------
 -- One range appended
 
--- a pool that is not full, with one range more
-abbrev grown : Pool → Range → Pool
-grown q ρ =
-    record {
-      slots = set (q .slots) (q .len) (ρ .slot);
-      lows = set (q .lows) (q .len) (ρ .low);
-      highs = set (q .highs) (q .len) (ρ .high);
-      len = q .len + 1;
-    }
-
--- has that range after its own
-pub ranges-grown : (q : Pool) (ρ : Range) → q .len < length (q .slots) → q .len < length (q .lows) → q .len < length (q .highs)
-    → rangesIn (grown q ρ) ≡ rangesIn q ++ (ρ ∷ [])
-ranges-grown q ρ a b c =
-    let g = grown q ρ in
+-- a pool that is not full has the range after its own
+pub ranges-appended : (q : Pool) (ρ : Range) → q .len < 64 → length (q .slots) ≡ 64 → length (q .lows) ≡ 64 → length (q .highs) ≡ 64
+    → rangesIn (appended q (ρ .slot) (ρ .low) (ρ .high)) ≡ rangesIn q ++ (ρ ∷ [])
+ranges-appended q ρ h a b c =
     let n = q .len in
+    let g : Pool =
+    record { slots = set (q .slots) n (ρ .slot); lows = set (q .lows) n (ρ .low); highs = set (q .highs) n (ρ .high); len = n + 1 } in
     let same : (j : ℕ) → j < 0 + n → rangeIn g j ≡ rangeIn q j =
     λ j k.
     let o : j ≡ n → ⊥ = λ e. omega arith in
     rw (getD-set-other (q .slots) n j (ρ .slot) 0 o, getD-set-other (q .lows) n j (ρ .low) 0 o, getD-set-other (q .highs) n j (ρ .high) 0 o) in
     let last : rangeIn g (0 + n) ≡ ρ =
-    rw (zero-add n, getD-set-same (q .slots) n (ρ .slot) 0 a, getD-set-same (q .lows) n (ρ .low) 0 b, getD-set-same (q .highs) n (ρ .high) 0 c) in
-    rw (ranges-more g 0 n, ranges-same g q 0 n same, last)
+    rw (
+      zero-add n,
+      getD-set-same (q .slots) n (ρ .slot) 0 (omega arith),
+      getD-set-same (q .lows) n (ρ .low) 0 (omega arith),
+      getD-set-same (q .highs) n (ρ .high) 0 (omega arith),
+    ) in
+    rw (lt-ltb n 64 h, ranges-more g 0 n, ranges-same g q 0 n same, last)
 
 ------------------------------------------------------------------------
 -- A list of ranges as a pool

@@ -7,17 +7,23 @@ use lib.ListN.{getD, set}
 use Rattle.model.specs.Store.{Range}
 use Rattle.worker.specs.declared.Pool.{Pool}
 
+-- entry n of an array of 64 replaced, where there is one
+abbrev pub placed : List ℕ → ℕ → ℕ → List ℕ
+placed l n x = cond (ltb n 64) (set l n x) l
+
+-- how many ranges a pool of n has with one more
+abbrev pub oneMore : ℕ → ℕ
+oneMore n = cond (ltb n 64) (n + 1) n
+
 -- H5.12: the pool with one range more; unchanged where it is full
 abbrev pub appended : Pool → ℕ → ℕ → ℕ → Pool
 appended q slot low high =
-    let n : Pool =
     record {
-      slots = set (q .slots) (q .len) slot;
-      lows = set (q .lows) (q .len) low;
-      highs = set (q .highs) (q .len) high;
-      len = q .len + 1;
-    } in
-    cond (ltb (q .len) 64) n q
+      slots = placed (q .slots) (q .len) slot;
+      lows = placed (q .lows) (q .len) low;
+      highs = placed (q .highs) (q .len) high;
+      len = oneMore (q .len);
+    }
 
 -- the i-th range of a pool
 abbrev pub rangeIn : Pool → ℕ → Range

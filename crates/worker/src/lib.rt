@@ -1,10 +1,8 @@
 // A worker's record by value.
 ghost use mathlib.Core.Path.{_≡_};
-ghost use mathlib.Core.List.{[], _∷_, _++_};
-ghost use Prim.Native.Nat.{_<_};
 ghost use Rattle.model.specs.Store.{startWorker};
 ghost use Rattle.worker.specs.Rep.{timeOf, workerRep};
-ghost use Rattle.worker.specs.Pool.{appended, rangesIn};
+ghost use Rattle.worker.specs.Pool.{placed, oneMore};
 ghost use Rattle.worker.specs.About.{naming, aboutOf};
 use values::Reading;
 
@@ -177,22 +175,32 @@ pub fn about(d: Doing) -> Facts
     }
 }
 
-impl Pool {
-    // The pool with one range more, unchanged where it is full.
-    pub fn append(self, slot: u16, low: u32, high: u32) -> Pool
-        ensures { λ r. ⌜ r ≡ appended self slot low high ⌝ }
-        ensures { λ r. ⌜ (self .len < 64 → rangesIn r ≡ rangesIn self ++ (record { slot = slot; low = low; high = high } ∷ [])) ⌝ }
-    {
-        let at = self.len;
-        let mut next = self;
-        if at < 64 {
-            next.slots[at] = slot;
-            next.lows[at] = low;
-            next.highs[at] = high;
-            next.len = at + 1;
-            return next;
-        }
-        next
+// ---- one range more in a pool: its slot, its low and its high are put at the index n, how many there were
+
+// How many ranges there are then. A pool takes 64.
+pub fn one_more(n: usize) -> usize
+    ensures { λ r. ⌜ r ≡ oneMore n ⌝ }
+{
+    if 64 <= n {
+        return n;
+    }
+    n + 1
+}
+
+// A full pool stays as it is.
+pub fn put_slot(slots: &mut [u16; 64], n: usize, slot: u16)
+    ensures { λ _. ⌜ now (slots .exit) ≡ placed (now (slots .entry)) n slot ⌝ }
+{
+    if n < 64 {
+        slots[n] = slot;
+    }
+}
+
+pub fn put_time(times: &mut [u32; 64], n: usize, time: u32)
+    ensures { λ _. ⌜ now (times .exit) ≡ placed (now (times .entry)) n time ⌝ }
+{
+    if n < 64 {
+        times[n] = time;
     }
 }
 

@@ -110,78 +110,43 @@ loop-again c =
 enum-known-g-2 : tie.Need-enum-known-g-2 Inv-loop2 μ-loop2 Inv-loop μ-loop
 enum-known-g-2 c = search needs
 
-cast-fresh : tie.Need-cast-fresh Inv-loop2 μ-loop2 Inv-loop μ-loop
-cast-fresh c = omega arith
-
-cast-fresh-2 : tie.Need-cast-fresh-2 Inv-loop2 μ-loop2 Inv-loop μ-loop
-cast-fresh-2 c = omega arith
-
-cast-fresh-3 : tie.Need-cast-fresh-3 Inv-loop2 μ-loop2 Inv-loop μ-loop
-cast-fresh-3 c = omega arith
-
-fresh-requires : tie.Need-fresh-requires Inv-loop2 μ-loop2 Inv-loop μ-loop
-fresh-requires c κs = tt
-
-cast-fill-newest : tie.Need-cast-fill-newest Inv-loop2 μ-loop2 Inv-loop μ-loop
-cast-fill-newest c = omega arith
-
-fill-newest-requires : tie.Need-fill-newest-requires Inv-loop2 μ-loop2 Inv-loop μ-loop
-fill-newest-requires c κs = tt
-
-cast-fill-free : tie.Need-cast-fill-free Inv-loop2 μ-loop2 Inv-loop μ-loop
-cast-fill-free c = omega arith
-
-fill-free-requires : tie.Need-fill-free-requires Inv-loop2 μ-loop2 Inv-loop μ-loop
-fill-free-requires c κs =
-    let H = c .before .before .before .before in
-    omega (arith, ap (λ (z : Hub). z .free) (H .fresh .ensures))
-
-cast-set-up : tie.Need-cast-set-up Inv-loop2 μ-loop2 Inv-loop μ-loop
-cast-set-up c = omega arith
-
-cast-set-up-2 : tie.Need-cast-set-up-2 Inv-loop2 μ-loop2 Inv-loop μ-loop
-cast-set-up-2 c = omega arith
-
-set-up-requires : tie.Need-set-up-requires Inv-loop2 μ-loop2 Inv-loop μ-loop
-set-up-requires c κs = tt
+make-requires : tie.Need-make-requires Inv-loop2 μ-loop2 Inv-loop μ-loop
+make-requires c κs = tt
 
 put-answer-requires-2 : tie.Need-put-answer-requires-2 Inv-loop2 μ-loop2 Inv-loop μ-loop
 put-answer-requires-2 c κs = tt
 
 add-k-2 : tie.Need-add-k-2 Inv-loop2 μ-loop2 Inv-loop μ-loop
 add-k-2 c =
-    let J = c .before .before .before .before .before .before .before .before .before .before .before .before in
-    let I = J .before .before .before .before .before .before .before .before .before .before .before .before in
+    let J = c .before .before .before .before .before .before .before .before .before .before in
+    let I = J .before .before .before .before .before .before .before .before .before .before .before in
     let A = I .before .before .before .before .before .before .before .before .before .before .before .before .before .before in
     omega (arith, I .loop-test .taken, A .fits)
 
 loop-less-2 : tie.Need-loop-less-2 Inv-loop2 μ-loop2 Inv-loop μ-loop
 loop-less-2 c =
-    let J = c .before .before .before .before .before .before .before .before .before .before .before .before in
-    let I = J .before .before .before .before .before .before .before .before .before .before .before .before in
+    let J = c .before .before .before .before .before .before .before .before .before .before in
+    let I = J .before .before .before .before .before .before .before .before .before .before .before in
     omega (arith, I .loop-test .taken)
 
 loop-again-2 : tie.Need-loop-again-2 Inv-loop2 μ-loop2 Inv-loop μ-loop
 loop-again-2 c =
     let P = c .before .before .before .before in
-    let W = P .before .before .before .before in
-    let F = W .before .before in
-    let N = F .before .before in
-    let H = N .before .before .before in
-    let K = H .before .before in
+    let M = P .before .before .before .before .before in
+    let K = M .before .before .before .before .before in
     let G = K .before .before in
     on-make (deciding (G .before .before .before .before .before .before .loop .row) (G .before .before .before .before .before .before .loop .inv)
     (G .before .before .before .before .before .loop-test .taken)
     (G .before .decode .ensures ∙ ap Model.decode (G .before .before .before .before .record-at .ensures))
     (named-by (G .before .before .before .worker-byte .ensures .0) (G .before .before .before .before .record-at .ensures)) (G .gate-for .ensures))
-    _ _ _ _ _ _ _ _ _ _ _ (K .g2 .given .1) (H .fresh .ensures) (W .set-up .ensures) (N .fill-newest .ensures) (F .fill-free .ensures)
+    _ _ _ _ _ _ _ _ _ _ _ (K .g2 .given .1) (M .make .ensures .0) (M .make .ensures .1 .0) (M .make .ensures .1 .1 .0) (M .make .ensures .1 .1 .1)
     (P .put-answer2 .ensures)
 
 enum-known-g-3 : tie.Need-enum-known-g-3 Inv-loop2 μ-loop2 Inv-loop μ-loop
 enum-known-g-3 c = search needs
 
-mul-t102 : tie.Need-mul-t102 Inv-loop2 μ-loop2 Inv-loop μ-loop
-mul-t102 c = omega arith
+mul-t99 : tie.Need-mul-t99 Inv-loop2 μ-loop2 Inv-loop μ-loop
+mul-t99 c = omega arith
 
 element-set-from-hub : tie.Need-element-set-from-hub Inv-loop2 μ-loop2 Inv-loop μ-loop
 element-set-from-hub c = omega arith
@@ -222,8 +187,8 @@ step-requires c κs = tt
 enum-known-s : tie.Need-enum-known-s Inv-loop2 μ-loop2 Inv-loop μ-loop
 enum-known-s c = search needs
 
-mul-t120 : tie.Need-mul-t120 Inv-loop2 μ-loop2 Inv-loop μ-loop
-mul-t120 c = omega arith
+mul-t117 : tie.Need-mul-t117 Inv-loop2 μ-loop2 Inv-loop μ-loop
+mul-t117 c = omega arith
 
 element-set-from-hub-2 : tie.Need-element-set-from-hub-2 Inv-loop2 μ-loop2 Inv-loop μ-loop
 element-set-from-hub-2 c = omega arith
@@ -261,11 +226,26 @@ loop-again-4 c =
 enum-known-s-2 : tie.Need-enum-known-s-2 Inv-loop2 μ-loop2 Inv-loop μ-loop
 enum-known-s-2 c = search needs
 
+mul-y : tie.Need-mul-y Inv-loop2 μ-loop2 Inv-loop μ-loop
+mul-y c = omega arith
+
+element-copy-out-y : tie.Need-element-copy-out-y Inv-loop2 μ-loop2 Inv-loop μ-loop
+element-copy-out-y c = omega arith
+
 put-hand-in-requires : tie.Need-put-hand-in-requires Inv-loop2 μ-loop2 Inv-loop μ-loop
 put-hand-in-requires c κs = tt
 
-mul-t129 : tie.Need-mul-t129 Inv-loop2 μ-loop2 Inv-loop μ-loop
-mul-t129 c = omega arith
+put-slot-requires : tie.Need-put-slot-requires Inv-loop2 μ-loop2 Inv-loop μ-loop
+put-slot-requires c κs = tt
+
+put-time-requires : tie.Need-put-time-requires Inv-loop2 μ-loop2 Inv-loop μ-loop
+put-time-requires c κs = tt
+
+put-time-requires-2 : tie.Need-put-time-requires-2 Inv-loop2 μ-loop2 Inv-loop μ-loop
+put-time-requires-2 c κs = tt
+
+mul-t124 : tie.Need-mul-t124 Inv-loop2 μ-loop2 Inv-loop μ-loop
+mul-t124 c = omega arith
 
 element-set-from-hub-3 : tie.Need-element-set-from-hub-3 Inv-loop2 μ-loop2 Inv-loop μ-loop
 element-set-from-hub-3 c = omega arith
@@ -275,22 +255,25 @@ put-answer-requires-5 c κs = tt
 
 add-k-5 : tie.Need-add-k-5 Inv-loop2 μ-loop2 Inv-loop μ-loop
 add-k-5 c =
-    let J = c .before .before .before .before .before .before .before .before .before .before .before .before .before .before in
-    let I = J .before .before .before .before .before .before .before .before .before .before .before .before .before in
+    let J = c .before .before .before .before .before .before .before .before .before .before .before .before .before .before .before .before in
+    let I = J .before .before .before .before .before .before .before .before .before .before .before .before .before .before .before .before .before in
     let A = I .before .before .before .before .before .before .before .before .before .before .before .before .before .before in
     omega (arith, I .loop-test .taken, A .fits)
 
 loop-less-5 : tie.Need-loop-less-5 Inv-loop2 μ-loop2 Inv-loop μ-loop
 loop-less-5 c =
-    let J = c .before .before .before .before .before .before .before .before .before .before .before .before .before .before in
-    let I = J .before .before .before .before .before .before .before .before .before .before .before .before .before in
+    let J = c .before .before .before .before .before .before .before .before .before .before .before .before .before .before .before .before in
+    let I = J .before .before .before .before .before .before .before .before .before .before .before .before .before .before .before .before .before in
     omega (arith, I .loop-test .taken)
 
 loop-again-5 : tie.Need-loop-again-5 Inv-loop2 μ-loop2 Inv-loop μ-loop
 loop-again-5 c =
     let P = c .before .before .before .before in
-    let H = P .before .before .before .before .before in
-    let K = H .before .before .before .before in
+    let U = P .before .before .before .before in
+    let L = U .before .before in
+    let O = L .before .before in
+    let H = O .before .before in
+    let K = H .before .before .before .before .before in
     let T = K .before .before .before in
     let E = T .before .before .before .before in
     let G = E .before .before in
@@ -299,7 +282,8 @@ loop-again-5 c =
     (G .before .decode .ensures ∙ ap Model.decode (G .before .before .before .before .record-at .ensures))
     (named-by (G .before .before .before .worker-byte .ensures .0) (G .before .before .before .before .record-at .ensures)) (G .gate-for .ensures))
     _ (E .enum-told .given .1) _ _ _ (T .step .ensures)
-    _ _ _ _ _ (K .s2 .given .1) (H .put-hand-in .ensures) (P .put-answer5 .ensures)
+    _ _ _ _ _ _ _ _ (K .s2 .given .1) (H .put-hand-in .ensures) (O .put-slot .ensures) (L .put-time .ensures) (U .put-time2 .ensures)
+    (P .put-answer5 .ensures)
 
 enum-told-2 : tie.Need-enum-told-2 Inv-loop2 μ-loop2 Inv-loop μ-loop
 enum-told-2 c = search needs
@@ -315,11 +299,11 @@ flush-take-requires c κs =
     (named-by (G .before .before .before .worker-byte .ensures .0) (G .before .before .before .before .record-at .ensures)) (G .gate-for .ensures))
     _ (E .enum-told .given .1) _ _ _ (T .step .ensures)
 
-cast-t143 : tie.Need-cast-t143 Inv-loop2 μ-loop2 Inv-loop μ-loop
-cast-t143 c = omega arith
+cast-t147 : tie.Need-cast-t147 Inv-loop2 μ-loop2 Inv-loop μ-loop
+cast-t147 c = omega arith
 
-mul-t149 : tie.Need-mul-t149 Inv-loop2 μ-loop2 Inv-loop μ-loop
-mul-t149 c = omega arith
+mul-t153 : tie.Need-mul-t153 Inv-loop2 μ-loop2 Inv-loop μ-loop
+mul-t153 c = omega arith
 
 element-set-from-hub-4 : tie.Need-element-set-from-hub-4 Inv-loop2 μ-loop2 Inv-loop μ-loop
 element-set-from-hub-4 c = omega arith
@@ -367,12 +351,18 @@ mul-z c = omega arith
 element-copy-out-z : tie.Need-element-copy-out-z Inv-loop2 μ-loop2 Inv-loop μ-loop
 element-copy-out-z c = omega arith
 
+mul-y-2 : tie.Need-mul-y-2 Inv-loop2 μ-loop2 Inv-loop μ-loop
+mul-y-2 c = omega arith
+
+element-copy-out-y-2 : tie.Need-element-copy-out-y-2 Inv-loop2 μ-loop2 Inv-loop μ-loop
+element-copy-out-y-2 c = omega arith
+
 flush-read-requires : tie.Need-flush-read-requires Inv-loop2 μ-loop2 Inv-loop μ-loop
 flush-read-requires c κs = tt
 
-add-t157 : tie.Need-add-t157 Inv-loop2 μ-loop2 Inv-loop μ-loop
-add-t157 c =
-    let K = c .before .before .before .before in
+add-t161 : tie.Need-add-t161 Inv-loop2 μ-loop2 Inv-loop μ-loop
+add-t161 c =
+    let K = c .before .before .before .before .before .before in
     let T = K .before .before .before in
     let E = T .before .before .before .before in
     let G = E .before .before in
@@ -384,8 +374,8 @@ add-t157 c =
     let p = workers D _ (E .enum-told .given .1) _ _ _ (T .step .ensures) in
     omega (arith, l, p)
 
-mul-t158 : tie.Need-mul-t158 Inv-loop2 μ-loop2 Inv-loop μ-loop
-mul-t158 c = omega arith
+mul-t162 : tie.Need-mul-t162 Inv-loop2 μ-loop2 Inv-loop μ-loop
+mul-t162 c = omega arith
 
 element-set-from-hub-5 : tie.Need-element-set-from-hub-5 Inv-loop2 μ-loop2 Inv-loop μ-loop
 element-set-from-hub-5 c = omega arith
@@ -395,22 +385,22 @@ put-answer-requires-7 c κs = tt
 
 add-k-7 : tie.Need-add-k-7 Inv-loop2 μ-loop2 Inv-loop μ-loop
 add-k-7 c =
-    let J = c .before .before .before .before .before .before .before .before .before .before .before .before .before in
-    let I = J .before .before .before .before .before .before .before .before .before .before .before .before .before in
+    let J = c .before .before .before .before .before .before .before .before .before .before .before .before .before .before in
+    let I = J .before .before .before .before .before .before .before .before .before .before .before .before .before .before in
     let A = I .before .before .before .before .before .before .before .before .before .before .before .before .before .before in
     omega (arith, I .loop-test .taken, A .fits)
 
 loop-less-7 : tie.Need-loop-less-7 Inv-loop2 μ-loop2 Inv-loop μ-loop
 loop-less-7 c =
-    let J = c .before .before .before .before .before .before .before .before .before .before .before .before .before in
-    let I = J .before .before .before .before .before .before .before .before .before .before .before .before .before in
+    let J = c .before .before .before .before .before .before .before .before .before .before .before .before .before .before in
+    let I = J .before .before .before .before .before .before .before .before .before .before .before .before .before .before in
     omega (arith, I .loop-test .taken)
 
 loop-again-7 : tie.Need-loop-again-7 Inv-loop2 μ-loop2 Inv-loop μ-loop
 loop-again-7 c =
     let P = c .before .before .before .before in
     let H = P .before .before .before .before in
-    let K = H .before .before .before .before in
+    let K = H .before .before .before .before .before .before in
     let T = K .before .before .before in
     let E = T .before .before .before .before in
     let G = E .before .before in
@@ -427,8 +417,8 @@ enum-known-s-4 c = search needs
 flush-split-requires : tie.Need-flush-split-requires Inv-loop2 μ-loop2 Inv-loop μ-loop
 flush-split-requires c κs = tt
 
-mul-t176 : tie.Need-mul-t176 Inv-loop2 μ-loop2 Inv-loop μ-loop
-mul-t176 c = omega arith
+mul-t185 : tie.Need-mul-t185 Inv-loop2 μ-loop2 Inv-loop μ-loop
+mul-t185 c = omega arith
 
 element-set-from-hub-6 : tie.Need-element-set-from-hub-6 Inv-loop2 μ-loop2 Inv-loop μ-loop
 element-set-from-hub-6 c = omega arith
@@ -480,8 +470,8 @@ flush-free-requires c κs =
     (named-by (G .before .before .before .worker-byte .ensures .0) (G .before .before .before .before .record-at .ensures)) (G .gate-for .ensures)) in
     (below D _ (E .enum-told .given .1) _ _ _ (T .step .ensures), told D _ (E .enum-told .given .1) _ _ _ (T .step .ensures) _ (K .s5 .given .1))
 
-sub-t200 : tie.Need-sub-t200 Inv-loop2 μ-loop2 Inv-loop μ-loop
-sub-t200 c =
+sub-t209 : tie.Need-sub-t209 Inv-loop2 μ-loop2 Inv-loop μ-loop
+sub-t209 c =
     let K = c .before .before .before .before .before .before in
     let T = K .before .before .before in
     let E = T .before .before .before .before in
@@ -494,8 +484,8 @@ sub-t200 c =
     _ (E .enum-told .given .1) _ _ _ (T .step .ensures) _ (K .s5 .given .1) in
     omega (arith, l)
 
-mul-t199 : tie.Need-mul-t199 Inv-loop2 μ-loop2 Inv-loop μ-loop
-mul-t199 c = omega arith
+mul-t208 : tie.Need-mul-t208 Inv-loop2 μ-loop2 Inv-loop μ-loop
+mul-t208 c = omega arith
 
 element-set-from-hub-7 : tie.Need-element-set-from-hub-7 Inv-loop2 μ-loop2 Inv-loop μ-loop
 element-set-from-hub-7 c = omega arith
@@ -519,8 +509,8 @@ stands-on-requires c κs = tt
 off-requires : tie.Need-off-requires Inv-loop2 μ-loop2 Inv-loop μ-loop
 off-requires c κs = tt
 
-mul-t218 : tie.Need-mul-t218 Inv-loop2 μ-loop2 Inv-loop μ-loop
-mul-t218 c = omega arith
+mul-t227 : tie.Need-mul-t227 Inv-loop2 μ-loop2 Inv-loop μ-loop
+mul-t227 c = omega arith
 
 element-set-from-hub-8 : tie.Need-element-set-from-hub-8 Inv-loop2 μ-loop2 Inv-loop μ-loop
 element-set-from-hub-8 c = omega arith
@@ -640,23 +630,13 @@ run-spec =
     loop-less
     loop-again
     enum-known-g-2
-    cast-fresh
-    cast-fresh-2
-    cast-fresh-3
-    fresh-requires
-    cast-fill-newest
-    fill-newest-requires
-    cast-fill-free
-    fill-free-requires
-    cast-set-up
-    cast-set-up-2
-    set-up-requires
+    make-requires
     put-answer-requires-2
     add-k-2
     loop-less-2
     loop-again-2
     enum-known-g-3
-    mul-t102
+    mul-t99
     element-set-from-hub
     put-answer-requires-3
     add-k-3
@@ -665,15 +645,20 @@ run-spec =
     enum-told
     step-requires
     enum-known-s
-    mul-t120
+    mul-t117
     element-set-from-hub-2
     put-answer-requires-4
     add-k-4
     loop-less-4
     loop-again-4
     enum-known-s-2
+    mul-y
+    element-copy-out-y
     put-hand-in-requires
-    mul-t129
+    put-slot-requires
+    put-time-requires
+    put-time-requires-2
+    mul-t124
     element-set-from-hub-3
     put-answer-requires-5
     add-k-5
@@ -681,8 +666,8 @@ run-spec =
     loop-again-5
     enum-told-2
     flush-take-requires
-    cast-t143
-    mul-t149
+    cast-t147
+    mul-t153
     element-set-from-hub-4
     put-answer-requires-6
     add-k-6
@@ -692,9 +677,11 @@ run-spec =
     cast-j
     mul-z
     element-copy-out-z
+    mul-y-2
+    element-copy-out-y-2
     flush-read-requires
-    add-t157
-    mul-t158
+    add-t161
+    mul-t162
     element-set-from-hub-5
     put-answer-requires-7
     add-k-7
@@ -702,7 +689,7 @@ run-spec =
     loop-again-7
     enum-known-s-4
     flush-split-requires
-    mul-t176
+    mul-t185
     element-set-from-hub-6
     put-answer-requires-8
     add-k-8
@@ -710,15 +697,15 @@ run-spec =
     loop-again-8
     enum-known-s-5
     flush-free-requires
-    sub-t200
-    mul-t199
+    sub-t209
+    mul-t208
     element-set-from-hub-7
     loop2-holds
     mul-z-2
     element-copy-out-z-2
     stands-on-requires
     off-requires
-    mul-t218
+    mul-t227
     element-set-from-hub-8
     add-j
     loop2-less

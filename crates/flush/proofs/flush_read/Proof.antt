@@ -9,14 +9,14 @@ cast-i c = search needs
 time-of-requires : tie.Need-time-of-requires
 time-of-requires c κs = search needs
 
-mul-all : tie.Need-mul-all
-mul-all c = search needs
+mul-times : tie.Need-mul-times
+mul-times c = search needs
 
-array-write-all : tie.Need-array-write-all
-array-write-all c = search needs
+element-write-times : tie.Need-element-write-times
+element-write-times c = search needs
 
 returns : tie.Need-returns
 returns c = rw (c .time-of .ensures)
 
 pub flush-read-spec : {M : Type 1} → statement M
-flush-read-spec = tie.close (tie.spec cast-i time-of-requires mul-all array-write-all returns)
+flush-read-spec = tie.close (tie.spec cast-i time-of-requires mul-times element-write-times returns)

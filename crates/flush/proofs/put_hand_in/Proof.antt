@@ -1,5 +1,5 @@
--- `put_hand_in` meets its contract: the version is what `load` ensures, the pool what `append` ensures, and the test of its length against
--- the batch size decides.
+-- `put_hand_in` meets its contract: the version is what `load` ensures, the count what `one_more` ensures, and its test against the batch size
+-- decides.
 use mathlib.Core.Path.{_≡_, sym, _∙_}
 use mathlib.Core.Bool.{Bool, true, false}
 use mathlib.Core.List.{List}
@@ -10,16 +10,16 @@ use borrow.Author.Tests.{eq-eqb, ne-eqb}
 use Rattle.model.specs.Batch.{batchOf}
 use Rattle.slots.specs.declared.Slot.{Slot}
 use Rattle.versions.specs.Versions.{slotAtIn}
-use Rattle.worker.specs.declared.Pool.{Pool}
-use Rattle.flush.specs.Flush.{handedPool, handed, putHandInStep}
+use Rattle.worker.specs.Pool.{oneMore}
+use Rattle.flush.specs.Flush.{handedOf, handedOn}
 use Rattle.flush.proofs.put_hand_in.Statement.{statement}
 use Rattle.flush.proofs.put_hand_in.Tie as tie
 
--- the covered version, the pool and the test by their names
-handed-in : (l : List Slot) (q : Pool) (c p : ℕ) (v : Slot) (pool : Pool) (full : Bool) → v ≡ slotAtIn l c → pool ≡ handedPool q c v
-    → eqb (pool .len) (batchOf (p % 256)) ≡ full → handed pool full ≡ putHandInStep l q c p
-unfolding putHandInStep
-handed-in l q c p v pool full ev eq ef = rw (← ef, eq, ev)
+-- the covered version, the count and the test by their names
+handed-in : (l : List Slot) (n c p : ℕ) (v : Slot) (len : ℕ) (full : Bool) → v ≡ slotAtIn l c → len ≡ oneMore n → eqb len (batchOf (p % 256)) ≡ full
+    → handedOf len v full ≡ handedOn l n c p
+unfolding handedOn
+handed-in l n c p v len full ev en ef = rw (← ef, en, ev)
 
 load-requires : tie.Need-load-requires
 load-requires c κs = search needs
@@ -30,8 +30,8 @@ cast-low c = search needs
 cast-high : tie.Need-cast-high
 cast-high c = search needs
 
-append-requires : tie.Need-append-requires
-append-requires c κs = search needs
+one-more-requires : tie.Need-one-more-requires
+one-more-requires c κs = search needs
 
 cast-batch : tie.Need-cast-batch
 cast-batch c = search needs
@@ -44,15 +44,15 @@ cast-if1 c = search needs
 
 returns : tie.Need-returns
 returns c =
-    let b = c .before .before in
+    let b = c .before in
     let l = b .before .before .before .before in
-    handed-in _ _ _ _ _ _ true (l .load .ensures) (b .before .append .ensures .0) (eq-eqb _ _ (c .if1 .taken ∙ b .batch .ensures))
+    handed-in _ _ _ _ _ _ true (l .load .ensures) (b .before .one-more .ensures) (eq-eqb _ _ (c .if1 .taken ∙ b .batch .ensures))
 
 returns-2 : tie.Need-returns-2
 returns-2 c =
-    let b = c .before .before in
+    let b = c .before in
     let l = b .before .before .before .before in
-    handed-in _ _ _ _ _ _ false (l .load .ensures) (b .before .append .ensures .0)
+    handed-in _ _ _ _ _ _ false (l .load .ensures) (b .before .one-more .ensures)
     (ne-eqb _ _ (λ e. c .if1 .left (e ∙ sym (b .batch .ensures))))
 
 pub put-hand-in-spec : {M : Type 1} → statement M
@@ -62,7 +62,7 @@ put-hand-in-spec =
     load-requires
     cast-low
     cast-high
-    append-requires
+    one-more-requires
     cast-batch
     batch-requires
     cast-if1

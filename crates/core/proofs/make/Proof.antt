@@ -1,0 +1,40 @@
+-- `make` meets its contract: each part is what the function that writes it ensures.
+use mathlib.Core.Path.{ap}
+use native.Mathlib.Omega.{arith}
+use borrow.Author.Needs.{needs}
+use Rattle.state.specs.declared.Hub.{Hub}
+use Rattle.core.proofs.make.Statement.{statement}
+use Rattle.core.proofs.make.Tie as tie
+
+fresh-requires : tie.Need-fresh-requires
+fresh-requires c κs = search needs
+
+fill-newest-requires : tie.Need-fill-newest-requires
+fill-newest-requires c κs = search needs
+
+fill-free-requires : tie.Need-fill-free-requires
+fill-free-requires c κs = omega (arith, ap (λ (z : Hub). z .free) (c .before .before .before .fresh .ensures))
+
+set-up-requires : tie.Need-set-up-requires
+set-up-requires c κs = search needs
+
+same-length : tie.Need-same-length
+same-length c = search needs
+
+returns : tie.Need-returns
+returns c =
+    let w = c .before in
+    let f = w .before .before in
+    let n = f .before .before in
+    (n .before .before .fresh .ensures, (w .set-up .ensures, (n .fill-newest .ensures, f .fill-free .ensures)))
+
+pub make-spec : {M : Type 1} → statement M
+make-spec =
+    tie.close
+    (tie.spec
+    fresh-requires
+    fill-newest-requires
+    fill-free-requires
+    set-up-requires
+    same-length
+    returns)
