@@ -2,7 +2,7 @@
 use mathlib.Core.Path.{_≡_, refl, subst, ap, _∙_}
 use mathlib.Core.Bool.{Bool, true, false, _&&_, _||_}
 use mathlib.Core.List.{List, [], _∷_, _++_}
-use Prim.Native.Nat.{ℕ, _+_, _-_, _/_, _%_, _≤_, _<_}
+use Prim.Native.Nat.{ℕ, _+_, _/_, _%_, _≤_, _<_}
 use native.Mathlib.Omega.{arith}
 use borrow.Author.Tests.{ltb-true, ltb-false, leb-true}
 use lib.Dec.{ltb, leb}
@@ -44,20 +44,24 @@ suits most long first e =
       number = ltb-false 4294967295 first (h .1);
     }
 
-module _ (out₀ : List ℕ) (first : ℕ) (kinds numbers : List ℕ) (most : ℕ) where
+module _ (out₀ : List ℕ) (first : ℕ) (kinds numbers : List ℕ) (most stop limit : ℕ) where
   -- before turn k: k lines are written, and the next number is kept
   pub record Beginning (out places : List ℕ) (start : ℕ) (head : List ℕ) (n last at k : ℕ) : Type 0 where
     pub suits : Suits most (length out₀) first
+    pub stops : stop + 2 ≤ most
+    pub limits : limit + 144 ≤ length out₀
     pub partly : Partly out₀ first kinds numbers most out at k
     pub counting : Counting (first + k) places start head n last
 
   pub beginning-start : {places : List ℕ} {start : ℕ} {head : List ℕ} {n : ℕ} → Suits most (length out₀) first
-      → Spelled (first / 10) places start → take n head ≡ tensOf (first / 10)
+      → stop + 2 ≤ most → limit + 144 ≤ length out₀ → Spelled (first / 10) places start → take n head ≡ tensOf (first / 10)
       → Beginning out₀ places start head n (48 + first % 10) 0 0
-  beginning-start {places} {start} {head} {n} s t u =
+  beginning-start {places} {start} {head} {n} s g h t u =
       let e : first ≡ first + 0 = omega arith in
       record {
         suits = s;
+        stops = g;
+        limits = h;
         partly = partly-start out₀ first kinds numbers most;
         counting = subst (λ (x : ℕ). Counting x places start head n (48 + first % 10)) e (record { tens = t; shown = u; digit = refl });
       }
@@ -70,16 +74,15 @@ module _ (out₀ : List ℕ) (first : ℕ) (kinds numbers : List ℕ) (most : �
       pub short : n ≤ 8
 
     abbrev Test : Type 0
-    Test = ((ltb k (most - 2) && leb at (length out₀ - 144)) && leb n 8) ≡ true
+    Test = ((ltb k stop && leb at limit) && leb n 8) ≡ true
 
     pub goes : Test → Goes
     goes e =
-        let s = b .suits in
-        let f = both (ltb k (most - 2) && leb at (length out₀ - 144)) (leb n 8) e in
-        let g = both (ltb k (most - 2)) (leb at (length out₀ - 144)) (f .0) in
+        let f = both (ltb k stop && leb at limit) (leb n 8) e in
+        let g = both (ltb k stop) (leb at limit) (f .0) in
         record {
-          few = omega (arith, ltb-true k (most - 2) (g .0), s .some);
-          room = omega (arith, leb-true at (length out₀ - 144) (g .1), s .room, b .partly .kept);
+          few = omega (arith, ltb-true k stop (g .0), b .stops);
+          room = omega (arith, leb-true at limit (g .1), b .limits, b .partly .kept);
           short = leb-true n 8 (f .1);
         }
 
@@ -104,6 +107,8 @@ module _ (out₀ : List ℕ) (first : ℕ) (kinds numbers : List ℕ) (most : �
       beginning-up h =
           record {
             suits = b .suits;
+            stops = b .stops;
+            limits = b .limits;
             partly = written;
             counting = subst (λ (x : ℕ). Counting x places start head n (last + 1)) next (counting-up (b .counting) h);
           }
@@ -115,6 +120,8 @@ module _ (out₀ : List ℕ) (first : ℕ) (kinds numbers : List ℕ) (most : �
           let x : first + k < 10000000000000000000 = omega (arith, b .suits .number, b .suits .count, b .partly .within) in
           record {
             suits = b .suits;
+            stops = b .stops;
+            limits = b .limits;
             partly = written;
             counting = subst (λ (x : ℕ). Counting x places′ start′ head′ n′ 48) next (counting-carry (b .counting) h x u v);
           }

@@ -14,7 +14,7 @@ use Rattle.lines.proofs.begin_lines.Tie as tie
 
 abbrev Inv-loop : tie.InvT-loop
 Inv-loop out₀ first kinds numbers most table places₀ start₀ head₀ n₀ last₀ stop limit at₀ k₀ out places start head n last at k =
-    Beginning out₀ first kinds numbers most out places start head n last at k
+    Beginning out₀ first kinds numbers most stop limit out places start head n last at k
 
 abbrev μ-loop : tie.MeasureT-loop
 μ-loop out₀ first kinds numbers most table places₀ start₀ head₀ n₀ last₀ stop limit at₀ k₀ out places start head n last at k =
@@ -51,14 +51,15 @@ loop-holds : tie.Need-loop-holds Inv-loop μ-loop
 loop-holds c =
     let E = c .before .before .before .before .before in
     let A = E .before .before .before .before .args in
-    beginning-start _ _ _ _ _ (suits (A .most) (length (A .out .now)) (A .first) (E .if1 .left)) (c .before .before .before .spell .ensures)
+    let t = suits (A .most) (length (A .out .now)) (A .first) (E .if1 .left) in
+    beginning-start _ _ _ _ _ _ _ t (omega (arith, t .some)) (omega (arith, t .room)) (c .before .before .before .spell .ensures)
     (c .put-tens .ensures)
 
 shared-slice-read-spill-line : tie.Need-shared-slice-read-spill-line Inv-loop μ-loop
 shared-slice-read-spill-line c =
     let I = c .before .before .before .before in
     let L = I .before .loop in
-    let g = goes _ _ _ _ _ (L .inv) (I .loop-test .taken) in
+    let g = goes _ _ _ _ _ _ _ (L .inv) (I .loop-test .taken) in
     search (needs, g .few)
 
 mul-spill-line : tie.Need-mul-spill-line Inv-loop μ-loop
@@ -68,7 +69,7 @@ shared-slice-read-spill-line-2 : tie.Need-shared-slice-read-spill-line-2 Inv-loo
 shared-slice-read-spill-line-2 c =
     let I = c .before .before .before .before .before in
     let L = I .before .loop in
-    let g = goes _ _ _ _ _ (L .inv) (I .loop-test .taken) in
+    let g = goes _ _ _ _ _ _ _ (L .inv) (I .loop-test .taken) in
     search (needs, g .few)
 
 spill-line-requires : tie.Need-spill-line-requires Inv-loop μ-loop
@@ -76,7 +77,7 @@ unfolding rows text
 spill-line-requires c κs =
     let I = c .before .before .before .before .before in
     let L = I .before .loop in
-    let g = goes _ _ _ _ _ (L .inv) (I .loop-test .taken) in
+    let g = goes _ _ _ _ _ _ _ (L .inv) (I .loop-test .taken) in
     (refl, g .short, omega (arith, g .room))
 
 add-last-2 : tie.Need-add-last-2 Inv-loop μ-loop
@@ -89,13 +90,13 @@ loop-less : tie.Need-loop-less Inv-loop μ-loop
 loop-less c =
     let I = c .before .before .before .before .before .before .before .before .before in
     let L = I .before .loop in
-    let g = goes _ _ _ _ _ (L .inv) (I .loop-test .taken) in
+    let g = goes _ _ _ _ _ _ _ (L .inv) (I .loop-test .taken) in
     omega (arith, g .few)
 
 loop-again : tie.Need-loop-again Inv-loop μ-loop
 loop-again c =
     let I = c .before .before .before .before .before .before .before .before .before in
-    beginning-up _ _ _ _ _ (I .before .loop .inv) (I .loop-test .taken) (search needs)
+    beginning-up _ _ _ _ _ _ _ (I .before .loop .inv) (I .loop-test .taken) (search needs)
     (c .before .before .before .spill-line .ensures) (c .if2 .taken)
 
 count-up-requires : tie.Need-count-up-requires Inv-loop μ-loop
@@ -110,20 +111,20 @@ add-k-2 : tie.Need-add-k-2 Inv-loop μ-loop
 add-k-2 c =
     let I = c .before .before .before .before .before .before .before .before .before .before .before .before .before .before in
     let L = I .before .loop in
-    let g = goes _ _ _ _ _ (L .inv) (I .loop-test .taken) in
+    let g = goes _ _ _ _ _ _ _ (L .inv) (I .loop-test .taken) in
     search (needs, g .few)
 
 loop-less-2 : tie.Need-loop-less-2 Inv-loop μ-loop
 loop-less-2 c =
     let I = c .before .before .before .before .before .before .before .before .before .before .before .before .before .before in
     let L = I .before .loop in
-    let g = goes _ _ _ _ _ (L .inv) (I .loop-test .taken) in
+    let g = goes _ _ _ _ _ _ _ (L .inv) (I .loop-test .taken) in
     omega (arith, g .few)
 
 loop-again-2 : tie.Need-loop-again-2 Inv-loop μ-loop
 loop-again-2 c =
     let I = c .before .before .before .before .before .before .before .before .before .before .before .before .before .before in
-    beginning-carry _ _ _ _ _ (I .before .loop .inv) (I .loop-test .taken) (search needs)
+    beginning-carry _ _ _ _ _ _ _ (I .before .loop .inv) (I .loop-test .taken) (search needs)
     (c .before .before .before .before .before .before .before .before .spill-line .ensures)
     (c .before .before .before .before .before .if2 .left) (c .before .before .before .count-up .ensures) (c .put-front .ensures)
 
