@@ -29,7 +29,7 @@ use Rattle.worker.proofs.Rep.{padded-nil}
 use Rattle.record.specs.declared.Decoded.{Decoded}
 use Rattle.record.specs.Meaning.{decodedOf}
 use Rattle.state.specs.declared.Hub.{Hub}
-use Rattle.state.specs.State.{freshHub, nobody, workerIn, atPlace, withWorkersIn, withClockIn, withFreeIn, withWindowIn}
+use Rattle.state.specs.State.{freshHub, nobody, workerIn, atPlace, withWorkersIn, withClockIn, withFreeIn, withWindowIn, withTimesIn}
 use Rattle.arrays.specs.Arrays.{short, fillTo}
 use Rattle.versions.specs.Versions.{slotIn, rowOf}
 use Rattle.gate.specs.declared.Gate.{Gate}
@@ -294,7 +294,7 @@ module _ {S : State} {bytes : List ℕ} {count k : ℕ} {T : State} {r : Decoded
               withHub m′
               (withFreeIn
               (withClockIn
-              (withWorkersIn h (set (h .workers) w (record { doing = o .doing; announced = o .announced; pool = x .pool; times = x .times })))
+              (withWorkersIn h (set (h .workers) w (record { doing = o .doing; announced = o .announced; pool = x .pool })))
               (o .clock))
               (o .free));
           kinds = kinds;
@@ -320,7 +320,6 @@ module _ {S : State} {bytes : List ℕ} {count k : ℕ} {T : State} {r : Decoded
                 doing = a .doing;
                 announced = x .announced;
                 pool = record { slots = slots; lows = lows; highs = highs; len = a .len };
-                times = x .times;
               })));
           kinds = kinds;
           numbers = numbers;
@@ -337,7 +336,6 @@ module _ {S : State} {bytes : List ℕ} {count k : ℕ} {T : State} {r : Decoded
                 doing = y .doing;
                 announced = x .announced;
                 pool = record { slots = b; lows = d; highs = e; len = y .len };
-                times = x .times;
               })));
           answer = y .answer;
         } in
@@ -364,7 +362,6 @@ module _ {S : State} {bytes : List ℕ} {count k : ℕ} {T : State} {r : Decoded
                     (short (a .count)) 0;
                 announced = x .announced;
                 pool = x .pool;
-                times = replicate 16 0;
               })))
               (a .window))
               row newest (m .free) queue lens merged;
@@ -379,7 +376,7 @@ module _ {S : State} {bytes : List ℕ} {count k : ℕ} {T : State} {r : Decoded
               memory
               (withWindowIn
               (withWorkersIn h
-              (set (h .workers) w (record { doing = FlushRead (short n) 0; announced = x .announced; pool = x .pool; times = replicate 16 0 })))
+              (set (h .workers) w (record { doing = FlushRead (short n) 0; announced = x .announced; pool = x .pool })))
               (q .window))
               row newest (m .free) (q .queue) (q .lens) d;
           answer = Going;
@@ -389,19 +386,15 @@ module _ {S : State} {bytes : List ℕ} {count k : ℕ} {T : State} {r : Decoded
 
     -- flush (2)
     pub on-read : (n j : ℕ) (times : List ℕ) (kinds numbers : List ℕ) (last : Answer) → s ≡ Read n j
-        → times ≡ flushReadStep (x .times) j (workerIn h (j % 16) .announced) → Wrote Going kinds numbers last
+        → times ≡ flushReadStep (h .times) w j (workerIn h (j % 16) .announced) → Wrote Going kinds numbers last
         → SoFar S bytes count (k + 1)
         (record {
           up = T .up;
           memory =
               withHub m′
-              (withWorkersIn h (set (h .workers) w (record {
-                doing = FlushRead n
-                    (j + 1);
-                announced = x .announced;
-                pool = x .pool;
-                times = times;
-              })));
+              (withTimesIn
+              (withWorkersIn h (set (h .workers) w (record { doing = FlushRead n (j + 1); announced = x .announced; pool = x .pool })))
+              times);
           kinds = kinds;
           numbers = numbers;
           last = last;
@@ -411,16 +404,18 @@ module _ {S : State} {bytes : List ℕ} {count k : ℕ} {T : State} {r : Decoded
         let left : List ℕ → Result = λ y. record {
           memory =
               withHub m′
-              (withWorkersIn h (set (h .workers) w (record { doing = FlushRead n (j + 1); announced = x .announced; pool = x .pool; times = y })));
+              (withTimesIn
+              (withWorkersIn h (set (h .workers) w (record { doing = FlushRead n (j + 1); announced = x .announced; pool = x .pool })))
+              y);
           answer = Going;
         } in
         on-go (Read n j) (left times) kinds numbers last f (ap left (sym et)) refl refl (replaced _) z
 
     -- flush (3)
     pub on-split : (n : ℕ) (a : Parted) (queue lens merged : List ℕ) (kinds numbers : List ℕ) (last : Answer) → s ≡ Split n
-        → a .left ≡ splitLeft (m .merged) w n (x .times) (h .p) (x .pool)
-        → poolsIn queue lens (a .window) ≡ splitQueue (queueIn m) (m .merged) w n (x .times) (h .p) (x .pool)
-        → merged ≡ splitMerged (m .merged) w n (x .times) (h .p) (x .pool) → Wrote Going kinds numbers last
+        → a .left ≡ splitLeft (m .merged) w n (h .times) (h .p) (x .pool)
+        → poolsIn queue lens (a .window) ≡ splitQueue (queueIn m) (m .merged) w n (h .times) (h .p) (x .pool)
+        → merged ≡ splitMerged (m .merged) w n (h .times) (h .p) (x .pool) → Wrote Going kinds numbers last
         → SoFar S bytes count (k + 1)
         (record {
           up = T .up;
@@ -433,7 +428,6 @@ module _ {S : State} {bytes : List ℕ} {count k : ℕ} {T : State} {r : Decoded
                 doing = FlushFree (a .left);
                 announced = x .announced;
                 pool = emptyPool;
-                times = replicate 16 0;
               })))
               (a .window))
               row newest (m .free) queue lens merged;
@@ -447,7 +441,7 @@ module _ {S : State} {bytes : List ℕ} {count k : ℕ} {T : State} {r : Decoded
           memory =
               memory
               (withWindowIn
-              (withWorkersIn h (set (h .workers) w (record { doing = FlushFree c; announced = x .announced; pool = e; times = replicate 16 0 })))
+              (withWorkersIn h (set (h .workers) w (record { doing = FlushFree c; announced = x .announced; pool = e })))
               (q .window))
               row newest (m .free) (q .queue) (q .lens) d;
           answer = Going;

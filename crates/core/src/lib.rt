@@ -223,7 +223,6 @@ pub fn run(
                                 merged: (f.count % 65536) as u16,
                                 read: 0,
                             },
-                            times: [0u64; 16],
                             ..x
                         };
                         window = f.window;
@@ -236,14 +235,12 @@ pub fn run(
                         let z = hub.workers[j];
                         let a = z.announced;
                         let y = hub.workers[w];
-                        let mut times = y.times;
-                        flush::flush_read(&mut times, read, a);
+                        hub.times[16 * w + j] = worker::time_of(a);
                         hub.workers[w] = Worker {
                             doing: Doing::FlushRead {
                                 merged: m,
                                 read: read + 1,
                             },
-                            times,
                             ..y
                         };
                         last = put_answer(kinds, numbers, k, Answer::Going);
@@ -252,7 +249,6 @@ pub fn run(
                     // Flush (3).
                     Next::Split { merged: m } => {
                         let q = x.pool;
-                        let times = x.times;
                         let f = splitting::flush_split(
                             queue,
                             lens,
@@ -260,7 +256,7 @@ pub fn run(
                             merged,
                             w,
                             m,
-                            &times,
+                            &hub.times,
                             hub.p,
                             q,
                             &mut needed,
@@ -270,7 +266,6 @@ pub fn run(
                         hub.workers[w] = Worker {
                             doing: Doing::FlushFree { left: f.left },
                             pool: worker::EMPTY,
-                            times: [0u64; 16],
                             ..x
                         };
                         window = f.window;

@@ -63,6 +63,10 @@ withPart merged w part = take (768 * w) merged ++ (part ++ drop (768 * w + 768) 
 ------------------------------------------------------------------------
 -- Flush (2)
 
--- H5.17: the announced time of worker j is read
-abbrev pub flushReadStep : List ℕ → ℕ → Announced → List ℕ
-flushReadStep times j t = set times (j % 16) (timeOf t)
+-- sixteen times for each worker
+abbrev pub timesOf : List ℕ → ℕ → List ℕ
+timesOf times w = take 16 (drop (16 * w) times)
+
+-- H5.17: worker w's flush reads the announced time of worker j
+abbrev pub flushReadStep : List ℕ → ℕ → ℕ → Announced → List ℕ
+flushReadStep times w j t = set times (16 * w + j % 16) (timeOf t)

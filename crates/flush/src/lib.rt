@@ -1,4 +1,4 @@
-// Put (3), flush (1) and flush (2): functions of just what they change, in lent memory.
+// Put (3) and flush (1): functions of just what they change, in lent memory.
 ghost use mathlib.Core.Path.{_≡_};
 ghost use Prim.Native.Nat.{_<_};
 ghost use lib.ListN.{length};
@@ -6,11 +6,10 @@ ghost use Rattle.lists.specs.Over.{over};
 ghost use Rattle.ranges.specs.Words.{flat};
 ghost use Rattle.queue.specs.State.{poolsIn, taken, rest};
 ghost use Rattle.versions.specs.Versions.{rowOf};
-ghost use Rattle.flush.specs.Flush.{handedOn, partOf, withPart, flushReadStep};
+ghost use Rattle.flush.specs.Flush.{handedOn, partOf, withPart};
 use queue::Taking;
 use values::Answer;
 use values::Window;
-use worker::Announced;
 use worker::Doing;
 
 // ---- put (3)
@@ -85,14 +84,4 @@ pub fn flush_take(
     ensures { λ _. ⌜ now (merged .exit) ≡ withPart (now (merged .entry)) w (over (flat (taken (poolsIn (now (queue .entry)) (now (lens .entry)) window))) (partOf (now (merged .entry)) w)) ⌝ }
 {
     take_into(queue, lens, window, merged, w)
-}
-
-// ---- flush (2)
-
-// Flush (2): the announced time t of worker j is read.
-pub fn flush_read(times: &mut [u64; 16], j: u8, t: Announced)
-    ensures { λ _. ⌜ now (times .exit) ≡ flushReadStep (now (times .entry)) j t ⌝ }
-{
-    let i = (j % 16) as usize;
-    times[i] = worker::time_of(t);
 }

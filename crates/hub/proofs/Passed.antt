@@ -113,9 +113,9 @@ arrays-long 𝓤 H A W ks qs a =
     (and-more 𝓤 H A W (array-long 𝓤 H A W (ks .1 .1 .1 .1 .0) (qs .1 .1 .1 .1 .0) (named 0) u32 12288 (a .1 .1 .1 .1 .0))
     (no-thing 𝓤 H A W)))))
 
-sized : (h : Hub) (s : List Slot) (a : Arrays) → length (h .workers) ≡ 16 → Long a → Sized (found h s a)
+sized : (h : Hub) (s : List Slot) (a : Arrays) → (length (h .workers) ≡ 16) × (length (h .times) ≡ 256) → Long a → Sized (found h s a)
 sized h s a w long =
-    record { workers = w; newest = long .0; free = long .1 .0; queue = long .1 .1 .0; lens = long .1 .1 .1 .0; merged = long .1 .1 .1 .1 .0 }
+    record { workers = w .0; times = w .1; newest = long .0; free = long .1 .0; queue = long .1 .1 .0; lens = long .1 .1 .1 .0; merged = long .1 .1 .1 .1 .0 }
 
 -- ---- a record: its bytes and the arrays
 abbrev pub Single : Type 0
@@ -162,9 +162,9 @@ pub single-known : {M : Type 1} (𝓤 : URA M) (H : Heap 𝓤) (A : Atoms 𝓤) 
 single-known 𝓤 H A W ks qs x =
     and-more 𝓤 H A W (bytes-small 𝓤 H A W (ks .0) (qs .0) (named 0) (x .0)) (arrays-long 𝓤 H A W (ks .1) (qs .1) (x .1))
 
--- with a hub of sixteen workers, and the rest of the row as it was, what one record did on the first 2048 slots is what the contract says
+-- with a hub of sixteen workers and as many times for each, and the rest of the row as it was, what one record did on the first 2048 slots is what the contract says
 pub single-does : (h : Hub) (s : List Slot) (x : Single) (h′ : Hub) (s′ : List Slot) (z : SingleLeft) (y : Answer)
-    → length (h .workers) ≡ 16 → Known x
+    → (length (h .workers) ≡ 16) × (length (h .times) ≡ 256) → Known x
     → (rest-of 2048 s′ ≡ rest-of 2048 s) × OneDone h (take 2048 s) x h′ (take 2048 s′) z y → SingleDoes h s x h′ s′ z y
 single-does h s x h′ s′ z y w k e =
     does-whole (found h s (x .1)) (leaves h′ s′ (z .1)) (x .0 .now) y (sized h s (x .1) w (k .1)) (k .0) (e .1 .answer) (e .1 .memory) (e .0)
@@ -222,8 +222,8 @@ buffer-known 𝓤 H A W ks qs x =
     (and-more 𝓤 H A W (untold 𝓤 H A W (ks .1 .1 .0) (qs .1 .1 .0) (MutSlice (named 0) (ks .1 .1 .0) u64 .own (x .1 .1 .0) (slice-vals (x .1 .1 .0))))
     (arrays-long 𝓤 H A W (ks .1 .1 .1) (qs .1 .1 .1) (x .1 .1 .1))))
 
--- with a hub of sixteen workers, what the records did is what the contract says
-pub all-does : (h : Hub) (s : List Slot) (x : Buffer) (n : ℕ) (h′ : Hub) (s′ : List Slot) (z : BufferLeft) → length (h .workers) ≡ 16 → KnownAll x
+-- with a hub of sixteen workers and as many times for each, what the records did is what the contract says
+pub all-does : (h : Hub) (s : List Slot) (x : Buffer) (n : ℕ) (h′ : Hub) (s′ : List Slot) (z : BufferLeft) → (length (h .workers) ≡ 16) × (length (h .times) ≡ 256) → KnownAll x
     → AllDone h s x n h′ s′ z → AllDoes h s x n h′ s′ z
 all-does h s x n h′ s′ z w k =
     applies (found h s (x .1 .1 .1)) (x .0 .now) (x .1 .0 .now) (x .1 .1 .0 .now) n (leaves h′ s′ (z .1 .1 .1)) (z .1 .0) (z .1 .1 .0)

@@ -58,6 +58,8 @@ module _ {M : Type 1} (𝓤 : URA M) (H : Heap 𝓤) (A : Atoms 𝓤) (W : Given
   pub typed-answered : (u : Answered) → Is N.the-row u (answered-vals u) → Holds (hasTy N′.mir (only (answered-vals u))) × WT (only (answered-vals u))
   typed-answered u g = LL.lawful N.the-type N′.the-laws 𝓤 H A W .typed u (answered-vals u) g .0
 
--- a hub by value has sixteen workers
-pub hub-workers : (h : Hub) → Is B.the-row h (hub-vals h) → length (h .workers) ≡ 16
-hub-workers h is = sym (length-map (h .workers) _) ∙ LL.owed B.the-type B′.the-laws h _ is .1 .1 .1 .1 .1 .1 .0 .1 .0 .1
+-- a hub by value has sixteen workers, and sixteen times for each
+pub hub-sizes : (h : Hub) → Is B.the-row h (hub-vals h) → (length (h .workers) ≡ 16) × (length (h .times) ≡ 256)
+hub-sizes h is =
+    let o = LL.owed B.the-type B′.the-laws h _ is .1 .1 .1 .1 .1 .1 in
+    (sym (length-map (h .workers) _) ∙ o .1 .0 .1 .0 .1, o .0 .1 .0)

@@ -24,7 +24,8 @@ use Rattle.model.proofs.Basic.{cond-both, All-map}
 use Rattle.model.proofs.Setup.{accepts}
 use Rattle.values.specs.declared.Answer.{Answer}
 use Rattle.values.specs.Meaning.{answerOf}
-use Rattle.worker.specs.Rep.{workerRep}
+use Rattle.worker.specs.Rep.{timesRead, workerRep}
+use Rattle.state.specs.State.{withTimesIn}
 use Rattle.slots.specs.Slots.{slotRep}
 use Rattle.ranges.specs.Words.{flat}
 use Rattle.ranges.proofs.WordLaws.{length-flat}
@@ -32,52 +33,57 @@ use Rattle.queue.specs.State.{Begins}
 use Rattle.queue.specs.Rep.{joinedRanges}
 use Rattle.queue.proofs.MemoryLaws.{over-again, overAt-again, length-overAt}
 use Rattle.queue.proofs.Rep.{words-inside, lengths-inside, begins-after}
-use Rattle.simulation.specs.Memory.{Memory, inHandWords, mergedOver, write, beginAt, nextWindow, writeHub}
+use Rattle.simulation.specs.Memory.{Memory, inHandWords, mergedOver, partsOver, write, beginAt, nextHub, writeHub}
 use Rattle.simulation.specs.Left.{LeftByRecords, Left, Sized}
 use Rattle.simulation.specs.Shell.{queueIn}
 use Rattle.simulation.proofs.FlushQueue.{queue-sized}
 use Rattle.simulation.specs.Holds.{Holds, memoryAfter, AsModel}
 use Rattle.simulation.specs.Public.{exchangeOf}
 use Rattle.simulation.proofs.Sound.{Sound, sound, left-next}
-use Rattle.simulation.proofs.Ready.{hand-short, length-joined}
+use Rattle.simulation.proofs.Ready.{hand-short, times-short, length-joined}
 use Rattle.simulation.proofs.Laid.{memory-path}
+use Rattle.simulation.proofs.Laws.{next-size}
 
 ------------------------------------------------------------------------
 -- The lists in hand
 
--- each list fits its worker's part
-abbrev HandsFit : List Model.Worker → Type 0
-HandsFit ws = All (λ x. length (inHandWords (x .doing)) ≤ 768) ws
+module _ (n : ℕ) (f : Model.Worker → List ℕ) where
+  -- each list fits its worker's part
+  abbrev Fit : List Model.Worker → Type 0
+  Fit ws = All (λ x. length (f x) ≤ n) ws
 
-front-length : (p d : List ℕ) → length p ≤ 768 → 768 ≤ length d → length (over p (take 768 d)) ≡ 768
-front-length p d h k =
-    let e : length (take 768 d) ≡ 768 = length-take-le 768 d k in
-    length-over p (take 768 d) (omega arith) ∙ e
+  front-length : (p d : List ℕ) → length p ≤ n → n ≤ length d → length (over p (take n d)) ≡ n
+  front-length p d h k =
+      let e : length (take n d) ≡ n = length-take-le n d k in
+      length-over p (take n d) (omega arith) ∙ e
 
-merged-length : (ws : List Model.Worker) (d : List ℕ) → 768 * length ws ≤ length d → HandsFit ws → length (mergedOver ws d) ≡ length d
-unfolding mergedOver
-merged-length [] d h t = refl
-merged-length (x ∷ ws) d h t =
-    omega (
-      arith,
-      length-append (over (inHandWords (x .doing)) (take 768 d)) (mergedOver ws (drop 768 d)),
-      front-length (inHandWords (x .doing)) d (t .0) (omega arith),
-      merged-length ws (drop 768 d) (omega (arith, length-drop 768 d)) (t .1),
-      length-drop 768 d,
-    )
+  parts-length : (ws : List Model.Worker) (d : List ℕ) → n * length ws ≤ length d → Fit ws → length (partsOver n f ws d) ≡ length d
+  unfolding partsOver
+  parts-length [] d h t = refl
+  parts-length (x ∷ ws) d h t =
+      omega (
+        arith,
+        next-size n f (length ws),
+        length-append (over (f x) (take n d)) (partsOver n f ws (drop n d)),
+        front-length (f x) d (t .0) (omega (arith, next-size n f (length ws))),
+        parts-length ws (drop n d) (omega (arith, next-size n f (length ws), length-drop n d)) (t .1),
+        length-drop n d,
+      )
 
-merged-again : (ws : List Model.Worker) (d : List ℕ) → 768 * length ws ≤ length d → HandsFit ws → mergedOver ws d ≡ mergedOver ws (mergedOver ws d)
-unfolding mergedOver
-merged-again [] d h t = refl
-merged-again (x ∷ ws) d h t =
-    let p : List ℕ = inHandWords (x .doing) in
-    let a : List ℕ = over p (take 768 d) in
-    let b : List ℕ = mergedOver ws (drop 768 d) in
-    let n : length a ≡ 768 = front-length p d (t .0) (omega arith) in
-    ap (λ (l : List ℕ). l ++ b) (sym (over-again p (take 768 d)))
-    ∙ ap (λ (l : List ℕ). over p a ++ l) (merged-again ws (drop 768 d) (omega (arith, length-drop 768 d)) (t .1))
-    ∙ ap (λ (l : List ℕ). over p l ++ mergedOver ws b) (sym (take-at a b 768 n))
-    ∙ ap (λ (l : List ℕ). over p (take 768 (a ++ b)) ++ mergedOver ws l) (sym (drop-at a b 768 n))
+  parts-again : (ws : List Model.Worker) (d : List ℕ) → n * length ws ≤ length d → Fit ws
+      → partsOver n f ws d ≡ partsOver n f ws (partsOver n f ws d)
+  unfolding partsOver
+  parts-again [] d h t = refl
+  parts-again (x ∷ ws) d h t =
+      let p : List ℕ = f x in
+      let a : List ℕ = over p (take n d) in
+      let b : List ℕ = partsOver n f ws (drop n d) in
+      let z = next-size n f (length ws) in
+      let long : length a ≡ n = front-length p d (t .0) (omega arith) in
+      ap (λ (l : List ℕ). l ++ b) (sym (over-again p (take n d)))
+      ∙ ap (λ (l : List ℕ). over p a ++ l) (parts-again ws (drop n d) (omega (arith, length-drop n d)) (t .1))
+      ∙ ap (λ (l : List ℕ). over p l ++ partsOver n f ws b) (sym (take-at a b n long))
+      ∙ ap (λ (l : List ℕ). over p (take n (a ++ b)) ++ partsOver n f ws l) (sym (drop-at a b n long))
 
 all-from : {A : Type 0} (Q : A → Type 0) (l : List A) (z : A) → ((i : ℕ) → i < length l → Q (getD l i z)) → All Q l
 all-from Q [] z f = tt
@@ -87,7 +93,7 @@ all-from Q (x ∷ l) z f = (f 0 (omega arith), all-from Q l z (λ i h. f (suc i)
 -- A sound store
 
 module _ (s : Store) (S : Sound s) (m : Memory) (Z : Sized m) (B : Begins (m .hub .window)) where
-  hands : HandsFit (s .workers)
+  hands : Fit 768 (λ x. inHandWords (x .doing)) (s .workers)
   hands =
       all-from (λ x. length (inHandWords (x .doing)) ≤ 768) (s .workers) startWorker
       (λ w h. hand-short s (workerAt s w .announced) (workerAt s w .doing) (S .places w (omega (arith, h, S .bounds .workers .2))))
@@ -95,16 +101,26 @@ module _ (s : Store) (S : Sound s) (m : Memory) (Z : Sized m) (B : Begins (m .hu
   room : 768 * length (s .workers) ≤ length (m .merged)
   room = omega (arith, Z .merged, S .bounds .workers .1, S .bounds .workers .2)
 
+  -- as many times are read as there are workers at the most
+  reads : Fit 16 (λ x. timesRead (x .doing)) (s .workers)
+  reads =
+      all-from (λ x. length (timesRead (x .doing)) ≤ 16) (s .workers) startWorker
+      (λ w h. times-short s S (workerAt s w .announced) (workerAt s w .doing) (S .places w (omega (arith, h, S .bounds .workers .2))))
+
+  times-room : 16 * length (s .workers) ≤ length (m .hub .times)
+  times-room = omega (arith, Z .times, S .bounds .workers .1, S .bounds .workers .2)
+
   -- the store lies in the memory that it was written over
   written-lies : write s m ≡ write s (write s m)
   written-lies =
-      memory-path refl
+      memory-path
+      (ap (withTimesIn (write s m .hub)) (parts-again 16 (λ x. timesRead (x .doing)) (s .workers) (m .hub .times) times-room reads))
       (sym (over-again (map slotRep (s .slots)) (m .slots)))
       (sym (over-again (s .newest) (m .newest)))
       (sym (over-again (reverse (s .free)) (m .free)))
       (sym (overAt-again (3 * m .hub .window .from) (flat (joinedRanges (s .queue))) (m .queue) (words-inside (queueIn m) (queue-sized m Z) B)))
       (sym (overAt-again (m .hub .window .first) (map length (s .queue)) (m .lens) (lengths-inside (queueIn m) (queue-sized m Z) B)))
-      (merged-again (s .workers) (m .merged) room hands)
+      (parts-again 768 (λ x. inHandWords (x .doing)) (s .workers) (m .merged) room hands)
 
   -- and the arrays keep their lengths
   written-sized : Sized (write s m)
@@ -120,6 +136,7 @@ module _ (s : Store) (S : Sound s) (m : Memory) (Z : Sized m) (B : Begins (m .hu
               S .bounds .workers .2,
             ))
             ∙ length-replicate 16 (workerRep startWorker);
+        times = parts-length 16 (λ x. timesRead (x .doing)) (s .workers) (m .hub .times) times-room reads ∙ Z .times;
         newest = length-over (s .newest) (m .newest) (omega (arith, Z .newest, S .bounds .registers .1, S .bounds .registers .2)) ∙ Z .newest;
         free =
             length-over (reverse (s .free)) (m .free)
@@ -133,7 +150,7 @@ module _ (s : Store) (S : Sound s) (m : Memory) (Z : Sized m) (B : Begins (m .hu
             length-overAt (m .hub .window .first) (map length (s .queue)) (m .lens)
             (omega (arith, B .first, B .from, Z .lens, length-map (s .queue) length, S .bounds .pools, S .bounds .slots .1))
             ∙ Z .lens;
-        merged = merged-length (s .workers) (m .merged) room hands ∙ Z .merged;
+        merged = parts-length 768 (λ x. inHandWords (x .doing)) (s .workers) (m .merged) room hands ∙ Z .merged;
       }
 
 ------------------------------------------------------------------------
@@ -180,13 +197,18 @@ hub-next row h b (inr (s, e, L)) = inr (subst (λ (k : Model.Hub). LeftHub (appl
 -- The memory that a record leaves
 
 module _ (m m′ : Memory) (Z : Sized m) where
+  -- the hub by value that is written over has its lengths
+  hub-sized : (h₀ : Model.Hub) (t : Store) → (length (nextHub h₀ t (m .hub) .workers) ≡ 16) × (length (nextHub h₀ t (m .hub) .times) ≡ 256)
+  hub-sized (blank row) t = (refl, length-replicate {A = ℕ} 256 0)
+  hub-sized (up s) t = (Z .workers, Z .times)
+
   -- over m, which held the hub h₀, the hub h was written, in a window that begins well
-  written : (h₀ h : Model.Hub) → ((t : Store) → Begins (nextWindow h₀ t (m .hub .window))) → LeftHub h → m′ ≡ writeHub h₀ h m
+  written : (h₀ h : Model.Hub) → ((t : Store) → Begins (nextHub h₀ t (m .hub) .window)) → LeftHub h → m′ ≡ writeHub h₀ h m
       → Holds h m′ × Sized m′
   written h₀ h B (t, e, L) is =
-      let x : Memory = beginAt m (nextWindow h₀ t (m .hub .window)) in
+      let x : Memory = beginAt m (nextHub h₀ t (m .hub)) in
       let Z′ : Sized x =
-      record { workers = Z .workers; newest = Z .newest; free = Z .free; queue = Z .queue; lens = Z .lens; merged = Z .merged } in
+      record { workers = hub-sized h₀ t .0; times = hub-sized h₀ t .1; newest = Z .newest; free = Z .free; queue = Z .queue; lens = Z .lens; merged = Z .merged } in
       subst (λ (k : Model.Hub). Holds k m′ × Sized m′) (sym e)
       (subst (λ (x : Memory). Left t x × Sized x) (sym (is ∙ ap (λ (k : Model.Hub). writeHub h₀ k m) e)) (
         record { store = L; begins = record { first = B t .first; from = B t .from }; laid = written-lies t (sound L) x Z′ (B t) },

@@ -18,7 +18,7 @@ use Rattle.worker.specs.declared.Worker.{Worker}
 use Rattle.worker.specs.Rep.{doingRep}
 use Rattle.slots.specs.Slots.{slotOf}
 use Rattle.state.specs.declared.Hub.{Hub}
-use Rattle.state.specs.State.{emptyWindow, workerIn}
+use Rattle.state.specs.State.{emptyHub, workerIn}
 use Rattle.queue.specs.State.{Begins}
 use Rattle.gate.specs.declared.Gate.{Gate}
 use Rattle.gate.specs.declared.Gate.the-variants.{Refuse, Make, Start, Go}
@@ -88,7 +88,7 @@ module _ (steps : StepsSimulate) where
     a = apply inForce (up s) b
 
     -- the record's decision, for the store and for the memory
-    gate-is : gateIn (ready m) m b ≡ gateBy (decodedIn b) true (length (m .slots)) (hubRep s emptyWindow)
+    gate-is : gateIn (ready m) m b ≡ gateBy (decodedIn b) true (length (m .slots)) (hubRep s emptyHub)
     gate-is = λ i. gateBy (decodedIn b) (left-ready m L Z i) (length (m .slots)) (hub-is s m laid i)
 
     -- the next store is sound

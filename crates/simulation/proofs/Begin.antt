@@ -13,7 +13,7 @@ use Rattle.model.specs.About.{Facts}
 use Rattle.model.specs.Apply.{terms}
 use Rattle.model.proofs.View.{first-about}
 use Rattle.worker.specs.declared.Worker.{Worker}
-use Rattle.worker.specs.Rep.{doingRep, timesIn, timesRep, workerRep}
+use Rattle.worker.specs.Rep.{doingRep, timesIn, timesRead, workerRep}
 use Rattle.state.specs.declared.Hub.{Hub}
 use Rattle.state.specs.State.{workerIn, withWorkerIn, atPlace}
 use Rattle.gate.specs.declared.Gate.the-variants.{Start}
@@ -25,8 +25,8 @@ use Rattle.simulation.proofs.Laid.{write-kept, memory-path, hub-is, slo
 use Rattle.simulation.proofs.Refuse.{Follows}
 
 -- an operation begins with no time read and no list in hand
-first-times : (o : Record.Operation) → timesRep (terms o .first) ≡ replicate 16 0
-first-times o = ap (λ (y : Facts). timesIn (y .hand)) (first-about o)
+first-times : (o : Record.Operation) → timesRead Model.Idle ≡ timesRead (terms o .first) ++ []
+first-times o = sym (ap (λ (y : Facts). timesIn (y .hand) ++ []) (first-about o))
 
 first-hand : (o : Record.Operation) → inHandWords Model.Idle ≡ inHandWords (terms o .first) ++ []
 unfolding handWords
@@ -37,18 +37,11 @@ module _ (s : Store) (m : Memory) (S : Sound s) (Z : Sized m) (laid : m ≡ writ
   abbrev begunWorker : Model.Worker
   begunWorker = withDoing (workerAt s w) (terms o .first)
 
-  begun-worker : atPlace (workerRep (workerAt s w)) (doingRep (terms o .first)) ≡ workerRep begunWorker
-  begun-worker =
-      let x : Worker = workerRep (workerAt s w) in
-      ap (λ (l : List ℕ). record { doing = doingRep (terms o .first); announced = x .announced; pool = x .pool; times = l })
-      (ap timesRep idle ∙ sym (first-times o))
-
-  begun-hub : withWorkerIn (m .hub) w (atPlace (workerIn (m .hub) w) (doingRep (terms o .first))) ≡ hubRep (place s w (terms o .first)) (m .hub .window)
+  begun-hub : withWorkerIn (m .hub) w (atPlace (workerIn (m .hub) w) (doingRep (terms o .first))) ≡ hubRep (place s w (terms o .first)) (m .hub)
   begun-hub =
       ap (λ (h : Hub). withWorkerIn h w (atPlace (workerIn h w) (doingRep (terms o .first)))) (hub-is s m laid)
-      ∙ ap (λ (x : Worker). withWorkerIn (hubRep s (m .hub .window)) w (atPlace x (doingRep (terms o .first)))) (worker-at s S w inside (workerAt s w .doing) refl)
-      ∙ ap (withWorkerIn (hubRep s (m .hub .window)) w) begun-worker
-      ∙ worker-put s S w inside (m .hub .window) begunWorker
+      ∙ ap (λ (x : Worker). withWorkerIn (hubRep s (m .hub)) w (atPlace x (doingRep (terms o .first)))) (worker-at s S w inside (workerAt s w .doing) refl)
+      ∙ worker-put s S w inside m Z laid Model.Idle begunWorker [] idle (first-times o)
 
   -- the code begins the operation as the model does
   pub begun : Follows (up s) m (Start w (doingRep (terms o .first))) (record { hub = up (place s w (terms o .first)); answer = Answers.Ok })

@@ -25,7 +25,7 @@ use Rattle.slots.specs.declared.Slot.{Slot}
 use Rattle.slots.specs.Slots.{slotRep, slotOf, vacantSlot, linkedAnd, linkedTo}
 use Rattle.state.specs.declared.Hub.{Hub}
 use Rattle.ready.specs.Ready.{sizesFit, readyOf}
-use Rattle.simulation.specs.Memory.{Memory, cut, write, beginAt, nextWindow, writeHub}
+use Rattle.simulation.specs.Memory.{Memory, cut, write, beginAt, nextHub, writeHub}
 use Rattle.simulation.specs.Left.{LeftByRecords, Left, Sized, ready}
 use Rattle.simulation.specs.Shell.{doneOf}
 use Rattle.simulation.specs.Holds.{Holds, AsModel}
@@ -168,7 +168,7 @@ module _ (m m′ : Memory) (rest : drop 2048 (m′ .slots) ≡ drop 2048 (m .slo
   written : (h₀ h : Model.Hub) → FewIn h → cut m′ ≡ writeHub h₀ h (cut m) → m′ ≡ writeHub h₀ h m
   written h₀ (blank row) f e = whole m refl e
   written h₀ (up s) f e =
-      let x : Memory = beginAt m (nextWindow h₀ s (m .hub .window)) in
+      let x : Memory = beginAt m (nextHub h₀ s (m .hub)) in
       whole (write s x) (write-rest s f x) (e ∙ sym (write-cut s f x))
 
   takes-cut : (t : Bool) (d : Decoded) → takesStepIn t (cut m) d ≡ takesStepIn t m d
@@ -238,7 +238,7 @@ does-cut m m′ b y Z D rest =
     }
 
 sized-cut : (m : Memory) → Sized m → Sized (cut m)
-sized-cut m Z = record { workers = Z .workers; newest = Z .newest; free = Z .free; queue = Z .queue; lens = Z .lens; merged = Z .merged }
+sized-cut m Z = record { workers = Z .workers; times = Z .times; newest = Z .newest; free = Z .free; queue = Z .queue; lens = Z .lens; merged = Z .merged }
 
 -- so what the code answers and leaves with the first 2048 slots is right for the whole row
 pub does-whole : (m m′ : Memory) (b : List ℕ) (y : Answer) → Sized m → Bytes b
@@ -257,7 +257,7 @@ module _ (m m′ : Memory) (b : List ℕ) (y : Answer) (Z : Sized m) (D : Does m
 
   cut-written : (h₀ h : Model.Hub) → FewIn h → m′ ≡ writeHub h₀ h m → cut m′ ≡ writeHub h₀ h (cut m)
   cut-written h₀ (blank row) f e = ap cut e
-  cut-written h₀ (up s) f e = ap cut e ∙ write-cut s f (beginAt m (nextWindow h₀ s (m .hub .window)))
+  cut-written h₀ (up s) f e = ap cut e ∙ write-cut s f (beginAt m (nextHub h₀ s (m .hub)))
 
   blank-uncut : ready (cut m) ≡ false → AsModel (blank (map slotOf (take 2048 (m .slots)))) (cut m) (exchangeOf b y ∷ []) (cut m′)
   blank-uncut e =

@@ -21,24 +21,25 @@ use Rattle.arrays.specs.Arrays.{short}
 use Rattle.versions.specs.Versions.{slotAtIn, unlinkedIn}
 use Rattle.worker.specs.declared.Worker.{Worker}
 use Rattle.worker.specs.declared.Doing.the-variants as D
+use Rattle.worker.specs.Rep.{timesRead}
 use Rattle.ranges.specs.Words.{flat}
 use Rattle.ranges.proofs.WordLaws.{length-flat, flat-snoc, range-in}
 use Rattle.state.specs.declared.Hub.{Hub}
-use Rattle.state.specs.State.{emptyWindow, atPlace, withWorkersIn, withFreeIn}
+use Rattle.state.specs.State.{emptyHub, atPlace, withWorkersIn, withFreeIn, withTimesIn}
 use Rattle.step.specs.declared.Next.the-variants.{Free}
 use Rattle.step.specs.Step.{stepOf}
 use Rattle.flush.specs.Flush.{partOf}
 use Rattle.freeing.specs.Freeing.{nextToFree, oneMore, freedStep, freedRow, freedFree}
-use Rattle.simulation.specs.Memory.{Memory, hubRep, handWords, mergedOver, write}
+use Rattle.simulation.specs.Memory.{Memory, timesOver, hubRep, handWords, inHandWords, mergedOver, write}
 use Rattle.simulation.specs.Left.{Sized}
 use Rattle.simulation.specs.Shell.{offWorker, freedIn, nextIn, goIn}
 use Rattle.simulation.proofs.Laws.{free-push, merged-map}
 use Rattle.simulation.proofs.Sound.{Sound, Apart, PlaceIn}
 use Rattle.simulation.proofs.Simulates.{Simulates, recordAt, simulated}
 use Rattle.simulation.proofs.Laid.{write-kept, cond-yes, cond-no, memory-path, hub-is, slots-is, newest-is, free-is, queue-is, lens-is, slot-is}
-use Rattle.simulation.proofs.Laid.{place-at, worker-put, list-is, list-kept}
+use Rattle.simulation.proofs.Laid.{place-at, times-kept, worker-put, list-is, list-kept}
 use Rattle.simulation.proofs.Rows.{unlinked-row}
-use Rattle.simulation.proofs.FlushReaders.{Placed, off-list, off-records}
+use Rattle.simulation.proofs.FlushReaders.{Placed, off-list, off-times, off-records}
 
 module _ (s : Store) (m : Memory) (w : ℕ) (ρ : Range) (l : List Range) (S : Sound s) (Z : Sized m) (laid : m ≡ write s m) (wb : w < s .site .P)
     (e : workerAt s w .doing ≡ Model.FlushFree (ρ ∷ l)) (next : Sound (stepAt s w (Model.FlushFree (ρ ∷ l)) .store)) where
@@ -146,7 +147,12 @@ module _ (s : Store) (m : Memory) (w : ℕ) (ρ : Range) (l : List Range) (S : S
   merged-left =
       let last : List ℕ = ρ .slot ∷ ρ .low ∷ ρ .high ∷ [] in
       list-kept s S w wb m Z laid d went last e (ap flat (reverse-cons ρ l) ∙ flat-snoc (reverse l) ρ)
-      ∙ sym (merged-map (workerOff c o) (off-list left c o small) ws (m .merged))
+      ∙ sym (merged-map 768 (λ y. inHandWords (y .doing)) (workerOff c o) (off-list left c o small) ws (m .merged))
+
+  times-left : m .hub .times ≡ timesOver (map (workerOff c o) ws) (m .hub .times)
+  times-left =
+      times-kept s S w wb m Z laid d went [] e refl
+      ∙ sym (merged-map 16 (λ y. timesRead (y .doing)) (workerOff c o) (off-times left c o small) ws (m .hub .times))
 
   -- the readers
   placed : Placed left c o small ws
@@ -160,11 +166,11 @@ module _ (s : Store) (m : Memory) (w : ℕ) (ρ : Range) (l : List Range) (S : S
   abbrev movedIn : ℕ → ℕ → Hub → ℕ → List Worker
   movedIn i j h k = map (offWorker i j) (set (h .workers) w (atPlace (recordAt s w d) (D.FlushFree k)))
 
-  workers-left : movedIn (short freed) (short (slotAtIn (m .slots) freed .older)) (m .hub) (n - 1) ≡ hubRep left emptyWindow .workers
+  workers-left : movedIn (short freed) (short (slotAtIn (m .slots) freed .older)) (m .hub) (n - 1) ≡ hubRep left emptyHub .workers
   workers-left =
       let less : n - 1 ≡ length l = omega arith in
       (λ i. movedIn (short-is i) (older-is i) (hub-is s m laid i) (less i))
-      ∙ ap (λ (h : Hub). map (offWorker c (short o)) (h .workers)) (worker-put s S w wb (m .hub .window) went)
+      ∙ ap (λ (h : Hub). map (offWorker c (short o)) (h .workers)) (worker-put s S w wb m Z laid d went [] e refl)
       ∙ off-records left c o small ws placed
 
   pub freed-sim : Simulates s m w d
@@ -173,6 +179,6 @@ module _ (s : Store) (m : Memory) (w : ℕ) (ρ : Range) (l : List Range) (S : S
       let some : eqb n 0 ≡ false = ne-eqb n 0 (λ z. omega arith) in
       simulated s m w d S laid wb e _ _ stepped
       (ap (nextIn m w (recordAt s w d)) (cond-no (eqb n 0) _ (Free n) some))
-      (memory-path (λ i. withFreeIn (withWorkersIn (hub-is s m laid i) (workers-left i)) (count-left i))
+      (memory-path (λ i. withTimesIn (withFreeIn (withWorkersIn (hub-is s m laid i) (workers-left i)) (count-left i)) (times-left i))
       slots-left (newest-is s m laid) free-left (queue-is s m laid) (lens-is s m laid) merged-left ∙ write-kept s left m (omega arith))
       (ap Model·Answer.Freed short-is)

@@ -3,7 +3,7 @@ use mathlib.Core.Path.{_≡_, refl, sym, ap, _∙_}
 use mathlib.Core.Bool.{true}
 use mathlib.Core.Logic.{_⊎_, inl, inr}
 use mathlib.Core.List.{List, [], _∷_, _++_, append-nil}
-use Prim.Native.Nat.{ℕ, _<_, _%_}
+use Prim.Native.Nat.{ℕ, _+_, _*_, _<_, _%_}
 use native.Mathlib.Omega.{arith}
 use lib.Dec.{ltb}
 use lib.ListN.{length, set, length-append}
@@ -15,21 +15,20 @@ use Rattle.model.specs.Steps.{stepAt, flushRead, flushSplit, readTimes}
 use Rattle.values.specs.declared.Answer.the-variants.{Going}
 use Rattle.worker.specs.declared.Worker.{Worker}
 use Rattle.worker.specs.declared.Doing.the-variants as D
-use Rattle.worker.specs.Rep.{padded, poolRep, announcedRep, timeOf}
-use Rattle.worker.proofs.Rep.{padded-push}
+use Rattle.worker.specs.Rep.{timesRead, poolRep, announcedRep, timeOf}
 use Rattle.ranges.specs.Words.{flat}
 use Rattle.state.specs.declared.Hub.{Hub}
 use Rattle.state.specs.State.{workerIn}
 use Rattle.step.specs.declared.Next.the-variants.{Read, Split}
 use Rattle.step.specs.Step.{stepOf}
 use Rattle.flush.specs.Flush.{flushReadStep}
-use Rattle.simulation.specs.Memory.{Memory, handWords, mergedOver, write}
+use Rattle.simulation.specs.Memory.{Memory, timesOver, handWords, mergedOver, write}
 use Rattle.simulation.specs.Left.{Sized}
 use Rattle.simulation.specs.Shell.{queueIn, readIn, nextIn, goIn}
-use Rattle.simulation.proofs.Laws.{worker-in}
+use Rattle.simulation.proofs.Laws.{worker-in, part-more}
 use Rattle.simulation.proofs.Sound.{Sound}
 use Rattle.simulation.proofs.Simulates.{Simulates, recordAt}
-use Rattle.simulation.proofs.Laid.{cond-yes, hub-is, list-kept}
+use Rattle.simulation.proofs.Laid.{cond-yes, hub-is, times-is, among, list-kept}
 use Rattle.simulation.proofs.FlushQueue.{queue-held, queue-kept}
 use Rattle.simulation.proofs.Moved.{moved-sim}
 
@@ -58,22 +57,20 @@ module _ (s : Store) (m : Memory) (w : ℕ) (l : List Range) (ts : List ℕ) (S 
       ∙ ap (λ (y : Worker). timeOf (y .announced)) (worker-in s k (S .bounds .workers .2) (S .bounds .workers .1) more)
       ∙ time-read time (S .announced k more)
 
-  times-are : flushReadStep (padded 16 ts) k (workerIn (m .hub) (k % 16) .announced) ≡ padded 16 (ts ++ (time ∷ []))
+  times-are : flushReadStep (m .hub .times) w k (workerIn (m .hub) (k % 16) .announced) ≡ timesOver (set (s .workers) w after) (m .hub .times)
   times-are =
       let few = S .bounds .workers .1 in
       let j : k % 16 ≡ k = omega arith in
-      ap (λ (i : ℕ). set (padded 16 ts) i (timeOf (workerIn (m .hub) i .announced))) j
-      ∙ ap (set (padded 16 ts) k) time-is
-      ∙ padded-push 16 ts k time refl (omega arith)
+      let own : timesRead (workerAt s w .doing) ≡ ts = ap timesRead e in
+      ap (λ (i : ℕ). set (m .hub .times) (16 * w + i) (timeOf (workerIn (m .hub) i .announced))) j
+      ∙ ap (set (m .hub .times) (16 * w + k)) time-is
+      ∙ ap (λ (i : ℕ). set (m .hub .times) (16 * w + i) time) (sym (ap length own))
+      ∙ part-more 16 (λ y. timesRead (y .doing)) (s .workers) (m .hub .times) w after time
+      (omega (arith, Z .times, S .bounds .workers .1, S .bounds .workers .2)) (among s S w wb) (omega (arith, ap length own))
+      (ap (λ (z : List ℕ). z ++ (time ∷ [])) (sym own)) (times-is s m laid)
 
-  abbrev recordOf : ℕ → List ℕ → Worker
-  recordOf j times =
-      record {
-        doing = D.FlushRead (length l) j;
-        announced = announcedRep (workerAt s w .announced);
-        pool = poolRep (workerAt s w .pool);
-        times = times;
-      }
+  abbrev recordOf : ℕ → Worker
+  recordOf j = record { doing = D.FlushRead (length l) j; announced = announcedRep (workerAt s w .announced); pool = poolRep (workerAt s w .pool) }
 
   stepped : stepAt s w d ≡ record { store = withWorker s w after; answer = Model·Answer.Going }
   unfolding stepAt flushRead readTimes
@@ -90,6 +87,6 @@ module _ (s : Store) (m : Memory) (w : ℕ) (l : List Range) (ts : List ℕ) (S 
   unfolding goIn stepOf nextIn readIn
   read-time-sim =
       let test : ltb k (m .hub .p) ≡ true = ap (λ (h : Hub). ltb k (h .p)) (hub-is s m laid) ∙ lt-ltb k (s .site .P) more in
-      moved-sim s m w S laid wb d e after (s .queue) Going _ (queueIn m) (m .merged) stepped
+      moved-sim s m w S laid wb d e after (s .queue) Going _ (queueIn m) _ (m .merged) stepped
       (ap (nextIn m w (recordAt s w d)) (cond-yes (ltb k (m .hub .p)) (Read (length l) k) (Split (length l)) test))
-      (λ i. recordOf (sym (length-append ts (time ∷ [])) i) (times-are i)) (queue-kept s m (s .queue) (queueIn m) (omega arith) (queue-held s m laid)) kept
+      (ap recordOf (sym (length-append ts (time ∷ [])))) (queue-kept s m (s .queue) (queueIn m) (omega arith) (queue-held s m laid)) times-are kept

@@ -19,7 +19,7 @@ use Rattle.arrays.specs.Arrays.{short}
 use Rattle.worker.specs.declared.Worker.{Worker}
 use Rattle.worker.specs.declared.Doing.the-variants as D
 use Rattle.worker.specs.declared.Goal.{Goal}
-use Rattle.worker.specs.Rep.{goalRep, doingRep, workerRep}
+use Rattle.worker.specs.Rep.{timesRead, goalRep, doingRep, workerRep}
 use Rattle.freeing.specs.Freeing.{offTo}
 use Rattle.state.specs.State.{atPlace}
 use Rattle.simulation.specs.Memory.{handWords, inHandWords}
@@ -73,6 +73,12 @@ module _ (s : Store) (c o : ℕ) (small : s .site .N ≤ 2048) where
   pub off-list : (x : Model.Worker) → inHandWords (workerOff c o x .doing) ≡ inHandWords (x .doing)
   unfolding workerOff
   off-list x = off 0 x (x .doing) .1
+
+  pub off-times : (x : Model.Worker) → timesRead (workerOff c o x .doing) ≡ timesRead (x .doing)
+  unfolding workerOff moveOff
+  off-times x =
+      ⊎-elim (λ u. subst (λ (d : Model.Doing). timesRead (moveOff c o d) ≡ timesRead d) (sym (u .2)) refl) (λ u. ap timesRead (u .1 c o))
+      (off-cases (x .doing))
 
   -- all workers stand where a sound store's do
   abbrev pub Placed : List Model.Worker → Type 0

@@ -25,7 +25,7 @@ use Rattle.arrays.specs.Arrays.{short}
 use Rattle.worker.specs.declared.Pool.{Pool}
 use Rattle.worker.specs.declared.Worker.{Worker}
 use Rattle.worker.specs.declared.Doing.the-variants as D
-use Rattle.worker.specs.Rep.{padded, poolRep, announcedRep}
+use Rattle.worker.specs.Rep.{timesRead, poolRep, announcedRep}
 use Rattle.ranges.specs.Words.{flat, rangesAt}
 use Rattle.ranges.proofs.WordLaws.{length-flat}
 use Rattle.queue.specs.State.{Queue, Begins}
@@ -34,14 +34,15 @@ use Rattle.queue.proofs.Rep.{rangesAt-over}
 use Rattle.state.specs.declared.Hub.{Hub}
 use Rattle.step.specs.declared.Next.the-variants.{Read, Split}
 use Rattle.step.specs.Step.{stepOf}
-use Rattle.flush.specs.Flush.{partOf, withPart}
+use Rattle.flush.specs.Flush.{partOf, withPart, timesOf}
 use Rattle.splitting.specs.Splitting.{requeued, maySplit, mayCut, needlessBy, neededBy, needlessCount, splitLeft, splitQueue, splitMerged}
 use Rattle.simulation.specs.Memory.{Memory, handWords, mergedOver, write}
 use Rattle.simulation.specs.Left.{Sized}
 use Rattle.simulation.specs.Shell.{queueIn, splitIn, nextIn, goIn}
 use Rattle.simulation.proofs.Sound.{Sound, PlaceIn}
 use Rattle.simulation.proofs.Simulates.{Simulates, recordAt}
-use Rattle.simulation.proofs.Laid.{cond-yes, cond-no, hub-is, place-at, among, pool-short, list-is, list-put}
+use Rattle.simulation.proofs.Laid.{cond-yes, cond-no, hub-is, times-is, times-kept, place-at, among, pool-short, list-is, list-put}
+use Rattle.simulation.proofs.Laws.{part-of}
 use Rattle.simulation.proofs.FlushQueue.{length-joined, queue-sized, queue-held, queue-kept, ranges-few}
 use Rattle.simulation.proofs.FlushRequeue.{requeued-is}
 use Rattle.simulation.proofs.Moved.{workers-byte, moved-sim}
@@ -103,7 +104,7 @@ module _ (s : Store) (m : Memory) (w : ℕ) (l : List Range) (ts : List ℕ) (S 
   p = m .hub .p
 
   abbrev times : List ℕ
-  times = padded 16 ts
+  times = m .hub .times
 
   abbrev local : Pool
   local = poolRep (own .pool)
@@ -114,9 +115,16 @@ module _ (s : Store) (m : Memory) (w : ℕ) (l : List Range) (ts : List ℕ) (S 
   workers-is : p ≡ s .site .P
   workers-is = ap (λ (h : Hub). h .p) (hub-is s m laid)
 
-  times-is : take p times ≡ ts
-  unfolding padded
-  times-is = let n = within .2 in ap (λ (k : ℕ). take k times) workers-is ∙ take-over ts (replicate 16 0) (s .site .P) (omega arith)
+  read-is : take p (timesOf times w) ≡ ts
+  read-is =
+      let n = within .2 in
+      let own : timesRead (workerAt s w .doing) ≡ ts = ap timesRead e in
+      ap (take p)
+      (part-of 16 (λ y. timesRead (y .doing)) (s .workers) times w (omega (arith, Z .times, S .bounds .workers .1, S .bounds .workers .2))
+      (among s S w wb) (times-is s m laid)
+      ∙ ap (λ (l : List ℕ). over l (timesOf times w)) own)
+      ∙ ap (λ (k : ℕ). take k (over ts (timesOf times w))) workers-is
+      ∙ take-over ts (timesOf times w) (s .site .P) (omega arith)
 
   listed-is : listed ≡ l
   unfolding handWords
@@ -125,7 +133,7 @@ module _ (s : Store) (m : Memory) (w : ℕ) (l : List Range) (ts : List ℕ) (S 
       ∙ rangesAt-over l (partOf (m .merged) w)
 
   go-is : needlessBy (m .merged) w (length l) times p ≡ go
-  go-is = ap₂ needlessOf times-is listed-is
+  go-is = ap₂ needlessOf read-is listed-is
 
   gone-is : needlessCount (m .merged) w (length l) times p ≡ length go
   gone-is = ap length go-is
@@ -153,7 +161,7 @@ module _ (s : Store) (m : Memory) (w : ℕ) (l : List Range) (ts : List ℕ) (S 
   unfolding splitQueue
   queue-split =
       let q : Queue = queueIn m in
-      let stay-is : neededBy (m .merged) w (length l) times p ≡ stay = ap₂ neededOf times-is listed-is in
+      let stay-is : neededBy (m .merged) w (length l) times p ≡ stay = ap₂ neededOf read-is listed-is in
       let stays : length l - needlessCount (m .merged) w (length l) times p ≡ length stay =
       ap (λ (k : ℕ). length l - k) gone-is ∙ omega (arith, length-parts (needed ts) l) in
       let some : length (s .queue) ≤ length (joinedRanges (s .queue)) =
@@ -174,7 +182,7 @@ module _ (s : Store) (m : Memory) (w : ℕ) (l : List Range) (ts : List ℕ) (S 
   left-is = cond-yes (maySplit w (length l) p local) _ 0 may ∙ ap short gone-is ∙ omega (arith, few)
 
   abbrev recordOf : ℕ → Worker
-  recordOf n = record { doing = D.FlushFree n; announced = announcedRep (own .announced); pool = poolRep []; times = replicate 16 0 }
+  recordOf n = record { doing = D.FlushFree n; announced = announcedRep (own .announced); pool = poolRep [] }
 
   merged-split : splitMerged (m .merged) w (length l) times p local ≡ mergedOver (set (s .workers) w after) (m .merged)
   unfolding splitMerged handWords
@@ -187,7 +195,7 @@ module _ (s : Store) (m : Memory) (w : ℕ) (l : List Range) (ts : List ℕ) (S 
   unfolding goIn stepOf nextIn splitIn
   split-sim =
       let test : ltb (length ts) p ≡ false = ap (ltb (length ts)) workers-is ∙ le-ltb (length ts) (s .site .P) all in
-      moved-sim s m w S laid wb d e after pools Going _ _ _ stepped
+      moved-sim s m w S laid wb d e after pools Going _ _ times _ stepped
       (ap (nextIn m w (recordAt s w d)) (cond-no (ltb (length ts) p) (Read (length l) (length ts)) (Split (length l)) test))
       (ap recordOf left-is)
       (queue-kept s m pools _ (omega (
@@ -195,4 +203,4 @@ module _ (s : Store) (m : Memory) (w : ℕ) (l : List Range) (ts : List ℕ) (S 
         length-append (s .queue ++ neededPools b stay) (queuedPool (merge (own .pool) (joining b stay))),
         length-append (s .queue) (neededPools b stay),
       )) queue-split)
-      merged-split
+      (times-kept s S w wb m Z laid d after ts e refl) merged-split

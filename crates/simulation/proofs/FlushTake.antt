@@ -4,7 +4,7 @@ use mathlib.Core.Path.{_≡_, refl, sym, ap, _∙_}
 use mathlib.Core.List.{List, []}
 use Prim.Native.Nat.{ℕ, _*_, _≤_, _<_}
 use native.Mathlib.Omega.{arith}
-use lib.ListN.{length, set, drop, replicate}
+use lib.ListN.{length, set, drop}
 use Rattle.lists.specs.Over.{over}
 use Rattle.model.specs.Store as Model
 use Rattle.model.specs.Store.{Store, Range, workerAt, withDoing}
@@ -17,7 +17,6 @@ use Rattle.arrays.specs.Arrays.{short}
 use Rattle.worker.specs.declared.Worker.{Worker}
 use Rattle.worker.specs.declared.Doing.the-variants as D
 use Rattle.worker.specs.Rep.{poolRep, announcedRep, workerRep}
-use Rattle.worker.proofs.Rep.{padded-nil}
 use Rattle.ranges.specs.Words.{flat}
 use Rattle.ranges.proofs.WordLaws.{length-flat}
 use Rattle.queue.specs.State.{Queue, Begins, taken, rest}
@@ -30,7 +29,7 @@ use Rattle.simulation.specs.Left.{Sized}
 use Rattle.simulation.specs.Shell.{queueIn, tookIn, nextIn, goIn}
 use Rattle.simulation.proofs.Sound.{Sound}
 use Rattle.simulation.proofs.Simulates.{Simulates}
-use Rattle.simulation.proofs.Laid.{all-set, among, list-put}
+use Rattle.simulation.proofs.Laid.{all-set, among, times-kept, list-put}
 use Rattle.simulation.proofs.FlushQueue.{queue-sized, queue-held, pools-few, ranges-few}
 use Rattle.simulation.proofs.Moved.{moved-sim}
 
@@ -58,14 +57,12 @@ module _ (s : Store) (m : Memory) (w : ℕ) (S : Sound s) (Z : Sized m) (B : Beg
       let n = S .bounds .slots .1 in
       take-rep (s .queue) q (queue-sized m Z) B (queue-held s m laid) (omega (arith, pools-few s S)) (omega (arith, ranges-few s S)) few
 
-  abbrev recordOf : ℕ → List ℕ → Worker
-  recordOf n ts =
-      record { doing = D.FlushRead n 0; announced = announcedRep (workerAt s w .announced); pool = poolRep (workerAt s w .pool); times = ts }
+  abbrev recordOf : ℕ → Worker
+  recordOf n =
+      record { doing = D.FlushRead n 0; announced = announcedRep (workerAt s w .announced); pool = poolRep (workerAt s w .pool) }
 
-  record-is : recordOf (short (length (taken q))) (replicate 16 0) ≡ workerRep after
-  record-is =
-      let n : short (length (taken q)) ≡ length two = rw (took .0) (omega (arith, few)) in
-      λ i. recordOf (n i) (sym (padded-nil 16) i)
+  record-is : recordOf (short (length (taken q))) ≡ workerRep after
+  record-is = let n : short (length (taken q)) ≡ length two = rw (took .0) (omega (arith, few)) in ap recordOf n
 
   merged-is : withPart (m .merged) w (over (flat (taken q)) (partOf (m .merged) w)) ≡ mergedOver (set (s .workers) w after) (m .merged)
   unfolding handWords
@@ -76,4 +73,5 @@ module _ (s : Store) (m : Memory) (w : ℕ) (S : Sound s) (Z : Sized m) (B : Beg
   pub flush-take-sim : Simulates s m w Model.FlushTake
   unfolding stepAt flushTake goIn stepOf nextIn tookIn
   flush-take-sim =
-      moved-sim s m w S laid wb Model.FlushTake e after (drop 2 (s .queue)) Going _ (rest q) _ refl refl record-is (took .1) merged-is
+      moved-sim s m w S laid wb Model.FlushTake e after (drop 2 (s .queue)) Going _ (rest q) (m .hub .times) _ refl refl record-is (took .1)
+      (times-kept s S w wb m Z laid Model.FlushTake after [] e refl) merged-is

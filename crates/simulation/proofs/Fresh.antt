@@ -18,12 +18,12 @@ use Rattle.model.specs.Apply.{firstSlots, fresh}
 use Rattle.model.specs.Versions.{alone}
 use Rattle.model.proofs.Basic.{getD-map, map-app}
 use Rattle.worker.specs.declared.Worker.{Worker}
-use Rattle.worker.specs.Rep.{workerRep}
+use Rattle.worker.specs.Rep.{timesRead, workerRep}
 use Rattle.slots.specs.declared.Slot.{Slot}
 use Rattle.slots.specs.Slots.{slotRep, slotOf, vacantSlot, madeSlot, madeTo}
-use Rattle.state.specs.State.{emptyWindow, freshHub}
+use Rattle.state.specs.State.{emptyHub, freshHub}
 use Rattle.arrays.specs.Arrays.{short, fillTo}
-use Rattle.simulation.specs.Memory.{hubRep, handWords, mergedOver}
+use Rattle.simulation.specs.Memory.{partsOver, hubRep, handWords, inHandWords, mergedOver}
 use Rattle.simulation.proofs.Laid.{hub-path}
 
 ------------------------------------------------------------------------
@@ -141,19 +141,24 @@ over-replicate x zero n h = refl
 over-replicate x (suc k) zero h = absurd (omega arith)
 over-replicate x (suc k) (suc n) h = ap (λ l. x ∷ l) (over-replicate x k n (omega arith))
 
-pub hub-made : (b : ℕ) (z : Sizes) (row : List Model.Slot) → z .P ≤ 16 → freshHub (z .P) (z .V') (z .N) (z .clock) ≡ hubRep (fresh b z row) emptyWindow
+-- no worker has a list in its part
+pub parts-made : (n : ℕ) (f : Model.Worker → List ℕ) → f startWorker ≡ [] → (p : ℕ) (d : List ℕ) → d ≡ partsOver n f (replicate p startWorker) d
+unfolding partsOver
+parts-made n f e zero d = refl
+parts-made n f e (suc p) d =
+    sym (take-append-drop n d)
+    ∙ ap (λ (l : List ℕ). l ++ drop n d) (sym (over-nil (take n d)))
+    ∙ (λ i. over (sym e i) (take n d) ++ parts-made n f e p (drop n d) i)
+
+pub hub-made : (b : ℕ) (z : Sizes) (row : List Model.Slot) → z .P ≤ 16 → freshHub (z .P) (z .V') (z .N) (z .clock) ≡ hubRep (fresh b z row) emptyHub
 unfolding fresh
 hub-made b z row h =
-    hub-path refl refl refl refl (sym (up-length (z .V') (z .N - z .V'))) refl
+    hub-path refl refl refl refl (sym (up-length (z .V') (z .N - z .V'))) refl (parts-made 16 (λ x. timesRead (x .doing)) refl (z .P) (replicate 256 0))
     (sym
     (ap (λ (l : List Worker). over l (replicate 16 (workerRep startWorker))) (map-replicate workerRep (z .P) startWorker)
     ∙ over-replicate (workerRep startWorker) (z .P) 16 h))
 
 -- no worker has a list in hand
 pub merged-made : (p : ℕ) (d : List ℕ) → d ≡ mergedOver (replicate p startWorker) d
-unfolding mergedOver handWords
-merged-made zero d = refl
-merged-made (suc p) d =
-    sym (take-append-drop 768 d)
-    ∙ ap (λ (l : List ℕ). l ++ drop 768 d) (sym (over-nil (take 768 d)))
-    ∙ ap (λ (l : List ℕ). over [] (take 768 d) ++ l) (merged-made p (drop 768 d))
+unfolding handWords
+merged-made p d = parts-made 768 (λ x. inHandWords (x .doing)) refl p d

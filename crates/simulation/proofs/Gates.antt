@@ -17,7 +17,7 @@ use Rattle.worker.specs.declared.Worker.{Worker}
 use Rattle.worker.specs.Rep.{doingRep, workerRep}
 use Rattle.record.specs.declared.Decoded.{Decoded}
 use Rattle.state.specs.declared.Hub.{Hub}
-use Rattle.state.specs.State.{emptyWindow, workerIn}
+use Rattle.state.specs.State.{emptyHub, workerIn}
 use Rattle.worker.specs.About.{aboutOf}
 use Rattle.gate.specs.declared.Terms as Code
 use Rattle.gate.specs.declared.Gate.{Gate}
@@ -68,11 +68,11 @@ both M false false g g′ a a′ e f f′ = f′ refl
 
 module _ (s : Store) (S : Sound s) where
   -- a worker below P is the model's worker in memory
-  who-is : (w : ℕ) → ltb w (s .site .P) ≡ true → workerIn (hubRep s emptyWindow) w ≡ workerRep (workerAt s w)
+  who-is : (w : ℕ) → ltb w (s .site .P) ≡ true → workerIn (hubRep s emptyHub) w ≡ workerRep (workerAt s w)
   who-is w i = worker-in s w (S .bounds .workers .2) (S .bounds .workers .1) (ltb-true w (s .site .P) i)
 
   begins : (w : ℕ) (o : Record.Operation)
-      → Means s (beginGate (s .site .P) (s .site .V') w (operationRep o) (workerIn (hubRep s emptyWindow) w .doing) (workerIn (hubRep s emptyWindow) w .announced))
+      → Means s (beginGate (s .site .P) (s .site .V') w (operationRep o) (workerIn (hubRep s emptyHub) w .doing) (workerIn (hubRep s emptyHub) w .announced))
       (begin s w o)
   unfolding beginGate begin
   begins w o =
@@ -97,7 +97,7 @@ module _ (s : Store) (S : Sound s) where
       M = Means s
 
       x : Worker
-      x = workerIn (hubRep s emptyWindow) w
+      x = workerIn (hubRep s emptyHub) w
 
       y : Model.Worker
       y = workerAt s w
@@ -121,7 +121,7 @@ module _ (s : Store) (S : Sound s) where
 
   -- the decision on a record that was read as r is the model's
   pub gate-left : (r : Record.Decoded) (long : ℕ)
-      → Means s (gateBy (decodedRep r) true long (hubRep s emptyWindow)) (applyDecoded inForce (up s) r)
+      → Means s (gateBy (decodedRep r) true long (hubRep s emptyHub)) (applyDecoded inForce (up s) r)
   unfolding whoOf gateOf applyDecoded obey setUp step
   gate-left (Record.Refuses k) long = refl
   gate-left (Record.Asks (Record.SetUp z)) long = refl

@@ -19,7 +19,7 @@ use Rattle.versions.specs.Versions.{slotAtIn}
 use Rattle.worker.specs.declared.Pool.{Pool}
 use Rattle.worker.specs.declared.Worker.{Worker}
 use Rattle.worker.specs.Pool.{appended}
-use Rattle.worker.specs.Rep.{poolRep, announcedRep, workerRep}
+use Rattle.worker.specs.Rep.{timesRead, poolRep, announcedRep, workerRep}
 use Rattle.worker.proofs.Ranges.{append-rep}
 use Rattle.step.specs.Step.{stepOf}
 use Rattle.flush.specs.Flush.{HandedIn, word, handedPool, handed, putHandInStep}
@@ -28,7 +28,7 @@ use Rattle.simulation.specs.Left.{Sized}
 use Rattle.simulation.specs.Shell.{withRecord, answered, queueIn, handedIn, nextIn, goIn}
 use Rattle.simulation.proofs.Sound.{Sound, PlaceIn}
 use Rattle.simulation.proofs.Simulates.{Simulates}
-use Rattle.simulation.proofs.Laid.{all-set, slot-is, place-at, among, list-kept}
+use Rattle.simulation.proofs.Laid.{times-kept, all-set, slot-is, place-at, among, list-kept}
 use Rattle.simulation.proofs.FlushQueue.{queue-held, queue-kept}
 use Rattle.simulation.proofs.Moved.{workers-byte, moved-sim}
 
@@ -37,7 +37,7 @@ abbrev after : Bool → Model.Worker → List Range → Model.Worker
 after t x p = record { doing = cond t Model.FlushTake Model.Idle; announced = x .announced; pool = p }
 
 abbrev recordOf : Model.Worker → HandedIn → Worker
-recordOf x z = record { doing = z .doing; announced = announcedRep (x .announced); pool = z .pool; times = replicate 16 0 }
+recordOf x z = record { doing = z .doing; announced = announcedRep (x .announced); pool = z .pool }
 
 record-is : (x : Model.Worker) (p : List Range) (t : Bool) → recordOf x (handed (poolRep p) t) ≡ workerRep (after t x p)
 record-is x p true = refl
@@ -52,6 +52,10 @@ no-list : (r c : ℕ) (t : Bool) → inHandWords (Model.PutHandIn r c) ≡ inHan
 unfolding handWords
 no-list r c true = refl
 no-list r c false = refl
+
+no-times : (r c : ℕ) (t : Bool) → timesRead (Model.PutHandIn r c) ≡ timesRead (cond t Model.FlushTake Model.Idle) ++ []
+no-times r c true = refl
+no-times r c false = refl
 
 module _ (s : Store) (m : Memory) (w r c : ℕ) (S : Sound s) (Z : Sized m) (laid : m ≡ write s m) (wb : w < s .site .P)
     (e : workerAt s w .doing ≡ Model.PutHandIn r c) (next : Sound (stepAt s w (Model.PutHandIn r c) .store)) where
@@ -99,7 +103,8 @@ module _ (s : Store) (m : Memory) (w r c : ℕ) (S : Sound s) (Z : Sized m) (lai
   unfolding stepAt putHandIn goIn stepOf nextIn handedIn
   put-hand-in-sim =
       let x : Model.Worker = after full own pool in
-      moved-sim s m w S laid wb d e x (s .queue) (cond full Going Done) (recordOf own (handed (poolRep pool) full)) (queueIn m) (m .merged)
+      moved-sim s m w S laid wb d e x (s .queue) (cond full Going Done) (recordOf own (handed (poolRep pool) full)) (queueIn m) (m .hub .times) (m .merged)
       (ap (λ (y : Model·Answer.Answer). record { store = withWorker s w x; answer = y }) (same-answer full))
       (ap (λ (z : HandedIn). answered (withRecord m w (recordOf own z)) (z .answer)) handed-is)
-      (record-is own pool full) (queue-kept s m (s .queue) (queueIn m) (omega arith) (queue-held s m laid)) (list-kept s S w wb m Z laid d x [] e (no-list r c full))
+      (record-is own pool full) (queue-kept s m (s .queue) (queueIn m) (omega arith) (queue-held s m laid))
+      (times-kept s S w wb m Z laid d x [] e (no-times r c full)) (list-kept s S w wb m Z laid d x [] e (no-list r c full))

@@ -12,7 +12,7 @@ use Rattle.values.specs.Meaning.{answerOf}
 use Rattle.values.specs.declared.Answer.{Answer}
 use Rattle.slots.specs.declared.Slot.{Slot}
 use Rattle.slots.specs.Slots.{slotRep}
-use Rattle.worker.specs.Rep.{doingRep, announcedRep, timesRep}
+use Rattle.worker.specs.Rep.{doingRep, announcedRep, timesRead}
 use Rattle.step.specs.declared.Next.the-variants.{Taken}
 use Rattle.announcing.specs.Announcing.{outcomeOf}
 use Rattle.simulation.specs.Memory.{Memory, inHandWords, write}
@@ -31,7 +31,7 @@ module _ (s : Store) (m : Memory) (w : ℕ) (d : Model.Doing)
       → row ≡ over (map slotRep l) (m .slots)
       → stepAt s w d
       ≡ record { store = after s w (record { doing = d′; announced = t; pool = workerAt s w .pool }) k l (s .newest) (s .free); answer = answerOf y }
-      → timesRep d ≡ timesRep d′ → inHandWords d ≡ inHandWords d′ ++ [] → Simulates s m w d
+      → timesRead d ≡ timesRead d′ ++ [] → inHandWords d ≡ inHandWords d′ ++ [] → Simulates s m w d
   kept-sim d′ t k l y found slots model times words =
       let x : Model.Worker = record { doing = d′; announced = t; pool = workerAt s w .pool } in
       taken-sim s m w d S Z laid wb e x k l (s .newest) (s .free) y

@@ -5,21 +5,22 @@ use mathlib.Core.List.{List, _++_, map, reverse}
 use Prim.Native.Nat.{ℕ, _*_, _≤_, _<_}
 use lib.ListN.{length, getD, set, length-set}
 use lib.Seq.{getD-set-same}
+use native.Mathlib.Omega.{arith}
 use Rattle.lists.specs.Over.{over, overAt}
 use Rattle.model.specs.Store as Model
 use Rattle.model.specs.Store.{Store, up, startWorker, workerAt, slotAt, withWorker, withDoing}
 use Rattle.model.specs.Demand.{All}
 use Rattle.model.proofs.Basic.{All-at}
-use Rattle.worker.specs.Rep.{workerRep}
+use Rattle.worker.specs.Rep.{timesRead, workerRep}
 use Rattle.slots.specs.declared.Slot.{Slot}
 use Rattle.slots.specs.Slots.{slotRep, vacantSlot}
 use Rattle.ranges.specs.Words.{flat}
 use Rattle.queue.specs.Rep.{joinedRanges}
 use Rattle.state.specs.declared.Hub.{Hub}
-use Rattle.state.specs.State.{emptyWindow, workerIn, withWorkerIn}
+use Rattle.state.specs.State.{emptyHub, workerIn, withWorkerIn, withWindowIn, withTimesIn}
 use Rattle.flush.specs.Flush.{partOf, withPart}
 use Rattle.values.specs.declared.Window.{Window}
-use Rattle.simulation.specs.Memory.{Memory, hubRep, inHandWords, mergedOver, write, beginAt, writeHub}
+use Rattle.simulation.specs.Memory.{Memory, timesOver, hubRep, inHandWords, mergedOver, write, beginAt, writeHub}
 use Rattle.queue.proofs.Rep.{window-kept}
 use Rattle.simulation.specs.Left.{Sized}
 use Rattle.simulation.proofs.Laws.{worker-in, worker-set, slot-at, part-of, part-set, part-kept}
@@ -45,9 +46,9 @@ memory-path h s n f q l g =
     λ i. record { hub = h i; slots = s i; newest = n i; free = f i; queue = q i; lens = l i; merged = g i }
 
 pub hub-path : {h h′ : Hub} → h .p ≡ h′ .p → h .v ≡ h′ .v → h .n ≡ h′ .n → h .clock ≡ h′ .clock → h .free ≡ h′ .free
-    → h .window ≡ h′ .window → h .workers ≡ h′ .workers → h ≡ h′
-hub-path p v n c f q w =
-    λ i. record { p = p i; v = v i; n = n i; clock = c i; free = f i; window = q i; workers = w i }
+    → h .window ≡ h′ .window → h .times ≡ h′ .times → h .workers ≡ h′ .workers → h ≡ h′
+hub-path p v n c f q t w =
+    λ i. record { p = p i; v = v i; n = n i; clock = c i; free = f i; window = q i; times = t i; workers = w i }
 
 ------------------------------------------------------------------------
 -- The member of a list that was replaced
@@ -58,7 +59,7 @@ all-set P l i x h t = subst P (getD-set-same l i x x h) (All-at P (set l i x) i 
 -- Memory in which the store s lies
 
 module _ (s : Store) (m : Memory) (laid : m ≡ write s m) where
-  pub hub-is : m .hub ≡ hubRep s (m .hub .window)
+  pub hub-is : m .hub ≡ hubRep s (m .hub)
   hub-is = ap (λ (x : Memory). x .hub) laid
 
   pub slots-is : m .slots ≡ over (map slotRep (s .slots)) (m .slots)
@@ -76,6 +77,9 @@ module _ (s : Store) (m : Memory) (laid : m ≡ write s m) where
   pub lens-is : m .lens ≡ overAt (m .hub .window .first) (map length (s .queue)) (m .lens)
   lens-is = ap (λ (x : Memory). x .lens) laid
 
+  pub times-is : m .hub .times ≡ timesOver (s .workers) (m .hub .times)
+  times-is = ap (λ (x : Memory). x .hub .times) laid
+
   pub merged-is : m .merged ≡ mergedOver (s .workers) (m .merged)
   merged-is = ap (λ (x : Memory). x .merged) laid
 
@@ -85,14 +89,15 @@ module _ (s : Store) (m : Memory) (laid : m ≡ write s m) where
 
 -- a store without fewer pools is written where the window begins
 pub write-kept : (s t : Store) (m : Memory) → length (s .queue) ≤ length (t .queue) → write t m ≡ writeHub (up s) (up t) m
-write-kept s t m h = ap (λ (v : Window). write t (beginAt m v)) (sym (window-kept (s .queue) (t .queue) (m .hub .window) h))
+write-kept s t m h =
+    ap (λ (v : Window). write t (beginAt m (withWindowIn (m .hub) v))) (sym (window-kept (s .queue) (t .queue) (m .hub .window) h))
 
 ------------------------------------------------------------------------
 -- A worker of a sound store
 
 module _ (s : Store) (S : Sound s) (w : ℕ) (wb : w < s .site .P) where
   -- of the hub by value, at the place d
-  pub worker-at : (d : Model.Doing) → workerAt s w .doing ≡ d → workerIn (hubRep s emptyWindow) w ≡ workerRep (withDoing (workerAt s w) d)
+  pub worker-at : (d : Model.Doing) → workerAt s w .doing ≡ d → workerIn (hubRep s emptyHub) w ≡ workerRep (withDoing (workerAt s w) d)
   worker-at d e =
       worker-in s w (S .bounds .workers .2) (S .bounds .workers .1) wb ∙ ap (λ (y : Model.Doing). workerRep (withDoing (workerAt s w) y)) e
 
@@ -105,27 +110,39 @@ module _ (s : Store) (S : Sound s) (w : ℕ) (wb : w < s .site .P) where
   pub pool-short : length (workerAt s w .pool) ≤ s .site .B
   pool-short = All-at (λ x. length (x .pool) ≤ s .site .B) (s .workers) w startWorker among (S .bounds .local)
 
-  -- its record replaced
-  pub worker-put : (v : Window) (x : Model.Worker) → withWorkerIn (hubRep s v) w (workerRep x) ≡ hubRep (withWorker s w x) v
-  worker-put v x = worker-set s v w x (S .bounds .workers .2) (S .bounds .workers .1) wb
-
   -- the list that it has in hand, in memory in which the store lies
   module _ (m : Memory) (Z : Sized m) (laid : m ≡ write s m) where
     at-most-16 : length (s .workers) ≤ 16
     at-most-16 = rw (S .bounds .workers .2) (S .bounds .workers .1)
 
+    -- its record replaced, where a front part of the times that it has read is left
+    pub times-kept : (d : Model.Doing) (x : Model.Worker) (l : List ℕ) → workerAt s w .doing ≡ d → timesRead d ≡ timesRead (x .doing) ++ l
+        → m .hub .times ≡ timesOver (set (s .workers) w x) (m .hub .times)
+    times-kept d x l e h =
+        part-kept 16 (λ y. timesRead (y .doing)) (s .workers) (m .hub .times) w x l (omega (arith, at-most-16, Z .times)) among
+        (ap timesRead e ∙ h) (times-is s m laid)
+
+    pub worker-put : (d : Model.Doing) (x : Model.Worker) (l : List ℕ) → workerAt s w .doing ≡ d → timesRead d ≡ timesRead (x .doing) ++ l
+        → withWorkerIn (hubRep s (m .hub)) w (workerRep x) ≡ hubRep (withWorker s w x) (m .hub)
+    worker-put d x l e h =
+        worker-set s (m .hub) w x (S .bounds .workers .2) (S .bounds .workers .1) wb
+        ∙ ap (withTimesIn (hubRep (withWorker s w x) (m .hub))) (sym (times-is s m laid) ∙ times-kept d x l e h)
+
     pub list-is : (d : Model.Doing) → workerAt s w .doing ≡ d → length (inHandWords d) ≤ 768
         → partOf (m .merged) w ≡ over (inHandWords d) (partOf (m .merged) w)
     list-is d e h =
-        part-of (s .workers) (m .merged) w (Z .merged) at-most-16 among (rw e h) (merged-is s m laid)
+        part-of 768 (λ y. inHandWords (y .doing)) (s .workers) (m .merged) w (omega (arith, at-most-16, Z .merged)) among (merged-is s m laid)
         ∙ ap (λ (y : Model.Doing). over (inHandWords y) (partOf (m .merged) w)) e
 
     -- a front part of it is left
     pub list-kept : (d : Model.Doing) (x : Model.Worker) (l : List ℕ) → workerAt s w .doing ≡ d → inHandWords d ≡ inHandWords (x .doing) ++ l
         → m .merged ≡ mergedOver (set (s .workers) w x) (m .merged)
-    list-kept d x l e h = part-kept (s .workers) (m .merged) w x l (Z .merged) at-most-16 among (ap inHandWords e ∙ h) (merged-is s m laid)
+    list-kept d x l e h =
+        part-kept 768 (λ y. inHandWords (y .doing)) (s .workers) (m .merged) w x l (omega (arith, at-most-16, Z .merged)) among
+        (ap inHandWords e ∙ h) (merged-is s m laid)
 
     -- another list is put there
     pub list-put : (x : Model.Worker) → length (inHandWords (x .doing)) ≤ 768
         → withPart (m .merged) w (over (inHandWords (x .doing)) (partOf (m .merged) w)) ≡ mergedOver (set (s .workers) w x) (m .merged)
-    list-put x h = part-set (s .workers) (m .merged) w x (Z .merged) at-most-16 among h (merged-is s m laid)
+    list-put x h =
+        part-set 768 (λ y. inHandWords (y .doing)) (s .workers) (m .merged) w x (omega (arith, at-most-16, Z .merged)) among (merged-is s m laid)

@@ -4,8 +4,9 @@ use mathlib.Core.List.{List, [], _∷_, _++_, map, reverse, reverse-cons, append
 use Prim.Native.Nat.{ℕ, zero, suc, _+_, _-_, _*_, _≤_, _<_}
 use native.Mathlib.Nat.{le-of-suc-le-suc, not-suc-le-zero}
 use native.Mathlib.Omega.{arith}
+use native.Mathlib.Nat.{mul-comm, suc-mul, mul-le-mul-right}
 use lib.ListN.{length, getD, set, take, drop, replicate, length-append, length-take, length-drop, length-set, length-map, length-reverse, take-append-drop}
-use lib.Seq.{set-append-left, take-all, drop-append-add, drop-at, take-at, take-add, drop-drop, getD-at}
+use lib.Seq.{take-set-lt, drop-set-lt, length-take-le, set-append-left, take-all, drop-append-add, drop-at, take-at, take-add, drop-drop, getD-at}
 use borrow.Author.Tests.{lt-ltb}
 use Rattle.lists.specs.Over.{over}
 use Rattle.lists.proofs.Over.{over-push, getD-over-in}
@@ -16,11 +17,10 @@ use Rattle.worker.specs.declared.Worker.{Worker}
 use Rattle.worker.specs.Rep.{workerRep}
 use Rattle.slots.specs.declared.Slot.{Slot}
 use Rattle.slots.specs.Slots.{slotRep, vacantSlot}
-use Rattle.values.specs.declared.Window.{Window}
-use Rattle.state.specs.State.{emptyWindow, nobody, workerIn, withWorkersIn, withWorkerIn}
+use Rattle.state.specs.declared.Hub.{Hub}
+use Rattle.state.specs.State.{emptyHub, nobody, workerIn, withWorkersIn, withWorkerIn, withTimesIn}
 use Rattle.step.specs.Step.{newestAt}
-use Rattle.flush.specs.Flush.{partOf, withPart}
-use Rattle.simulation.specs.Memory.{hubRep, inHandWords, mergedOver}
+use Rattle.simulation.specs.Memory.{hubRep, timesOver, partsOver}
 
 ------------------------------------------------------------------------
 -- Memory whose front is replaced
@@ -95,17 +95,17 @@ mapped-set {A} {B} f l d i v h = over-set (map f l) d i (f v) (rw (length-map l 
 
 -- a worker's record is the model's worker in memory
 pub worker-in : (s : Store) (w : ℕ) → length (s .workers) ≡ s .site .P → s .site .P ≤ 16 → w < s .site .P
-    → workerIn (hubRep s emptyWindow) w ≡ workerRep (workerAt s w)
+    → workerIn (hubRep s emptyHub) w ≡ workerRep (workerAt s w)
 worker-in s w e b h =
     let k : w < length (s .workers) = omega arith in
     getD-over-in (map workerRep (s .workers)) (replicate 16 (workerRep startWorker)) w nobody (rw (length-map (s .workers) workerRep) k)
     ∙ getD-map workerRep (s .workers) w startWorker nobody k
 
 -- a worker's record replaced is the model's worker replaced
-pub worker-set : (s : Store) (v : Window) (w : ℕ) (x : Model.Worker) → length (s .workers) ≡ s .site .P → s .site .P ≤ 16 → w < s .site .P
-    → withWorkerIn (hubRep s v) w (workerRep x) ≡ hubRep (withWorker s w x) v
-worker-set s v w x e b h =
-    ap (λ (l : List Worker). withWorkersIn (hubRep s v) l) (mapped-set workerRep (s .workers) (replicate 16 (workerRep startWorker)) w x (omega arith))
+pub worker-set : (s : Store) (k : Hub) (w : ℕ) (x : Model.Worker) → length (s .workers) ≡ s .site .P → s .site .P ≤ 16 → w < s .site .P
+    → withWorkerIn (hubRep s k) w (workerRep x) ≡ withTimesIn (hubRep (withWorker s w x) k) (timesOver (s .workers) (k .times))
+worker-set s k w x e b h =
+    ap (λ (l : List Worker). withWorkersIn (hubRep s k) l) (mapped-set workerRep (s .workers) (replicate 16 (workerRep startWorker)) w x (omega arith))
 
 ------------------------------------------------------------------------
 -- The row of slots
@@ -149,124 +149,153 @@ free-push c l d h e =
     ∙ ap (λ (r : List ℕ). over r d) (sym (reverse-cons c l))
 
 ------------------------------------------------------------------------
--- The lists that flushes have in hand
+-- Workers' parts of memory
 
--- writing the lists shortens nothing
-merged-long : (ws : List Model.Worker) (d : List ℕ) → length d ≤ length (mergedOver ws d)
-unfolding mergedOver
-merged-long [] d = omega arith
-merged-long (x ∷ l) d =
-    let a : List ℕ = over (inHandWords (x .doing)) (take 768 d) in
-    let b : List ℕ = mergedOver l (drop 768 d) in
-    omega (
-      arith,
-      length-append a b,
-      over-long (inHandWords (x .doing)) (take 768 d),
-      merged-long l (drop 768 d),
-      length-take 768 d,
-      length-drop 768 d,
-    )
+-- an entry behind the first a
+set-behind : (a k : ℕ) (d : List ℕ) (v : ℕ) → a ≤ length d → set d (a + k) v ≡ take a d ++ set (drop a d) k v
+set-behind zero k d v h = let z : 0 + k ≡ k = omega arith in rw z
+set-behind (suc a) k [] v h = absurd (omega arith)
+set-behind (suc a) k (x ∷ d) v h =
+    let z : suc a + k ≡ suc (a + k) = omega arith in
+    rw z (ap (λ (l : List ℕ). x ∷ l) (set-behind a k d v (omega arith)))
 
--- memory that holds the lists holds the first in its first part and the others in the rest
-merged-parts : (x : Model.Worker) (l : List Model.Worker) (d : List ℕ) → 768 ≤ length d → d ≡ mergedOver (x ∷ l) d
-    → (take 768 d ≡ over (inHandWords (x .doing)) (take 768 d)) × (drop 768 d ≡ mergedOver l (drop 768 d))
-unfolding mergedOver
-merged-parts x l d h e =
-    let a : List ℕ = over (inHandWords (x .doing)) (take 768 d) in
-    let b : List ℕ = mergedOver l (drop 768 d) in
-    let n : length a ≡ 768 =
-    omega (
-      arith,
-      ap length e,
-      length-append a b,
-      over-long (inHandWords (x .doing)) (take 768 d),
-      merged-long l (drop 768 d),
-      length-take 768 d,
-      length-drop 768 d,
-    ) in
-    (ap (take 768) e ∙ take-at a b 768 n, ap (drop 768) e ∙ drop-at a b 768 n)
+module _ (n : ℕ) (f : Model.Worker → List ℕ) where
+  -- worker w's part, and the memory with that part replaced
+  abbrev part : List ℕ → ℕ → List ℕ
+  part d w = take n (drop (n * w) d)
 
--- a worker's part, counted from the second worker on
-next-part : (w : ℕ) (d : List ℕ) → drop (768 * suc w) d ≡ drop (768 * w) (drop 768 d)
-next-part w d =
-    let z : 768 * suc w ≡ 768 + 768 * w = omega arith in
-    rw z (sym (drop-drop (768 * w) 768 d))
+  abbrev within : List ℕ → ℕ → List ℕ → List ℕ
+  within d w p = take (n * w) d ++ (p ++ drop (n * w + n) d)
 
-parts-before : (w : ℕ) (d : List ℕ) → take (768 * suc w) d ≡ take 768 d ++ take (768 * w) (drop 768 d)
-parts-before w d =
-    let z : 768 * suc w ≡ 768 + 768 * w = omega arith in
-    rw z (take-add 768 (768 * w) d)
+  -- one worker more
+  pub next-size : (w : ℕ) → n * suc w ≡ n + n * w
+  next-size w = omega (arith, mul-comm n (suc w), suc-mul w n, mul-comm n w)
 
-parts-after : (w : ℕ) (d : List ℕ) → drop (768 * suc w + 768) d ≡ drop (768 * w + 768) (drop 768 d)
-parts-after w d =
-    let z : 768 * suc w + 768 ≡ 768 + (768 * w + 768) = omega arith in
-    rw z (sym (drop-drop (768 * w + 768) 768 d))
+  first-size : n * 0 ≡ 0
+  first-size = omega arith
 
--- the three laws below of any number of workers, where the memory has room for them
-part-of′ : (ws : List Model.Worker) (d : List ℕ) (w : ℕ) → 768 * length ws ≤ length d → w < length ws
-    → d ≡ mergedOver ws d → partOf d w ≡ over (inHandWords (getD ws w startWorker .doing)) (partOf d w)
-part-of′ [] d w r h i = absurd (not-suc-le-zero h)
-part-of′ (y ∷ l) d zero r h i = merged-parts y l d (omega arith) i .0
-part-of′ (y ∷ l) d (suc w) r h i =
-    rw (next-part w d)
-    (part-of′ l (drop 768 d) w (rw (length-drop 768 d) (omega arith)) (le-of-suc-le-suc h) (merged-parts y l d (omega arith) i .1))
+  first-end : 0 + n ≡ n
+  first-end = omega arith
 
-part-set′ : (ws : List Model.Worker) (d : List ℕ) (w : ℕ) (x : Model.Worker) → 768 * length ws ≤ length d → w < length ws
-    → d ≡ mergedOver ws d → withPart d w (over (inHandWords (x .doing)) (partOf d w)) ≡ mergedOver (set ws w x) d
-unfolding mergedOver
-part-set′ [] d w x r h i = absurd (not-suc-le-zero h)
-part-set′ (y ∷ l) d zero x r h i =
-    ap (λ (z : List ℕ). over (inHandWords (x .doing)) (take 768 d) ++ z) (merged-parts y l d (omega arith) i .1)
-part-set′ (y ∷ l) d (suc w) x r h i =
-    let f : List ℕ = take 768 d in
-    let t : List ℕ = drop 768 d in
-    let p = merged-parts y l d (omega arith) i in
-    let e : withPart t w (over (inHandWords (x .doing)) (partOf t w)) ≡ mergedOver (set l w x) t =
-    part-set′ l t w x (rw (length-drop 768 d) (omega arith)) (le-of-suc-le-suc h) (p .1) in
-    rw (parts-before w d, next-part w d, parts-after w d)
-    (append-assoc f (take (768 * w) t) (over (inHandWords (x .doing)) (partOf t w) ++ drop (768 * w + 768) t)
-    ∙ ap (λ (z : List ℕ). f ++ z) e
-    ∙ ap (λ (z : List ℕ). z ++ mergedOver (set l w x) t) (p .0))
+  -- writing the lists shortens nothing
+  merged-long : (ws : List Model.Worker) (d : List ℕ) → length d ≤ length (partsOver n f ws d)
+  unfolding partsOver
+  merged-long [] d = omega arith
+  merged-long (x ∷ l) d =
+      let a : List ℕ = over (f x) (take n d) in
+      let b : List ℕ = partsOver n f l (drop n d) in
+      omega (
+        arith,
+        length-append a b,
+        over-long (f x) (take n d),
+        merged-long l (drop n d),
+        length-take n d,
+        length-drop n d,
+      )
 
-part-kept′ : (ws : List Model.Worker) (d : List ℕ) (w : ℕ) (x : Model.Worker) (l : List ℕ) → 768 * length ws ≤ length d → w < length ws
-    → inHandWords (getD ws w startWorker .doing) ≡ inHandWords (x .doing) ++ l
-    → d ≡ mergedOver ws d → d ≡ mergedOver (set ws w x) d
-unfolding mergedOver
-part-kept′ [] d w x q r h k i = absurd (not-suc-le-zero h)
-part-kept′ (y ∷ l) d zero x q r h k i =
-    let f : List ℕ = take 768 d in
-    let p = merged-parts y l d (omega arith) i in
-    let a : f ≡ over (inHandWords (x .doing)) f = over-front (inHandWords (x .doing)) q f (p .0 ∙ ap (λ (z : List ℕ). over z f) k) in
-    sym (take-append-drop 768 d) ∙ ap (λ (z : List ℕ). z ++ drop 768 d) a ∙ ap (λ (z : List ℕ). over (inHandWords (x .doing)) f ++ z) (p .1)
-part-kept′ (y ∷ l) d (suc w) x q r h k i =
-    let f : List ℕ = take 768 d in
-    let t : List ℕ = drop 768 d in
-    let p = merged-parts y l d (omega arith) i in
-    let e : t ≡ mergedOver (set l w x) t =
-    part-kept′ l t w x q (rw (length-drop 768 d) (omega arith)) (le-of-suc-le-suc h) k (p .1) in
-    sym (take-append-drop 768 d) ∙ ap (λ (z : List ℕ). z ++ t) (p .0) ∙ ap (λ (z : List ℕ). over (inHandWords (y .doing)) f ++ z) e
+  -- memory that holds the lists holds the first in its first part and the others in the rest
+  merged-parts : (x : Model.Worker) (l : List Model.Worker) (d : List ℕ) → n ≤ length d → d ≡ partsOver n f (x ∷ l) d
+      → (take n d ≡ over (f x) (take n d)) × (drop n d ≡ partsOver n f l (drop n d))
+  unfolding partsOver
+  merged-parts x l d h e =
+      let a : List ℕ = over (f x) (take n d) in
+      let b : List ℕ = partsOver n f l (drop n d) in
+      let long : length a ≡ n =
+      omega (
+        arith,
+        ap length e,
+        length-append a b,
+        over-long (f x) (take n d),
+        merged-long l (drop n d),
+        length-take n d,
+        length-drop n d,
+      ) in
+      (ap (take n) e ∙ take-at a b n long, ap (drop n) e ∙ drop-at a b n long)
 
--- of 16 workers at the most, 768 words each
-pub part-of : (ws : List Model.Worker) (d : List ℕ) (w : ℕ) → length d ≡ 12288 → length ws ≤ 16 → w < length ws
-    → length (inHandWords (getD ws w startWorker .doing)) ≤ 768
-    → d ≡ mergedOver ws d → partOf d w ≡ over (inHandWords (getD ws w startWorker .doing)) (partOf d w)
-part-of ws d w e b h k i = part-of′ ws d w (omega arith) h i
+  -- a worker's part, counted from the second worker on
+  next-part : (w : ℕ) (d : List ℕ) → drop (n * suc w) d ≡ drop (n * w) (drop n d)
+  next-part w d =
+      let z = next-size w in
+      rw z (sym (drop-drop (n * w) n d))
 
--- a worker's list replaced in its part
-pub part-set : (ws : List Model.Worker) (d : List ℕ) (w : ℕ) (x : Model.Worker) → length d ≡ 12288 → length ws ≤ 16 → w < length ws
-    → length (inHandWords (x .doing)) ≤ 768
-    → d ≡ mergedOver ws d → withPart d w (over (inHandWords (x .doing)) (partOf d w)) ≡ mergedOver (set ws w x) d
-part-set ws d w x e b h k i = part-set′ ws d w x (omega arith) h i
+  parts-before : (w : ℕ) (d : List ℕ) → take (n * suc w) d ≡ take n d ++ take (n * w) (drop n d)
+  parts-before w d =
+      let z = next-size w in
+      rw z (take-add n (n * w) d)
 
--- a worker that goes on to a place whose list is a front part of the one it had
-pub part-kept : (ws : List Model.Worker) (d : List ℕ) (w : ℕ) (x : Model.Worker) (l : List ℕ) → length d ≡ 12288 → length ws ≤ 16 → w < length ws
-    → inHandWords (getD ws w startWorker .doing) ≡ inHandWords (x .doing) ++ l
-    → d ≡ mergedOver ws d → d ≡ mergedOver (set ws w x) d
-part-kept ws d w x l e b h k i = part-kept′ ws d w x l (omega arith) h k i
+  parts-after : (w : ℕ) (d : List ℕ) → drop (n * suc w + n) d ≡ drop (n * w + n) (drop n d)
+  parts-after w d =
+      let z : n * suc w + n ≡ n + (n * w + n) = omega (arith, next-size w) in
+      rw z (sym (drop-drop (n * w + n) n d))
 
--- changes of other workers' places that change no list
-pub merged-map : (f : Model.Worker → Model.Worker) → ((x : Model.Worker) → inHandWords (f x .doing) ≡ inHandWords (x .doing))
-    → (ws : List Model.Worker) (d : List ℕ) → mergedOver (map f ws) d ≡ mergedOver ws d
-unfolding mergedOver
-merged-map f e [] d = refl
-merged-map f e (x ∷ ws) d = rw (e x, merged-map f e ws (drop 768 d))
+  -- the list of worker w in its part, another one put there, and a front part of it left
+  pub part-of : (ws : List Model.Worker) (d : List ℕ) (w : ℕ) → n * length ws ≤ length d → w < length ws
+      → d ≡ partsOver n f ws d → part d w ≡ over (f (getD ws w startWorker)) (part d w)
+  part-of [] d w r h i = absurd (not-suc-le-zero h)
+  part-of (y ∷ l) d zero r h i = rw first-size (merged-parts y l d (omega (arith, next-size (length l))) i .0)
+  part-of (y ∷ l) d (suc w) r h i =
+      rw (next-part w d)
+      (part-of l (drop n d) w (rw (length-drop n d) (omega (arith, next-size (length l)))) (le-of-suc-le-suc h) (merged-parts y l d (omega (arith, next-size (length l))) i .1))
+
+  pub part-set : (ws : List Model.Worker) (d : List ℕ) (w : ℕ) (x : Model.Worker) → n * length ws ≤ length d → w < length ws
+      → d ≡ partsOver n f ws d → within d w (over (f x) (part d w)) ≡ partsOver n f (set ws w x) d
+  unfolding partsOver
+  part-set [] d w x r h i = absurd (not-suc-le-zero h)
+  part-set (y ∷ l) d zero x r h i =
+      rw (first-size, first-end) (ap (λ (z : List ℕ). over (f x) (take n d) ++ z) (merged-parts y l d (omega (arith, next-size (length l))) i .1))
+  part-set (y ∷ l) d (suc w) x r h i =
+      let front : List ℕ = take n d in
+      let t : List ℕ = drop n d in
+      let p = merged-parts y l d (omega (arith, next-size (length l))) i in
+      let e : within t w (over (f x) (part t w)) ≡ partsOver n f (set l w x) t =
+      part-set l t w x (rw (length-drop n d) (omega (arith, next-size (length l)))) (le-of-suc-le-suc h) (p .1) in
+      rw (parts-before w d, next-part w d, parts-after w d)
+      (append-assoc front (take (n * w) t) (over (f x) (part t w) ++ drop (n * w + n) t)
+      ∙ ap (λ (z : List ℕ). front ++ z) e
+      ∙ ap (λ (z : List ℕ). z ++ partsOver n f (set l w x) t) (p .0))
+
+  pub part-kept : (ws : List Model.Worker) (d : List ℕ) (w : ℕ) (x : Model.Worker) (l : List ℕ) → n * length ws ≤ length d → w < length ws
+      → f (getD ws w startWorker) ≡ f x ++ l
+      → d ≡ partsOver n f ws d → d ≡ partsOver n f (set ws w x) d
+  unfolding partsOver
+  part-kept [] d w x q r h k i = absurd (not-suc-le-zero h)
+  part-kept (y ∷ l) d zero x q r h k i =
+      let front : List ℕ = take n d in
+      let p = merged-parts y l d (omega (arith, next-size (length l))) i in
+      let a : front ≡ over (f x) front = over-front (f x) q front (p .0 ∙ ap (λ (z : List ℕ). over z front) k) in
+      sym (take-append-drop n d) ∙ ap (λ (z : List ℕ). z ++ drop n d) a ∙ ap (λ (z : List ℕ). over (f x) front ++ z) (p .1)
+  part-kept (y ∷ l) d (suc w) x q r h k i =
+      let front : List ℕ = take n d in
+      let t : List ℕ = drop n d in
+      let p = merged-parts y l d (omega (arith, next-size (length l))) i in
+      let e : t ≡ partsOver n f (set l w x) t =
+      part-kept l t w x q (rw (length-drop n d) (omega (arith, next-size (length l)))) (le-of-suc-le-suc h) k (p .1) in
+      sym (take-append-drop n d) ∙ ap (λ (z : List ℕ). z ++ t) (p .0) ∙ ap (λ (z : List ℕ). over (f y) front ++ z) e
+
+  -- one entry more in it
+  pub part-more : (ws : List Model.Worker) (d : List ℕ) (w : ℕ) (x : Model.Worker) (v : ℕ) → n * length ws ≤ length d → w < length ws
+      → length (f (getD ws w startWorker)) < n → f x ≡ f (getD ws w startWorker) ++ (v ∷ [])
+      → d ≡ partsOver n f ws d → set d (n * w + length (f (getD ws w startWorker))) v ≡ partsOver n f (set ws w x) d
+  part-more ws d w x v r h k e i =
+      let l : List ℕ = f (getD ws w startWorker) in
+      let a : ℕ = n * w in
+      let b : List ℕ = drop a d in
+      let inside : a + n ≤ length d = omega (arith, r, mul-le-mul-right n h, mul-comm n (length ws), suc-mul w n, mul-comm n w) in
+      let long : length (take a d) ≡ a = length-take-le a d (omega arith) in
+      let held : take n b ≡ over l (take n b) = part-of ws d w r h i in
+      let more : set (take n b) (length l) v ≡ over (l ++ (v ∷ [])) (take n b) =
+      ap (λ (z : List ℕ). set z (length l) v) held
+      ∙ over-push l (take n b) (length l) v refl (rw (length-take-le n b (rw (length-drop a d) (omega arith))) k) in
+      set-behind a (length l) d v (omega arith)
+      ∙ ap (λ (z : List ℕ). take a d ++ z)
+      (sym (take-append-drop n (set b (length l) v))
+      ∙ (λ j. take-set-lt n b (length l) v k j ++ drop-set-lt n b (length l) v k j)
+      ∙ (λ j. (more ∙ ap (λ (z : List ℕ). over z (take n b)) (sym e)) j ++ drop-drop n a d j))
+      ∙ part-set ws d w x r h i
+
+  -- changes of workers' places that change no list
+  pub merged-map : (g : Model.Worker → Model.Worker) → ((x : Model.Worker) → f (g x) ≡ f x)
+      → (ws : List Model.Worker) (d : List ℕ) → partsOver n f (map g ws) d ≡ partsOver n f ws d
+  unfolding partsOver
+  merged-map g e [] d = refl
+  merged-map g e (x ∷ ws) d = rw (e x, merged-map g e ws (drop n d))

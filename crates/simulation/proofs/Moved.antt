@@ -15,22 +15,23 @@ use Rattle.worker.specs.Rep.{doingRep, workerRep}
 use Rattle.queue.specs.State.{Queue}
 use Rattle.queue.specs.Rep.{queueRep, withWindow, windowAfter}
 use Rattle.state.specs.declared.Hub.{Hub}
-use Rattle.state.specs.State.{withWorkerIn, withWindowIn}
-use Rattle.simulation.specs.Memory.{Memory, hubRep, mergedOver, write}
+use Rattle.state.specs.State.{withWorkerIn, withWindowIn, withTimesIn}
+use Rattle.simulation.specs.Memory.{Memory, timesOver, hubRep, mergedOver, write}
 use Rattle.simulation.specs.Shell.{queueIn, goIn}
+use Rattle.simulation.proofs.Laws.{worker-set}
 use Rattle.simulation.proofs.Sound.{Sound}
 use Rattle.simulation.proofs.Simulates.{Simulates, recordAt, simulated}
-use Rattle.simulation.proofs.Laid.{memory-path, hub-is, slots-is, newest-is, free-is, worker-put}
+use Rattle.simulation.proofs.Laid.{memory-path, hub-is, slots-is, newest-is, free-is}
 
--- the hub by value with worker w's record and the queue's window replaced
-abbrev pub movedHub : Hub → ℕ → Worker → Queue → Hub
-movedHub h w x q = withWindowIn (withWorkerIn h w x) (q .window)
+-- the hub by value with worker w's record, the queue's window and the times replaced
+abbrev pub movedHub : Hub → ℕ → Worker → Queue → List ℕ → Hub
+movedHub h w x q ts = withTimesIn (withWindowIn (withWorkerIn h w x) (q .window)) ts
 
--- the memory with worker w's record, the queue and the merged lists replaced
-abbrev pub movedIn : Memory → ℕ → Worker → Queue → List ℕ → Memory
-movedIn m w x q merged =
+-- the memory with worker w's record, the queue, the times and the merged lists replaced
+abbrev pub movedIn : Memory → ℕ → Worker → Queue → List ℕ → List ℕ → Memory
+movedIn m w x q ts merged =
     record {
-      hub = movedHub (m .hub) w x q;
+      hub = movedHub (m .hub) w x q ts;
       slots = m .slots;
       newest = m .newest;
       free = m .free;
@@ -44,18 +45,18 @@ pub workers-byte : (s : Store) (m : Memory) → Sound s → m ≡ write s m → 
 workers-byte s m S laid = let few = S .bounds .workers .1 in ap (λ (h : Hub). h .p % 256) (hub-is s m laid) ∙ omega arith
 
 module _ (s : Store) (m : Memory) (w : ℕ) (S : Sound s) (laid : m ≡ write s m) (wb : w < s .site .P) where
-  -- the code leaves the record X, the queue q and the merged lists g, the model the worker x and the pools ps
+  -- the code leaves the record X, the queue q, the times ts and the merged lists g, the model the worker x and the pools ps
   pub moved-sim : (d : Model.Doing) → workerAt s w .doing ≡ d
-      → (x : Model.Worker) (ps : List (List Range)) (y : Answer) (X : Worker) (q : Queue) (g : List ℕ)
+      → (x : Model.Worker) (ps : List (List Range)) (y : Answer) (X : Worker) (q : Queue) (ts g : List ℕ)
       → stepAt s w d ≡ record { store = withQueue (withWorker s w x) ps; answer = answerOf y }
-      → goIn m w (recordAt s w d) (doingRep d) ≡ record { memory = movedIn m w X q g; answer = y }
-      → X ≡ workerRep x → q ≡ queueRep ps (withWindow (queueIn m) (windowAfter (s .queue) ps (m .hub .window))) → g ≡ mergedOver (set (s .workers) w x) (m .merged) → Simulates s m w d
-  moved-sim d e x ps y X q g model code own queue merged =
+      → goIn m w (recordAt s w d) (doingRep d) ≡ record { memory = movedIn m w X q ts g; answer = y }
+      → X ≡ workerRep x → q ≡ queueRep ps (withWindow (queueIn m) (windowAfter (s .queue) ps (m .hub .window))) → ts ≡ timesOver (set (s .workers) w x) (m .hub .times) → g ≡ mergedOver (set (s .workers) w x) (m .merged) → Simulates s m w d
+  moved-sim d e x ps y X q ts g model code own queue times merged =
       simulated s m w d S laid wb e _ _ model code
       (memory-path
-      (ap (λ (z : Worker). movedHub (m .hub) w z q) own
-      ∙ ap (λ (h : Hub). movedHub h w (workerRep x) q) (hub-is s m laid)
-      ∙ ap (λ (h : Hub). withWindowIn h (q .window)) (worker-put s S w wb (m .hub .window) x)
-      ∙ ap (λ (z : Queue). withWindowIn (hubRep (withWorker s w x) (m .hub .window)) (z .window)) queue)
+      (ap (λ (z : Worker). movedHub (m .hub) w z q ts) own
+      ∙ ap (λ (h : Hub). movedHub h w (workerRep x) q ts) (hub-is s m laid)
+      ∙ ap (λ (h : Hub). withTimesIn (withWindowIn h (q .window)) ts) (worker-set s (m .hub) w x (S .bounds .workers .2) (S .bounds .workers .1) wb)
+      ∙ (λ i. withTimesIn (withWindowIn (hubRep (withWorker s w x) (m .hub)) (queue i .window)) (times i)))
       (slots-is s m laid) (newest-is s m laid) (free-is s m laid) (ap (λ (z : Queue). z .queue) queue) (ap (λ (z : Queue). z .lens) queue) merged)
       refl

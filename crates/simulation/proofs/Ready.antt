@@ -20,11 +20,11 @@ use Rattle.model.specs.Reached.{sumBy, inHand, versionsHeld}
 use Rattle.model.proofs.Basic.{All-map, All-occurrences, getD-map, All-at}
 use Rattle.model.proofs.Count.{sumBy-one}
 use Rattle.worker.specs.About.{aboutOf}
-use Rattle.worker.specs.Rep.{padded, poolRep, doingRep}
+use Rattle.worker.specs.Rep.{timesRead, padded, poolRep, doingRep}
 use Rattle.worker.proofs.Rep.{padded-at}
 use Rattle.slots.specs.Slots.{vacantSlot}
 use Rattle.values.specs.declared.Window.{Window}
-use Rattle.state.specs.State.{emptyWindow, workerIn}
+use Rattle.state.specs.State.{emptyHub, workerIn}
 use Rattle.ranges.specs.Words.{flat}
 use Rattle.ranges.proofs.WordLaws.{length-flat}
 use Rattle.queue.specs.State.{Begins}
@@ -128,6 +128,20 @@ hand-short s t (Model.ReadEnter g) a = omega arith
 hand-short s t (Model.ReadStand g c) a = omega arith
 hand-short s t (Model.GetShow r) a = omega arith
 
+-- the times read fit the worker's part
+pub times-short : (s : Store) → Sound s → (t : ℕ) (d : Model.Doing) → PlaceIn s t d → length (timesRead d) ≤ 16
+times-short s S t Model.Idle a = omega arith
+times-short s S t (Model.PutPublish r x) a = omega arith
+times-short s S t (Model.PutStamp r c) a = omega arith
+times-short s S t (Model.PutHandIn r c) a = omega arith
+times-short s S t Model.FlushTake a = omega arith
+times-short s S t (Model.FlushRead m ts) a = omega (arith, a .2, S .bounds .workers .1)
+times-short s S t (Model.FlushFree m) a = omega arith
+times-short s S t (Model.OnTime y) a = omega arith
+times-short s S t (Model.ReadEnter g) a = omega arith
+times-short s S t (Model.ReadStand g c) a = omega arith
+times-short s S t (Model.GetShow r) a = omega arith
+
 -- a local pool
 pool-fits : (s : Store) (l : List Range) (most : ℕ) → length l ≤ most → length l ≤ 64 → All (RangeIn s) l
     → poolFits (poolRep l) most (s .site .N) ≡ true
@@ -161,7 +175,7 @@ each-counted (l ∷ q) t = omega (arith, t .0, each-counted q (t .1))
 module _ {s : Store} (m : Memory) (S : Sound s) (Z : Sized m) (B : Begins (m .hub .window)) (laid : m ≡ write s m) where
   -- the memory with the store's hub in place of its own, which is the same
   abbrev same : Memory
-  same = memory (hubRep s (m .hub .window)) (m .slots) (m .newest) (m .free) (m .queue) (m .lens) (m .merged)
+  same = memory (hubRep s (m .hub)) (m .slots) (m .newest) (m .free) (m .queue) (m .lens) (m .merged)
 
   -- what a worker holds is no newest version
   held : (w : ℕ) → w < s .site .P
@@ -175,7 +189,7 @@ module _ {s : Store} (m : Memory) (S : Sound s) (Z : Sized m) (B : Begins (m .hu
       omega (arith, a, S .batch)
 
   worker-yes : (w : ℕ) → w < s .site .P
-      → workerFits (workerIn (hubRep s emptyWindow) w) w (m .merged) (local same) (list same) (s .site .P) (s .site .V') (s .site .N) ≡ true
+      → workerFits (workerIn (hubRep s emptyHub) w) w (m .merged) (local same) (list same) (s .site .P) (s .site .V') (s .site .N) ≡ true
   unfolding workerFits handFits
   worker-yes w b =
       let t : ℕ = workerAt s w .announced in
@@ -266,7 +280,7 @@ module _ {s : Store} (m : Memory) (S : Sound s) (Z : Sized m) (B : Begins (m .hu
             freeSlots = free-below;
             queueSlots = queue-below;
             neighbours = near-in;
-            workers = λ w b. worker-tells same w (omega (arith, b, S .bounds .workers .1)) (workerIn (hubRep s emptyWindow) w) (worker-yes w b);
+            workers = λ w b. worker-tells same w (omega (arith, b, S .bounds .workers .1)) (workerIn (hubRep s emptyHub) w) (worker-yes w b);
           }
 
   -- memory in which a sound store lies counts as set up

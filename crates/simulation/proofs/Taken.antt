@@ -14,7 +14,7 @@ use Rattle.values.specs.declared.Answer.{Answer}
 use Rattle.slots.specs.declared.Slot.{Slot}
 use Rattle.slots.specs.Slots.{slotRep}
 use Rattle.worker.specs.declared.Worker.{Worker}
-use Rattle.worker.specs.Rep.{doingRep, announcedRep, poolRep, timesRep, workerRep}
+use Rattle.worker.specs.Rep.{doingRep, announcedRep, poolRep, timesRead, workerRep}
 use Rattle.state.specs.declared.Hub.{Hub}
 use Rattle.state.specs.State.{withWorkerIn, withClockIn, withFreeIn}
 use Rattle.step.specs.declared.Next.the-variants.{Taken}
@@ -41,7 +41,7 @@ pub record Takes (s : Store) (m : Memory) (w : ℕ) (d : Model.Doing) (x : Model
       }
   pub model : stepAt s w d ≡ record { store = after s w x k l newest free; answer = answerOf y }
   pub pool : workerAt s w .pool ≡ x .pool
-  pub times : timesRep d ≡ timesRep (x .doing)
+  pub times : timesRead d ≡ timesRead (x .doing) ++ []
   pub words : inHandWords d ≡ inHandWords (x .doing) ++ []
   pub freeKept : m .free ≡ over (reverse free) (m .free)
 
@@ -53,18 +53,17 @@ module _ (s : Store) (m : Memory) (w : ℕ) (d : Model.Doing) (S : Sound s) (Z :
   taken-sim x k l newest free y T =
       let X : Worker = recordAt s w d in
       let left : Hub → Worker → Hub = λ h z. withFreeIn (withClockIn (withWorkerIn h w z) k) (length free) in
-      let Y : Worker = record { doing = doingRep (x .doing); announced = announcedRep (x .announced); pool = X .pool; times = X .times } in
+      let Y : Worker = record { doing = doingRep (x .doing); announced = announcedRep (x .announced); pool = X .pool } in
       let record-is : Y ≡ workerRep x = λ i. record {
         doing = doingRep (x .doing);
         announced = announcedRep (x .announced);
         pool = poolRep (T .pool i);
-        times = T .times i;
       } in
       simulated s m w d S laid wb e _ _ (T .model) (ap (finishIn m w X) (T .code))
       (memory-path
       (ap (λ (h : Hub). left h Y) (hub-is s m laid)
-      ∙ ap (left (hubRep s (m .hub .window))) record-is
-      ∙ ap (λ (h : Hub). withFreeIn (withClockIn h k) (length free)) (worker-put s S w wb (m .hub .window) x))
+      ∙ ap (left (hubRep s (m .hub))) record-is
+      ∙ ap (λ (h : Hub). withFreeIn (withClockIn h k) (length free)) (worker-put s S w wb m Z laid d x [] e (T .times)))
       refl refl (T .freeKept) (queue-is s m laid) (lens-is s m laid)
       (list-kept s S w wb m Z laid d x [] e (T .words))
       ∙ write-kept s (after s w x k l newest free) m (omega arith))

@@ -33,6 +33,7 @@ pub record Left (s : Store) (m : Memory) : Type 0 where
 -- the arrays have the lengths that their types give
 pub record Sized (m : Memory) : Type 0 where
   pub workers : length (m .hub .workers) ≡ 16
+  pub times : length (m .hub .times) ≡ 256
   pub newest : length (m .newest) ≡ 256
   pub free : length (m .free) ≡ 2048
   pub queue : length (m .queue) ≡ 12288

@@ -6,14 +6,13 @@ use Rattle.lists.specs.Over.{over, overAt}
 use Rattle.model.specs.About.{Hand, Empty, Covered, Merged, Needless, about}
 use Rattle.model.specs.Store as Model
 use Rattle.model.specs.Store.{Store, startWorker}
-use Rattle.worker.specs.Rep.{workerRep}
+use Rattle.worker.specs.Rep.{timesRead, workerRep}
 use Rattle.ranges.specs.Words.{flat}
-use Rattle.values.specs.declared.Window.{Window}
 use Rattle.queue.specs.Rep.{joinedRanges, windowAt, windowAfter}
 use Rattle.slots.specs.declared.Slot.{Slot}
 use Rattle.slots.specs.Slots.{slotRep}
 use Rattle.state.specs.declared.Hub.{Hub}
-use Rattle.state.specs.State.{emptyWindow, withWindowIn}
+use Rattle.state.specs.State.{emptyHub, withWindowIn}
 
 -- the hub by value; the row of slots; for each register the slot of its newest version; the free slots, the one that is taken first last;
 -- the ranges of the queued pools, one pool after the other, and the pools' lengths, each from where the hub's window begins; and for each worker
@@ -47,16 +46,26 @@ cut m =
 ------------------------------------------------------------------------
 -- A store in memory
 
--- the hub by value, with the queue in a window that begins where w does
-abbrev pub hubRep : Store → Window → Hub
-hubRep s w =
+-- for each worker a list, in a part of the memory with n entries
+unfoldable pub partsOver : ℕ → (Model.Worker → List ℕ) → List Model.Worker → List ℕ → List ℕ
+partsOver n f [] d = d
+partsOver n f (x ∷ l) d = over (f x) (take n d) ++ partsOver n f l (drop n d)
+
+-- the times that each worker's flush has read, sixteen entries a worker
+abbrev pub timesOver : List Model.Worker → List ℕ → List ℕ
+timesOver ws d = partsOver 16 (λ x. timesRead (x .doing)) ws d
+
+-- the hub by value with a store written over it: the queue's window begins where it did
+abbrev pub hubRep : Store → Hub → Hub
+hubRep s h =
     record {
       p = s .site .P;
       v = s .site .V';
       n = s .site .N;
       clock = s .clock;
       free = length (s .free);
-      window = windowAt (s .queue) (w .first) (w .from);
+      window = windowAt (s .queue) (h .window .first) (h .window .from);
+      times = timesOver (s .workers) (h .times);
       workers = over (map workerRep (s .workers)) (replicate 16 (workerRep startWorker));
     }
 
@@ -72,16 +81,15 @@ abbrev pub inHandWords : Model.Doing → List ℕ
 inHandWords d = handWords (about d .hand)
 
 -- each worker's list in its part of the memory, 768 words
-unfoldable pub mergedOver : List Model.Worker → List ℕ → List ℕ
-mergedOver [] d = d
-mergedOver (x ∷ l) d = over (inHandWords (x .doing)) (take 768 d) ++ mergedOver l (drop 768 d)
+abbrev pub mergedOver : List Model.Worker → List ℕ → List ℕ
+mergedOver ws d = partsOver 768 (λ x. inHandWords (x .doing)) ws d
 
 -- the memory with a store written over it, the queue from where the window begins
 abbrev pub write : Store → Memory → Memory
 write s m =
     let w = m .hub .window in
     record {
-      hub = hubRep s w;
+      hub = hubRep s (m .hub);
       slots = over (map slotRep (s .slots)) (m .slots);
       newest = over (s .newest) (m .newest);
       free = over (reverse (s .free)) (m .free);
@@ -90,11 +98,11 @@ write s m =
       merged = mergedOver (s .workers) (m .merged);
     }
 
--- memory whose window is another
-abbrev pub beginAt : Memory → Window → Memory
-beginAt m w =
+-- memory whose hub by value is another
+abbrev pub beginAt : Memory → Hub → Memory
+beginAt m h =
     record {
-      hub = withWindowIn (m .hub) w;
+      hub = h;
       slots = m .slots;
       newest = m .newest;
       free = m .free;
@@ -103,12 +111,13 @@ beginAt m w =
       merged = m .merged;
     }
 
--- The window of the store s after the hub h, whose window was w: a setup's begins at the front.
-abbrev pub nextWindow : Model.Hub → Store → Window → Window
-nextWindow (Model.blank row) s w = emptyWindow
-nextWindow (Model.up s₀) s w = windowAfter (s₀ .queue) (s .queue) w
+-- What the store s is written over after the hub k, whose hub by value was h: a setup starts with an empty one, any other record with h, its
+-- window moved on where pools were taken.
+abbrev pub nextHub : Model.Hub → Store → Hub → Hub
+nextHub (Model.blank row) s h = emptyHub
+nextHub (Model.up s₀) s h = withWindowIn h (windowAfter (s₀ .queue) (s .queue) (h .window))
 
--- the memory of the hub h with the next hub written over it; where that is not set up, the memory is as it was
+-- the memory of the hub k with the next hub written over it; where that is not set up, the memory is as it was
 abbrev pub writeHub : Model.Hub → Model.Hub → Memory → Memory
-writeHub h (Model.blank row) m = m
-writeHub h (Model.up s) m = write s (beginAt m (nextWindow h s (m .hub .window)))
+writeHub k (Model.blank row) m = m
+writeHub k (Model.up s) m = write s (beginAt m (nextHub k s (m .hub)))

@@ -3,7 +3,7 @@
 use mathlib.Core.Bool.{Bool}
 use mathlib.Core.List.{List, [], map}
 use Prim.Native.Nat.{ℕ, _+_, _-_, _%_}
-use lib.ListN.{length, set, replicate}
+use lib.ListN.{length, set}
 use Rattle.lists.specs.Over.{over}
 use Rattle.values.specs.declared.Answer.{Answer}
 use Rattle.values.specs.declared.Answer.the-variants.{Ok, Going, Freed, No}
@@ -16,7 +16,7 @@ use Rattle.worker.specs.declared.Doing.the-variants.{FlushRead, FlushFree}
 use Rattle.worker.specs.declared.Worker.{Worker}
 use Rattle.worker.specs.Rep.{poolRep}
 use Rattle.state.specs.declared.Hub.{Hub}
-use Rattle.state.specs.State.{freshHub, workerIn, atPlace, withWorkersIn, withWorkerIn, withClockIn, withFreeIn, withWindowIn}
+use Rattle.state.specs.State.{freshHub, workerIn, atPlace, withWorkersIn, withWorkerIn, withClockIn, withFreeIn, withWindowIn, withTimesIn}
 use Rattle.arrays.specs.Arrays.{short, fillTo}
 use Rattle.gate.specs.declared.Gate.{Gate}
 use Rattle.gate.specs.declared.Gate.the-variants.{Refuse, Make, Start, Go}
@@ -79,21 +79,21 @@ queueIn m = record { queue = m .queue; lens = m .lens; window = m .hub .window }
 -- put (1) and (2), open, read, get, close, flush (5)
 unfoldable pub takenIn : Memory → ℕ → Worker → Outcome → Result
 takenIn m w x o =
-    let y : Worker = record { doing = o .doing; announced = o .announced; pool = x .pool; times = x .times } in
+    let y : Worker = record { doing = o .doing; announced = o .announced; pool = x .pool } in
     answered (withHub m (withFreeIn (withClockIn (withWorkerIn (m .hub) w y) (o .clock)) (o .free))) (o .answer)
 
 -- put (3), of the covered version in slot c
 unfoldable pub handedIn : Memory → ℕ → Worker → ℕ → Result
 handedIn m w x c =
     let s = putHandInStep (m .slots) (x .pool) c (m .hub .p) in
-    answered (withRecord m w (record { doing = s .doing; announced = x .announced; pool = s .pool; times = x .times })) (s .answer)
+    answered (withRecord m w (record { doing = s .doing; announced = x .announced; pool = s .pool })) (s .answer)
 
 -- flush (1)
 unfoldable pub tookIn : Memory → ℕ → Worker → Result
 tookIn m w x =
     let q = queueIn m in
     let y : Worker =
-    record { doing = FlushRead (short (length (taken q))) 0; announced = x .announced; pool = x .pool; times = replicate 16 0 } in
+    record { doing = FlushRead (short (length (taken q))) 0; announced = x .announced; pool = x .pool } in
     record {
       memory =
           record {
@@ -111,26 +111,19 @@ tookIn m w x =
 -- flush (2), of a merged list of n ranges with j times read
 unfoldable pub readIn : Memory → ℕ → Worker → ℕ → ℕ → Result
 readIn m w x n j =
-    answered
-    (withRecord m w
-    (record {
-      doing = FlushRead n (j + 1);
-      announced = x .announced;
-      pool = x .pool;
-      times = flushReadStep (x .times) j (workerIn (m .hub) (j % 16) .announced);
-    }))
-    Going
+    let y : Worker = record { doing = FlushRead n (j + 1); announced = x .announced; pool = x .pool } in
+    let times = flushReadStep (m .hub .times) w j (workerIn (m .hub) (j % 16) .announced) in
+    answered (withHub m (withTimesIn (withWorkerIn (m .hub) w y) times)) Going
 
 -- flush (3), of a merged list of n ranges
 unfoldable pub splitIn : Memory → ℕ → Worker → ℕ → Result
 splitIn m w x n =
-    let q = splitQueue (queueIn m) (m .merged) w n (x .times) (m .hub .p) (x .pool) in
+    let q = splitQueue (queueIn m) (m .merged) w n (m .hub .times) (m .hub .p) (x .pool) in
     let y : Worker =
     record {
-      doing = FlushFree (splitLeft (m .merged) w n (x .times) (m .hub .p) (x .pool));
+      doing = FlushFree (splitLeft (m .merged) w n (m .hub .times) (m .hub .p) (x .pool));
       announced = x .announced;
       pool = poolRep [];
-      times = replicate 16 0;
     } in
     record {
       memory =
@@ -141,7 +134,7 @@ splitIn m w x n =
             free = m .free;
             queue = q .queue;
             lens = q .lens;
-            merged = splitMerged (m .merged) w n (x .times) (m .hub .p) (x .pool);
+            merged = splitMerged (m .merged) w n (m .hub .times) (m .hub .p) (x .pool);
           };
       answer = Going;
     }

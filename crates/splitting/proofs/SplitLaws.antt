@@ -19,7 +19,7 @@ use Rattle.worker.specs.declared.Pool.{Pool}
 use Rattle.worker.specs.Pool.{rangesIn}
 use Rattle.queue.specs.State.{Queue}
 use Rattle.arrays.specs.Arrays.{short}
-use Rattle.flush.specs.Flush.{partOf, withPart}
+use Rattle.flush.specs.Flush.{partOf, withPart, timesOf}
 use Rattle.splitting.specs.Splitting.{requeued, joinedAfter, mayCut, needlessBy, neededBy}
 use Rattle.splitting.specs.Splitting.{splitLeft, splitQueue, splitMerged, splitNeeded, splitLocal, splitJoined}
 use Rattle.splitting.proofs.RequeueLaws.{requeued-pad, joined-pad}
@@ -84,7 +84,7 @@ module _ (q : Queue) (merged times needed₀ local₀ joined₀ : List ℕ) (w m
   split-some k size q′ merged′ needed′ local′ joined′ y ek em en es eq el ej =
       let words : List ℕ = flat (neededBy merged w m times p) in
       let zeros : List ℕ = replicate 768 0 in
-      let h : 3 * (m - k) ≤ length words = needed-long (take p times) (partOf merged w) m k ek in
+      let h : 3 * (m - k) ≤ length words = needed-long (take p (timesOf times w)) (partOf merged w) m k ek in
       let queued : q′ ≡ requeued q pool (over words zeros) (m - k) size =
       eq ∙ ap (λ (l : List ℕ). requeued q pool l (m - k) size) en ∙ requeued-pad q pool words needed₀ zeros (m - k) size h in
       let joined : joined′ ≡ joinedAfter pool (over words zeros) (m - k) size joined₀ =

@@ -13,7 +13,7 @@ use Rattle.worker.specs.declared.Pool.{Pool}
 use Rattle.worker.specs.Pool.{rangesIn}
 use Rattle.ranges.specs.Words.{rangesAt, flat}
 use Rattle.queue.specs.State.{Queue, pushed}
-use Rattle.flush.specs.Flush.{partOf, withPart}
+use Rattle.flush.specs.Flush.{partOf, withPart, timesOf}
 
 -- the ranges of a local pool as words
 abbrev pub poolWords : Pool → List ℕ
@@ -42,12 +42,12 @@ mayCut w m p len = ltb w 16 && leb m 256 && (leb p 16 && leb len 64)
 abbrev pub maySplit : ℕ → ℕ → ℕ → Pool → Bool
 maySplit w m p pool = mayCut w m p (pool .len)
 
--- the two lists into which worker w's first m ranges are split by the first p times
+-- the two lists into which worker w's first m ranges are split by the first p of its times
 abbrev pub needlessBy : List ℕ → ℕ → ℕ → List ℕ → ℕ → List Range
-needlessBy merged w m times p = needlessOf (take p times) (rangesAt (partOf merged w) 0 m)
+needlessBy merged w m times p = needlessOf (take p (timesOf times w)) (rangesAt (partOf merged w) 0 m)
 
 abbrev pub neededBy : List ℕ → ℕ → ℕ → List ℕ → ℕ → List Range
-neededBy merged w m times p = neededOf (take p times) (rangesAt (partOf merged w) 0 m)
+neededBy merged w m times p = neededOf (take p (timesOf times w)) (rangesAt (partOf merged w) 0 m)
 
 -- how many are needless
 abbrev pub needlessCount : List ℕ → ℕ → ℕ → List ℕ → ℕ → ℕ

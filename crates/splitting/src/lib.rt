@@ -8,7 +8,7 @@ ghost use Rattle.model.specs.Ranges.{neededOf, needlessOf};
 ghost use Rattle.ranges.specs.Words.{rangesAt, flat};
 ghost use Rattle.queue.specs.State.{poolsIn};
 ghost use Rattle.worker.specs.Pool.{rangesIn};
-ghost use Rattle.flush.specs.Flush.{partOf, withPart};
+ghost use Rattle.flush.specs.Flush.{partOf, withPart, timesOf};
 ghost use Rattle.splitting.specs.Splitting.{requeued, joinedAfter, mayCut, splitLeft, splitQueue, splitMerged, splitNeeded, splitLocal, splitJoined};
 use values::Window;
 use worker::Pool;
@@ -75,23 +75,26 @@ fn requeue(
     queue::push(queue, lens, window, joined, n + stay)
 }
 
-// The first m ranges of worker w's part of the merged lists, split by the first p times.
+// The first m ranges of worker w's part of the merged lists, split by the first p of its times.
 fn split_part(
     merged: &mut [u32],
     w: usize,
     m: usize,
-    times: &[u64; 16],
+    times: &[u64; 256],
     p: usize,
     needed: &mut [u32; 768],
 ) -> usize
     requires { ⌜ (w < 16) × (m ≤ 256) × (p ≤ 16) × (length (now merged) ≡ 12288) ⌝ }
-    ensures { λ r. ⌜ r ≡ length (needlessOf (take p (now (times .entry))) (rangesAt (partOf (now (merged .entry)) w) 0 m)) ⌝ }
-    ensures { λ _. ⌜ now (merged .exit) ≡ withPart (now (merged .entry)) w (over (flat (reverse (needlessOf (take p (now (times .entry))) (rangesAt (partOf (now (merged .entry)) w) 0 m)))) (partOf (now (merged .entry)) w)) ⌝ }
-    ensures { λ _. ⌜ now (needed .exit) ≡ over (flat (neededOf (take p (now (times .entry))) (rangesAt (partOf (now (merged .entry)) w) 0 m))) (now (needed .entry)) ⌝ }
+    ensures { λ r. ⌜ r ≡ length (needlessOf (take p (timesOf (now (times .entry)) w)) (rangesAt (partOf (now (merged .entry)) w) 0 m)) ⌝ }
+    ensures { λ _. ⌜ now (merged .exit) ≡ withPart (now (merged .entry)) w (over (flat (reverse (needlessOf (take p (timesOf (now (times .entry)) w)) (rangesAt (partOf (now (merged .entry)) w) 0 m)))) (partOf (now (merged .entry)) w)) ⌝ }
+    ensures { λ _. ⌜ now (needed .exit) ≡ over (flat (neededOf (take p (timesOf (now (times .entry)) w)) (rangesAt (partOf (now (merged .entry)) w) 0 m))) (now (needed .entry)) ⌝ }
 {
     let at = 768 * w;
     let e = at + 768;
-    ranges::split(&mut merged[at..e], m, times, p, needed)
+    let all = &times[..];
+    let from = 16 * w;
+    let to = from + 16;
+    ranges::split(&mut merged[at..e], m, &all[from..to], p, needed)
 }
 
 // Whether the counts allow a split.
@@ -107,7 +110,7 @@ pub struct Parted {
     pub window: Window,
 }
 
-// Flush (3), of worker w's first m ranges by the first p times: the needless ranges stay in its part, the needed ones and the local pool go
+// Flush (3), of worker w's first m ranges by the first p of its times: the needless ranges stay in its part, the needed ones and the local pool go
 // to the queue. The last three arrays are space to work in; what they hold at entry does not matter.
 pub fn flush_split(
     queue: &mut [u32; 12288],
@@ -116,7 +119,7 @@ pub fn flush_split(
     merged: &mut [u32; 12288],
     w: usize,
     m: u16,
-    times: &[u64; 16],
+    times: &[u64; 256],
     p: usize,
     q: Pool,
     needed: &mut [u32; 768],

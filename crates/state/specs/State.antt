@@ -25,12 +25,17 @@ freshHub p v n t =
       clock = t;
       free = n - v;
       window = emptyWindow;
+      times = replicate 256 0;
       workers = replicate 16 (workerRep startWorker);
     }
 
+-- that of a hub without workers
+abbrev pub emptyHub : Hub
+emptyHub = freshHub 0 0 0 0
+
 -- what stands where a list of workers has no entry
 abbrev pub nobody : Worker
-nobody = record { doing = Idle; announced = Nothing; pool = record { slots = []; lows = []; highs = []; len = 0 }; times = [] }
+nobody = record { doing = Idle; announced = Nothing; pool = record { slots = []; lows = []; highs = []; len = 0 } }
 
 -- worker w's record
 abbrev pub workerIn : Hub → ℕ → Worker
@@ -38,7 +43,7 @@ workerIn h w = getD (h .workers) w nobody
 
 -- a worker at another place
 abbrev pub atPlace : Worker → Doing → Worker
-atPlace x d = record { doing = d; announced = x .announced; pool = x .pool; times = x .times }
+atPlace x d = record { doing = d; announced = x .announced; pool = x .pool }
 
 ------------------------------------------------------------------------
 -- A hub with one part replaced
@@ -52,6 +57,7 @@ withWorkersIn h l =
       clock = h .clock;
       free = h .free;
       window = h .window;
+      times = h .times;
       workers = l;
     }
 
@@ -68,6 +74,7 @@ withClockIn h k =
       clock = k;
       free = h .free;
       window = h .window;
+      times = h .times;
       workers = h .workers;
     }
 
@@ -80,6 +87,7 @@ withFreeIn h k =
       clock = h .clock;
       free = k;
       window = h .window;
+      times = h .times;
       workers = h .workers;
     }
 
@@ -92,5 +100,19 @@ withWindowIn h w =
       clock = h .clock;
       free = h .free;
       window = w;
+      times = h .times;
+      workers = h .workers;
+    }
+
+abbrev pub withTimesIn : Hub → List ℕ → Hub
+withTimesIn h ts =
+    record {
+      p = h .p;
+      v = h .v;
+      n = h .n;
+      clock = h .clock;
+      free = h .free;
+      window = h .window;
+      times = ts;
       workers = h .workers;
     }

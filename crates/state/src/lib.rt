@@ -4,7 +4,8 @@ ghost use Rattle.state.specs.State.{freshHub};
 use values::Window;
 use worker::Worker;
 
-// P, V and N (H1.1 to H1.3), the clock, how many slots are free, and where the queue lies in its memory.
+// P, V and N (H1.1 to H1.3), the clock, how many slots are free, where the queue lies in its memory, and sixteen times for each worker: those
+// that its flush has read stand first among them.
 pub struct Hub {
     pub p: usize,
     pub v: usize,
@@ -12,6 +13,7 @@ pub struct Hub {
     pub clock: u32,
     pub free: usize,
     pub window: Window,
+    pub times: [u64; 256],
     pub workers: [Worker; 16],
 }
 
@@ -38,6 +40,7 @@ impl Hub {
             clock,
             free,
             window,
+            times: [0u64; 256],
             workers: [x; 16],
         }
     }

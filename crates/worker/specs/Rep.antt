@@ -1,6 +1,6 @@
 -- How the model's worker stands in the types of this crate.
 use mathlib.Core.Bool.{cond}
-use mathlib.Core.List.{List, map}
+use mathlib.Core.List.{List, [], map}
 use Prim.Native.Nat.{ℕ}
 use lib.Dec.{ltb}
 use lib.ListN.{length, replicate}
@@ -79,15 +79,15 @@ doingRep (Model.ReadEnter g) = ReadEnter (goalRep g)
 doingRep (Model.ReadStand g c) = ReadStand (goalRep g) c
 doingRep (Model.GetShow r) = GetShow r
 
--- the times that a flush has read; zeros in any other place
+-- the times that a flush has read; none in any other place
 abbrev pub timesIn : Hand → List ℕ
-timesIn Empty = replicate 16 0
-timesIn (Covered c) = replicate 16 0
-timesIn (Merged m ts) = padded 16 ts
-timesIn (Needless m) = replicate 16 0
+timesIn Empty = []
+timesIn (Covered c) = []
+timesIn (Merged m ts) = ts
+timesIn (Needless m) = []
 
-abbrev pub timesRep : Model.Doing → List ℕ
-timesRep d = timesIn (about d .hand)
+abbrev pub timesRead : Model.Doing → List ℕ
+timesRead d = timesIn (about d .hand)
 
 abbrev pub workerRep : Model.Worker → Worker
 workerRep x =
@@ -95,5 +95,4 @@ workerRep x =
       doing = doingRep (x .doing);
       announced = announcedRep (x .announced);
       pool = poolRep (x .pool);
-      times = timesRep (x .doing);
     }

@@ -80,12 +80,11 @@ pub struct Facts {
     pub stance: Stance,
 }
 
-// A worker's record. The times are those that a flush has read.
+// A worker's record.
 pub struct Worker {
     pub doing: Doing,
     pub announced: Announced,
     pub pool: Pool,
-    pub times: [u64; 16],
 }
 
 impl Worker {
@@ -97,7 +96,6 @@ impl Worker {
             doing: Doing::Idle,
             announced: Announced::Nothing,
             pool: EMPTY,
-            times: [0u64; 16],
         }
     }
 }

@@ -145,8 +145,8 @@ loop-again-2 c =
 enum-known-g-3 : tie.Need-enum-known-g-3 Inv-loop2 μ-loop2 Inv-loop μ-loop
 enum-known-g-3 c = search needs
 
-mul-t99 : tie.Need-mul-t99 Inv-loop2 μ-loop2 Inv-loop μ-loop
-mul-t99 c = omega arith
+mul-t96 : tie.Need-mul-t96 Inv-loop2 μ-loop2 Inv-loop μ-loop
+mul-t96 c = omega arith
 
 element-set-from-hub : tie.Need-element-set-from-hub Inv-loop2 μ-loop2 Inv-loop μ-loop
 element-set-from-hub c = omega arith
@@ -157,20 +157,20 @@ put-answer-requires-3 c κs = tt
 add-k-3 : tie.Need-add-k-3 Inv-loop2 μ-loop2 Inv-loop μ-loop
 add-k-3 c =
     let J = c .before .before .before .before .before .before .before .before .before in
-    let I = J .before .before .before .before .before .before .before .before in
+    let I = J .before .before .before .before .before .before .before in
     let A = I .before .before .before .before .before .before .before .before .before .before .before .before .before .before in
     omega (arith, I .loop-test .taken, A .fits)
 
 loop-less-3 : tie.Need-loop-less-3 Inv-loop2 μ-loop2 Inv-loop μ-loop
 loop-less-3 c =
     let J = c .before .before .before .before .before .before .before .before .before in
-    let I = J .before .before .before .before .before .before .before .before in
+    let I = J .before .before .before .before .before .before .before in
     omega (arith, I .loop-test .taken)
 
 loop-again-3 : tie.Need-loop-again-3 Inv-loop2 μ-loop2 Inv-loop μ-loop
 loop-again-3 c =
     let P = c .before .before .before .before in
-    let K = P .before .before .before .before .before .before in
+    let K = P .before .before .before .before .before in
     let G = K .before .before in
     on-start (deciding (G .before .before .before .before .before .before .loop .row) (G .before .before .before .before .before .before .loop .inv)
     (G .before .before .before .before .before .loop-test .taken)
@@ -187,8 +187,8 @@ step-requires c κs = tt
 enum-known-s : tie.Need-enum-known-s Inv-loop2 μ-loop2 Inv-loop μ-loop
 enum-known-s c = search needs
 
-mul-t117 : tie.Need-mul-t117 Inv-loop2 μ-loop2 Inv-loop μ-loop
-mul-t117 c = omega arith
+mul-t113 : tie.Need-mul-t113 Inv-loop2 μ-loop2 Inv-loop μ-loop
+mul-t113 c = omega arith
 
 element-set-from-hub-2 : tie.Need-element-set-from-hub-2 Inv-loop2 μ-loop2 Inv-loop μ-loop
 element-set-from-hub-2 c = omega arith
@@ -199,20 +199,20 @@ put-answer-requires-4 c κs = tt
 add-k-4 : tie.Need-add-k-4 Inv-loop2 μ-loop2 Inv-loop μ-loop
 add-k-4 c =
     let J = c .before .before .before .before .before .before .before .before .before .before .before .before in
-    let I = J .before .before .before .before .before .before .before .before .before .before .before .before in
+    let I = J .before .before .before .before .before .before .before .before .before .before .before in
     let A = I .before .before .before .before .before .before .before .before .before .before .before .before .before .before in
     omega (arith, I .loop-test .taken, A .fits)
 
 loop-less-4 : tie.Need-loop-less-4 Inv-loop2 μ-loop2 Inv-loop μ-loop
 loop-less-4 c =
     let J = c .before .before .before .before .before .before .before .before .before .before .before .before in
-    let I = J .before .before .before .before .before .before .before .before .before .before .before .before in
+    let I = J .before .before .before .before .before .before .before .before .before .before .before in
     omega (arith, I .loop-test .taken)
 
 loop-again-4 : tie.Need-loop-again-4 Inv-loop2 μ-loop2 Inv-loop μ-loop
 loop-again-4 c =
     let P = c .before .before .before .before in
-    let K = P .before .before .before .before .before .before in
+    let K = P .before .before .before .before .before in
     let T = K .before .before .before in
     let E = T .before .before .before .before in
     let G = E .before .before in
@@ -244,8 +244,8 @@ put-time-requires c κs = tt
 put-time-requires-2 : tie.Need-put-time-requires-2 Inv-loop2 μ-loop2 Inv-loop μ-loop
 put-time-requires-2 c κs = tt
 
-mul-t124 : tie.Need-mul-t124 Inv-loop2 μ-loop2 Inv-loop μ-loop
-mul-t124 c = omega arith
+mul-t120 : tie.Need-mul-t120 Inv-loop2 μ-loop2 Inv-loop μ-loop
+mul-t120 c = omega arith
 
 element-set-from-hub-3 : tie.Need-element-set-from-hub-3 Inv-loop2 μ-loop2 Inv-loop μ-loop
 element-set-from-hub-3 c = omega arith
@@ -256,20 +256,20 @@ put-answer-requires-5 c κs = tt
 add-k-5 : tie.Need-add-k-5 Inv-loop2 μ-loop2 Inv-loop μ-loop
 add-k-5 c =
     let J = c .before .before .before .before .before .before .before .before .before .before .before .before .before .before .before .before in
-    let I = J .before .before .before .before .before .before .before .before .before .before .before .before .before .before .before .before .before in
+    let I = J .before .before .before .before .before .before .before .before .before .before .before .before .before .before .before .before in
     let A = I .before .before .before .before .before .before .before .before .before .before .before .before .before .before in
     omega (arith, I .loop-test .taken, A .fits)
 
 loop-less-5 : tie.Need-loop-less-5 Inv-loop2 μ-loop2 Inv-loop μ-loop
 loop-less-5 c =
     let J = c .before .before .before .before .before .before .before .before .before .before .before .before .before .before .before .before in
-    let I = J .before .before .before .before .before .before .before .before .before .before .before .before .before .before .before .before .before in
+    let I = J .before .before .before .before .before .before .before .before .before .before .before .before .before .before .before .before in
     omega (arith, I .loop-test .taken)
 
 loop-again-5 : tie.Need-loop-again-5 Inv-loop2 μ-loop2 Inv-loop μ-loop
 loop-again-5 c =
     let P = c .before .before .before .before in
-    let U = P .before .before .before .before in
+    let U = P .before .before .before in
     let L = U .before .before in
     let O = L .before .before in
     let H = O .before .before in
@@ -299,11 +299,11 @@ flush-take-requires c κs =
     (named-by (G .before .before .before .worker-byte .ensures .0) (G .before .before .before .before .record-at .ensures)) (G .gate-for .ensures))
     _ (E .enum-told .given .1) _ _ _ (T .step .ensures)
 
-cast-t147 : tie.Need-cast-t147 Inv-loop2 μ-loop2 Inv-loop μ-loop
-cast-t147 c = omega arith
+cast-t142 : tie.Need-cast-t142 Inv-loop2 μ-loop2 Inv-loop μ-loop
+cast-t142 c = omega arith
 
-mul-t153 : tie.Need-mul-t153 Inv-loop2 μ-loop2 Inv-loop μ-loop
-mul-t153 c = omega arith
+mul-t147 : tie.Need-mul-t147 Inv-loop2 μ-loop2 Inv-loop μ-loop
+mul-t147 c = omega arith
 
 element-set-from-hub-4 : tie.Need-element-set-from-hub-4 Inv-loop2 μ-loop2 Inv-loop μ-loop
 element-set-from-hub-4 c = omega arith
@@ -357,12 +357,24 @@ mul-y-2 c = omega arith
 element-copy-out-y-2 : tie.Need-element-copy-out-y-2 Inv-loop2 μ-loop2 Inv-loop μ-loop
 element-copy-out-y-2 c = omega arith
 
-flush-read-requires : tie.Need-flush-read-requires Inv-loop2 μ-loop2 Inv-loop μ-loop
-flush-read-requires c κs = tt
+time-of-requires : tie.Need-time-of-requires Inv-loop2 μ-loop2 Inv-loop μ-loop
+time-of-requires c κs = tt
 
-add-t161 : tie.Need-add-t161 Inv-loop2 μ-loop2 Inv-loop μ-loop
-add-t161 c =
-    let K = c .before .before .before .before .before .before in
+mul-hub : tie.Need-mul-hub Inv-loop2 μ-loop2 Inv-loop μ-loop
+mul-hub c = omega arith
+
+add-hub : tie.Need-add-hub Inv-loop2 μ-loop2 Inv-loop μ-loop
+add-hub c = omega arith
+
+mul-hub-2 : tie.Need-mul-hub-2 Inv-loop2 μ-loop2 Inv-loop μ-loop
+mul-hub-2 c = omega arith
+
+element-write-hub : tie.Need-element-write-hub Inv-loop2 μ-loop2 Inv-loop μ-loop
+element-write-hub c = omega arith
+
+add-t155 : tie.Need-add-t155 Inv-loop2 μ-loop2 Inv-loop μ-loop
+add-t155 c =
+    let K = c .before .before .before .before in
     let T = K .before .before .before in
     let E = T .before .before .before .before in
     let G = E .before .before in
@@ -374,8 +386,8 @@ add-t161 c =
     let p = workers D _ (E .enum-told .given .1) _ _ _ (T .step .ensures) in
     omega (arith, l, p)
 
-mul-t162 : tie.Need-mul-t162 Inv-loop2 μ-loop2 Inv-loop μ-loop
-mul-t162 c = omega arith
+mul-t164 : tie.Need-mul-t164 Inv-loop2 μ-loop2 Inv-loop μ-loop
+mul-t164 c = omega arith
 
 element-set-from-hub-5 : tie.Need-element-set-from-hub-5 Inv-loop2 μ-loop2 Inv-loop μ-loop
 element-set-from-hub-5 c = omega arith
@@ -386,21 +398,21 @@ put-answer-requires-7 c κs = tt
 add-k-7 : tie.Need-add-k-7 Inv-loop2 μ-loop2 Inv-loop μ-loop
 add-k-7 c =
     let J = c .before .before .before .before .before .before .before .before .before .before .before .before .before .before in
-    let I = J .before .before .before .before .before .before .before .before .before .before .before .before .before .before in
+    let I = J .before .before .before .before .before .before .before .before .before .before .before .before in
     let A = I .before .before .before .before .before .before .before .before .before .before .before .before .before .before in
     omega (arith, I .loop-test .taken, A .fits)
 
 loop-less-7 : tie.Need-loop-less-7 Inv-loop2 μ-loop2 Inv-loop μ-loop
 loop-less-7 c =
     let J = c .before .before .before .before .before .before .before .before .before .before .before .before .before .before in
-    let I = J .before .before .before .before .before .before .before .before .before .before .before .before .before .before in
+    let I = J .before .before .before .before .before .before .before .before .before .before .before .before in
     omega (arith, I .loop-test .taken)
 
 loop-again-7 : tie.Need-loop-again-7 Inv-loop2 μ-loop2 Inv-loop μ-loop
 loop-again-7 c =
     let P = c .before .before .before .before in
     let H = P .before .before .before .before in
-    let K = H .before .before .before .before .before .before in
+    let K = H .before .before .before .before in
     let T = K .before .before .before in
     let E = T .before .before .before .before in
     let G = E .before .before in
@@ -409,7 +421,7 @@ loop-again-7 c =
     (G .before .decode .ensures ∙ ap Model.decode (G .before .before .before .before .record-at .ensures))
     (named-by (G .before .before .before .worker-byte .ensures .0) (G .before .before .before .before .record-at .ensures)) (G .gate-for .ensures))
     _ (E .enum-told .given .1) _ _ _ (T .step .ensures)
-    _ _ _ _ _ _ (K .s3 .given .1) (H .flush-read .ensures) (P .put-answer7 .ensures)
+    _ _ _ _ _ _ (K .s3 .given .1) (rw (H .time-of .ensures)) (P .put-answer7 .ensures)
 
 enum-known-s-4 : tie.Need-enum-known-s-4 Inv-loop2 μ-loop2 Inv-loop μ-loop
 enum-known-s-4 c = search needs
@@ -417,8 +429,8 @@ enum-known-s-4 c = search needs
 flush-split-requires : tie.Need-flush-split-requires Inv-loop2 μ-loop2 Inv-loop μ-loop
 flush-split-requires c κs = tt
 
-mul-t185 : tie.Need-mul-t185 Inv-loop2 μ-loop2 Inv-loop μ-loop
-mul-t185 c = omega arith
+mul-t181 : tie.Need-mul-t181 Inv-loop2 μ-loop2 Inv-loop μ-loop
+mul-t181 c = omega arith
 
 element-set-from-hub-6 : tie.Need-element-set-from-hub-6 Inv-loop2 μ-loop2 Inv-loop μ-loop
 element-set-from-hub-6 c = omega arith
@@ -470,8 +482,8 @@ flush-free-requires c κs =
     (named-by (G .before .before .before .worker-byte .ensures .0) (G .before .before .before .before .record-at .ensures)) (G .gate-for .ensures)) in
     (below D _ (E .enum-told .given .1) _ _ _ (T .step .ensures), told D _ (E .enum-told .given .1) _ _ _ (T .step .ensures) _ (K .s5 .given .1))
 
-sub-t209 : tie.Need-sub-t209 Inv-loop2 μ-loop2 Inv-loop μ-loop
-sub-t209 c =
+sub-t204 : tie.Need-sub-t204 Inv-loop2 μ-loop2 Inv-loop μ-loop
+sub-t204 c =
     let K = c .before .before .before .before .before .before in
     let T = K .before .before .before in
     let E = T .before .before .before .before in
@@ -484,15 +496,15 @@ sub-t209 c =
     _ (E .enum-told .given .1) _ _ _ (T .step .ensures) _ (K .s5 .given .1) in
     omega (arith, l)
 
-mul-t208 : tie.Need-mul-t208 Inv-loop2 μ-loop2 Inv-loop μ-loop
-mul-t208 c = omega arith
+mul-t203 : tie.Need-mul-t203 Inv-loop2 μ-loop2 Inv-loop μ-loop
+mul-t203 c = omega arith
 
 element-set-from-hub-7 : tie.Need-element-set-from-hub-7 Inv-loop2 μ-loop2 Inv-loop μ-loop
 element-set-from-hub-7 c = omega arith
 
 loop2-holds : tie.Need-loop2-holds Inv-loop2 μ-loop2 Inv-loop μ-loop
 loop2-holds c =
-    let J = c .before .before .before .before .before .before .before .before .before .before in
+    let J = c .before .before .before .before .before .before .before .before .before in
     let W = J .before .before .before .before .before .before .before .before .before in
     let I = W .before .before .before .before in
     (omega arith, refl, length-set (I .loop .hub .workers) (W .before .worker-byte .result % 16) _ ∙ I .loop .inv .sixteen)
@@ -509,8 +521,8 @@ stands-on-requires c κs = tt
 off-requires : tie.Need-off-requires Inv-loop2 μ-loop2 Inv-loop μ-loop
 off-requires c κs = tt
 
-mul-t227 : tie.Need-mul-t227 Inv-loop2 μ-loop2 Inv-loop μ-loop
-mul-t227 c = omega arith
+mul-t220 : tie.Need-mul-t220 Inv-loop2 μ-loop2 Inv-loop μ-loop
+mul-t220 c = omega arith
 
 element-set-from-hub-8 : tie.Need-element-set-from-hub-8 Inv-loop2 μ-loop2 Inv-loop μ-loop
 element-set-from-hub-8 c = omega arith
@@ -520,12 +532,12 @@ add-j c = omega arith
 
 loop2-less : tie.Need-loop2-less Inv-loop2 μ-loop2 Inv-loop μ-loop
 loop2-less c =
-    let I = c .before .before .before .before .before .before in
+    let I = c .before .before .before .before .before in
     omega (arith, I .loop2-test .taken)
 
 loop2-again : tie.Need-loop2-again Inv-loop2 μ-loop2 Inv-loop μ-loop
 loop2-again c =
-    let O = c .before .before in
+    let O = c .before in
     let I = O .before .before .before .before in
     let J = I .before in (
       omega (arith, I .loop2-test .taken),
@@ -557,14 +569,14 @@ put-answer-requires-9 c κs = tt
 add-k-9 : tie.Need-add-k-9 Inv-loop2 μ-loop2 Inv-loop μ-loop
 add-k-9 c =
     let J = c .before .before .before .before .before .before .before .before .before .before .before .before .before .before .before .before in
-    let I = J .before .before .before .before .before .before .before .before .before .before .before .before .before .before .before in
+    let I = J .before .before .before .before .before .before .before .before .before .before .before .before .before .before in
     let A = I .before .before .before .before .before .before .before .before .before .before .before .before .before .before in
     omega (arith, I .loop-test .taken, A .fits)
 
 loop-less-9 : tie.Need-loop-less-9 Inv-loop2 μ-loop2 Inv-loop μ-loop
 loop-less-9 c =
     let J = c .before .before .before .before .before .before .before .before .before .before .before .before .before .before .before .before in
-    let I = J .before .before .before .before .before .before .before .before .before .before .before .before .before .before .before in
+    let I = J .before .before .before .before .before .before .before .before .before .before .before .before .before .before in
     omega (arith, I .loop-test .taken)
 
 loop-again-9 : tie.Need-loop-again-9 Inv-loop2 μ-loop2 Inv-loop μ-loop
@@ -572,7 +584,7 @@ loop-again-9 c =
     let P = c .before .before .before .before in
     let X = P .before .before .before in
     let J = X .before in
-    let H = J .before .before .before .before in
+    let H = J .before .before .before in
     let K = H .before .before .before .before .before in
     let T = K .before .before .before in
     let E = T .before .before .before .before in
@@ -588,23 +600,23 @@ loop-again-9 c =
 
 same-length : tie.Need-same-length Inv-loop2 μ-loop2 Inv-loop μ-loop
 same-length c =
-    let L = c .before .before in
+    let L = c .before .before .before in
     let A = L .before .before .before .before .before .before .before .before .before .before .before .before .before in
     words-long (L .loop .row) (A .args .row .now) (L .loop .inv .row)
 
 same-length-2 : tie.Need-same-length-2 Inv-loop2 μ-loop2 Inv-loop μ-loop
-same-length-2 c = c .before .before .loop .inv .kinds-long
+same-length-2 c = c .before .before .before .loop .inv .kinds-long
 
 same-length-3 : tie.Need-same-length-3 Inv-loop2 μ-loop2 Inv-loop μ-loop
-same-length-3 c = c .before .before .loop .inv .numbers-long
+same-length-3 c = c .before .before .before .loop .inv .numbers-long
 
 returns : tie.Need-returns Inv-loop2 μ-loop2 Inv-loop μ-loop
 returns c =
-    let L = c .before .before in
+    let L = c .before .before .before in
     let Q = L .before .before in
     let B = Q .before .before .before .before .before .before in
     let A = B .before .before .before .before .before in
-    finished _ _ _ _ _ _ _ _ (L .loop .inv) (c .before .loop-test .left)
+    finished _ _ _ _ _ _ _ _ (L .loop .inv) (c .before .before .loop-test .left)
     (ready-is _ (A .args .row .now) _ _ _ _ _ _ _ (B .all-linked .ensures) (Q .ready .ensures))
 
 pub run-spec : {M : Type 1} → statement M
@@ -636,7 +648,7 @@ run-spec =
     loop-less-2
     loop-again-2
     enum-known-g-3
-    mul-t99
+    mul-t96
     element-set-from-hub
     put-answer-requires-3
     add-k-3
@@ -645,7 +657,7 @@ run-spec =
     enum-told
     step-requires
     enum-known-s
-    mul-t117
+    mul-t113
     element-set-from-hub-2
     put-answer-requires-4
     add-k-4
@@ -658,7 +670,7 @@ run-spec =
     put-slot-requires
     put-time-requires
     put-time-requires-2
-    mul-t124
+    mul-t120
     element-set-from-hub-3
     put-answer-requires-5
     add-k-5
@@ -666,8 +678,8 @@ run-spec =
     loop-again-5
     enum-told-2
     flush-take-requires
-    cast-t147
-    mul-t153
+    cast-t142
+    mul-t147
     element-set-from-hub-4
     put-answer-requires-6
     add-k-6
@@ -679,9 +691,13 @@ run-spec =
     element-copy-out-z
     mul-y-2
     element-copy-out-y-2
-    flush-read-requires
-    add-t161
-    mul-t162
+    time-of-requires
+    mul-hub
+    add-hub
+    mul-hub-2
+    element-write-hub
+    add-t155
+    mul-t164
     element-set-from-hub-5
     put-answer-requires-7
     add-k-7
@@ -689,7 +705,7 @@ run-spec =
     loop-again-7
     enum-known-s-4
     flush-split-requires
-    mul-t185
+    mul-t181
     element-set-from-hub-6
     put-answer-requires-8
     add-k-8
@@ -697,15 +713,15 @@ run-spec =
     loop-again-8
     enum-known-s-5
     flush-free-requires
-    sub-t209
-    mul-t208
+    sub-t204
+    mul-t203
     element-set-from-hub-7
     loop2-holds
     mul-z-2
     element-copy-out-z-2
     stands-on-requires
     off-requires
-    mul-t227
+    mul-t220
     element-set-from-hub-8
     add-j
     loop2-less

@@ -52,7 +52,7 @@ use Rattle.hub.proofs.Rows.{through}
 use Rattle.hub.proofs.Lends.{big-lit}
 use Rattle.hub.proofs.Local.{lends-local, takes-back}
 use Rattle.hub.proofs.Words.{Words}
-use Rattle.hub.proofs.Values.{hub-vals, applied-vals, typed-hub, typed-applied, hub-workers}
+use Rattle.hub.proofs.Values.{hub-vals, applied-vals, typed-hub, typed-applied, hub-sizes}
 use Rattle.hub.proofs.Passed.{Single, SingleLeft, single-types, single-vals, single-spells, single-tells, single-list, single-own}
 use Rattle.hub.proofs.Passed.{single-end, OneDone}
 use Rattle.hub.proofs.Passed.{SingleDoes, Known, single-known, single-does}
@@ -210,7 +210,7 @@ module _ {M : Type 1} (𝓤 : URA M) (H : Heap 𝓤) (A : Atoms 𝓤) (W : Given
         move ! (22 ∷ 23 ∷ []) $ free1 ! $ move ! (20 ∷ 21 ∷ []) $ free1 ! $ move ! (18 ∷ 19 ∷ []) $ free1 ! $ move ! (16 ∷ 17 ∷ []) $ free1 ! $
         move ! (14 ∷ 15 ∷ []) $ free1 ! $ move ! (12 ∷ 13 ∷ []) $ free1 ! $ move ! (10 ∷ 11 ∷ []) $ free1 ! $ move ! (8 ∷ 9 ∷ []) $ free1 ! $
         move ! (6 ∷ 7 ∷ []) $ free1 ! $ move ! (4 ∷ 5 ∷ []) $ free1 ! $ free0 ! $
-        by ! (exits zs r z (single-does hub ys x (r .hub) zs z (r .answer) (hub-workers hub gh) known
+        by ! (exits zs r z (single-does hub ys x (r .hub) zs z (r .answer) (hub-sizes hub gh) known
         (through ys 2048 k is-k (Did r z) ws zs₁ zs₂ zs (gw .1 .0 .1) e₁ len₂ e₃ e₂)) len₃ gr)))))))))))))))))))))))))))))))))))))))
 
 module _ {M : Type 1} (𝓤 : URA M) (H : Heap 𝓤) (A : Atoms 𝓤) (W : Given 𝓤 H A) (mem : Memory → SProp 𝓤) (run : Routine → Fun 𝓤) (𝓣 : Tables 𝓤 H)

@@ -52,7 +52,7 @@ use Rattle.hub.proofs.Rows.{through}
 use Rattle.hub.proofs.Lends.{big-lit}
 use Rattle.hub.proofs.Local.{lends-local, takes-back}
 use Rattle.hub.proofs.Words.{Words}
-use Rattle.hub.proofs.Values.{hub-vals, left-vals, typed-hub, typed-left, hub-workers}
+use Rattle.hub.proofs.Values.{hub-vals, left-vals, typed-hub, typed-left, hub-sizes}
 use Rattle.hub.proofs.Passed.{Buffer, BufferLeft, buffer-types, buffer-vals, buffer-spells, buffer-tells, buffer-list, buffer-end}
 use Rattle.hub.proofs.Passed.{buffer-own, AllDone, AllDoes, KnownAll, buffer-known, all-does, SameLong}
 use Rattle.hub.proofs.Handed.{buffer-gave, buffer-go}
@@ -113,7 +113,7 @@ module _ {M : Type 1} (𝓤 : URA M) (H : Heap 𝓤) (A : Atoms 𝓤) (W : Given
 
   known-does : (zs : List Slot) (r : Counted) (z : BufferLeft) → KnownAll x
       → (rest-of 2048 zs ≡ rest-of 2048 ys) × Did r z (take 2048 ys) (take 2048 zs) → Does r z zs
-  known-does zs r z known e = (e .0, all-does hub (take 2048 ys) x (r .count) (r .hub) (take 2048 zs) z (hub-workers hub gh) known (e .1))
+  known-does zs r z known e = (e .0, all-does hub (take 2048 ys) x (r .count) (r .hub) (take 2048 zs) z (hub-sizes hub gh) known (e .1))
 
   exits : (zs : List Slot) (r : Counted) (z : BufferLeft) → Does r z zs → length zs ≡ n
       → SameLong x z → Is L.the-row r (left-vals r)

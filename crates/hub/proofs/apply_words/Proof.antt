@@ -25,6 +25,9 @@ same-length-3 c = search needs
 workers-long : (c : tie.Start) → length (c .args .hub .workers) ≡ 16
 workers-long c = search (needs, length-mapped)
 
+times-long : (c : tie.Start) → length (c .args .hub .times) ≡ 256
+times-long c = search needs
+
 returns : tie.Need-returns
 returns c =
     let p = c .before .before .before .before .before in
@@ -37,6 +40,7 @@ returns c =
     words-applied (known .before .args .row .now) (p .run-all .last .0) (search needs) (p .run-all .ensures .1)
     (record {
       workers = workers-long (known .before);
+      times = times-long (known .before);
       newest = n .lengths-told-arg2 .given .0;
       free = f .lengths-told-arg4 .given .0;
       queue = q .lengths-told-arg6 .given .0;

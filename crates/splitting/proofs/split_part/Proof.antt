@@ -1,6 +1,9 @@
 -- `split_part` meets its contract: what `ranges::split` makes of the part that is lent, said of the whole.
-use borrow.Author.Needs.{needs}
+use mathlib.Core.Path.{_≡_}
+use Prim.Native.Nat.{_+_, _-_, _*_}
+use native.Mathlib.Omega.{arith}
 use Rattle.splitting.proofs.PartLaws.{split-part}
+use borrow.Author.Needs.{needs}
 use Rattle.splitting.proofs.split_part.Statement.{statement}
 use Rattle.splitting.proofs.split_part.Tie as tie
 
@@ -9,6 +12,12 @@ mul-at c = search needs
 
 add-e : tie.Need-add-e
 add-e c = search needs
+
+mul-from : tie.Need-mul-from
+mul-from c = search needs
+
+add-to : tie.Need-add-to
+add-to c = search needs
 
 mul-split : tie.Need-mul-split
 mul-split c = search needs
@@ -22,6 +31,18 @@ part-split-start c = search needs
 part-split-end : tie.Need-part-split-end
 part-split-end c = search needs
 
+mul-split-2 : tie.Need-mul-split-2
+mul-split-2 c = search needs
+
+sub-split-2 : tie.Need-sub-split-2
+sub-split-2 c = search needs
+
+part-split-start-2 : tie.Need-part-split-start-2
+part-split-start-2 c = search needs
+
+part-split-end-2 : tie.Need-part-split-end-2
+part-split-end-2 c = search needs
+
 split-requires : tie.Need-split-requires
 split-requires c κs = search needs
 
@@ -30,8 +51,9 @@ same-length c = search needs
 
 returns : tie.Need-returns
 returns c =
-    let a = c .before .before .before .before .before .before .before .args in
-    split-part (a .merged .now) (a .w) _ (a .m) _ _ _ _ (c .before .before .split .ensures)
+    let a = c .before .before .before .before .before .before .before .before .args in
+    let e : 16 * a .w + 16 - 16 * a .w ≡ 16 = omega arith in
+    rw e at (split-part (a .merged .now) (a .w) _ (a .m) _ _ _ _ (c .before .before .split .ensures))
 
 pub split-part-spec : {M : Type 1} → statement M
 split-part-spec =
@@ -39,10 +61,16 @@ split-part-spec =
     (tie.spec
     mul-at
     add-e
+    mul-from
+    add-to
     mul-split
     sub-split
     part-split-start
     part-split-end
+    mul-split-2
+    sub-split-2
+    part-split-start-2
+    part-split-end-2
     split-requires
     same-length
     returns)
