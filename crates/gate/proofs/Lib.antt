@@ -1,2 +1,3 @@
 pub mod Decoded
 pub mod Named
+pub mod Tests

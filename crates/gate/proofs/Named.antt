@@ -12,7 +12,6 @@ use Rattle.model.specs.Record as Model
 use Rattle.model.proofs.Basic.{cond-both}
 use Rattle.worker.specs.declared.Announced.{Announced}
 use Rattle.worker.specs.declared.Doing.{Doing}
-use Rattle.worker.specs.About.{aboutOf}
 use Rattle.record.specs.declared.Operation.{Operation}
 use Rattle.record.specs.declared.Command.the-variants.{SetUp, Begin, Step}
 use Rattle.record.specs.declared.Decoded.{Decoded}
@@ -20,7 +19,8 @@ use Rattle.record.specs.declared.Decoded.the-variants.{Asks, Refuses}
 use Rattle.record.specs.Meaning.{decodedOf}
 use Rattle.gate.specs.declared.Gate.{Gate}
 use Rattle.gate.specs.declared.Gate.the-variants.{Refuse, Make, Start, Go}
-use Rattle.gate.specs.Gate.{termsOf, registerOk, openOk, timeOk, beginGate, sizesOk, gateOf, whoOf}
+use Rattle.gate.specs.Gate.{beginGate, sizesOk, gateOf, whoOf}
+use Rattle.gate.proofs.Tests.{begin-gate-by}
 
 -- what a gate says of the worker w that the record names
 abbrev pub Named : Bool → ℕ → ℕ → ℕ → Gate → Type 0
@@ -28,14 +28,6 @@ Named up w p long (Refuse k) = Unit {0}
 Named up w p long (Make x y n k) = (up ≡ false) × (sizesOk x y n k long ≡ true)
 Named up w p long (Start x d) = (up ≡ true) × (x ≡ w) × (w < p)
 Named up w p long (Go x) = (up ≡ true) × (x ≡ w) × (w < p)
-
-named-begin : (w p long : ℕ) (d : Doing) → w < p → (a b c e : Bool)
-    → Named true w p long (cond a (cond b (cond c (cond e (Start w d) (Refuse 13)) (Refuse 12)) (Refuse 10)) (Refuse 4))
-named-begin w p long d h false b c e = tt
-named-begin w p long d h true false c e = tt
-named-begin w p long d h true true false e = tt
-named-begin w p long d h true true true false = tt
-named-begin w p long d h true true true true = (refl, refl, h)
 
 named-worker : (w p long : ℕ) (g : Gate) → (w < p → Named true w p long g) → (t : Bool) → ltb w p ≡ t → Named true w p long (cond t g (Refuse 3))
 named-worker w p long g f true e = f (ltb-true w p e)
@@ -53,16 +45,14 @@ Names (Asks (Begin w o)) u = w ≡ u
 Names (Asks (Step w)) u = w ≡ u
 
 pub named : (r : Decoded) (u : ℕ) → Names r u → (up : Bool) (p v long : ℕ) (d : Doing) (t : Announced) → Named up u p long (gateOf r up p v long d t)
-unfolding gateOf beginGate
+unfolding gateOf
 named (Refuses k) u e up p v long d t = tt
 named (Asks (SetUp x y n k)) u e true p v long d t = tt
 named (Asks (SetUp x y n k)) u e false p v long d t = named-make u p long x y n k (sizesOk x y n k long) refl
 named (Asks (Begin w o)) u e false p v long d t = tt
 named (Asks (Begin w o)) u e true p v long d t =
-    let x = termsOf o in
     subst (λ (i : ℕ). Named true i p long (gateOf (Asks (Begin w o)) true p v long d t)) e
-    (named-worker w p long _
-    (λ h. named-begin w p long (x .first) h (registerOk (x .register) v) (aboutOf d .idle) (openOk (x .time) t) (timeOk (x .time) t)) (ltb w p) refl)
+    (begin-gate-by (Named true w p long) p v w o d t (λ k n. tt) (λ h. (refl, refl, ltb-true w p h)))
 named (Asks (Step w)) u e false p v long d t = tt
 named (Asks (Step w)) u e true p v long d t =
     subst (λ (i : ℕ). Named true i p long (gateOf (Asks (Step w)) true p v long d t)) e

@@ -1,9 +1,12 @@
 -- What is decided before a record is carried out: the refusal that it meets, or what is to be done.
 use mathlib.Core.Bool.{Bool, true, false, cond, not, _&&_}
 use mathlib.Core.List.{List}
+use mathlib.Core.Option.{some}
 use Prim.Native.Nat.{ℕ}
 use lib.Dec.{ltb, leb}
+use Rattle.model.specs.Rules.{inForce}
 use Rattle.model.specs.Record as Model
+use Rattle.model.specs.Apply.{valueWithin}
 use Rattle.worker.specs.declared.Announced.{Announced}
 use Rattle.worker.specs.declared.Announced.the-variants.{Nothing as NoTime, At}
 use Rattle.worker.specs.declared.Doing.{Doing}
@@ -20,6 +23,8 @@ use Rattle.record.specs.declared.Decoded.{Decoded}
 use Rattle.record.specs.declared.Decoded.the-variants.{Asks, Refuses}
 use Rattle.gate.specs.declared.TimeNeed.{TimeNeed}
 use Rattle.gate.specs.declared.TimeNeed.the-variants.{Any, Absent, Own}
+use Rattle.gate.specs.declared.Putting.{Putting}
+use Rattle.gate.specs.declared.Putting.the-variants.{Nothing as NoValue, Value}
 use Rattle.gate.specs.declared.Terms.{Terms}
 use Rattle.gate.specs.declared.Gate.{Gate}
 use Rattle.gate.specs.declared.Gate.the-variants.{Refuse, Make, Start, Go}
@@ -56,17 +61,22 @@ decodedIn b = decodedRep (Model.decode b)
 
 -- The terms on which an operation begins: the model's `terms` in this code's types.
 abbrev pub termsOf : Operation → Terms
-termsOf (Put r x) = record { register = Is r; time = Any; first = PutPublish r x }
-termsOf Open = record { register = Nothing; time = Absent; first = OnTime OpenAnnounce }
-termsOf (Read r) = record { register = Is r; time = Own; first = ReadEnter (record { register = r }) }
-termsOf Close = record { register = Nothing; time = Own; first = OnTime CloseWithdraw }
-termsOf (Get r) = record { register = Is r; time = Any; first = GetShow r }
-termsOf Collect = record { register = Nothing; time = Any; first = FlushTake }
+termsOf (Put r x) = record { register = Is r; value = Value (x .count); time = Any; first = PutPublish r x }
+termsOf Open = record { register = Nothing; value = NoValue; time = Absent; first = OnTime OpenAnnounce }
+termsOf (Read r) = record { register = Is r; value = NoValue; time = Own; first = ReadEnter (record { register = r }) }
+termsOf Close = record { register = Nothing; value = NoValue; time = Own; first = OnTime CloseWithdraw }
+termsOf (Get r) = record { register = Is r; value = NoValue; time = Any; first = GetShow r }
+termsOf Collect = record { register = Nothing; value = NoValue; time = Any; first = FlushTake }
 
 -- 4: the register, if there is one, is below v
 abbrev pub registerOk : Named → ℕ → Bool
 registerOk Nothing v = true
 registerOk (Is r) v = ltb r v
+
+-- 16: the value, if there is one, is at most the limit in force
+abbrev pub valueOk : Putting → Bool
+valueOk NoValue = true
+valueOk (Value x) = valueWithin (inForce .limit) (some x)
 
 -- a time is announced
 abbrev pub hasTime : Announced → Bool
@@ -85,15 +95,17 @@ timeOk Any t = true
 timeOk Absent t = true
 timeOk Own t = hasTime t
 
--- the refusals of a begin in their order: 3, 4, 10, 12, 13
+-- the refusals of a begin in their order: 3, 4, 16, 10, 12, 13
 unfoldable pub beginGate : ℕ → ℕ → ℕ → Operation → Doing → Announced → Gate
 beginGate p v w o d t =
     let x = termsOf o in
     cond (ltb w p)
     (cond (registerOk (x .register) v)
+    (cond (valueOk (x .value))
     (cond (aboutOf d .idle)
     (cond (openOk (x .time) t) (cond (timeOk (x .time) t) (Start w (x .first)) (Refuse 13)) (Refuse 12))
     (Refuse 10))
+    (Refuse 16))
     (Refuse 4))
     (Refuse 3)
 

@@ -1,7 +1,7 @@
 // What is decided before a record is carried out: which refusal it meets, or what is to be done.
 ghost use mathlib.Core.Path.{_≡_};
 ghost use Prim.Native.Nat.{_≤_};
-ghost use Rattle.gate.specs.Gate.{termsOf, registerOk, hasTime, openOk, timeOk, beginGate, sizesOk, gateOf};
+ghost use Rattle.gate.specs.Gate.{termsOf, registerOk, valueOk, hasTime, openOk, timeOk, beginGate, sizesOk, gateOf};
 use record::Command;
 use record::Decoded;
 use record::Operation;
@@ -42,9 +42,17 @@ pub enum TimeNeed {
     Own,
 }
 
-// The terms on which an operation begins: the register that it names, what it asks of the announced time, and its first place.
+// The value that an operation puts, or none.
+pub enum Putting {
+    Nothing,
+    Value(u64),
+}
+
+// The terms on which an operation begins: the register that it names, the value that it puts, what it asks of the announced time, and its
+// first place.
 pub struct Terms {
     pub register: Named,
+    pub value: Putting,
     pub time: TimeNeed,
     pub first: Doing,
 }
@@ -56,16 +64,19 @@ fn terms_of(o: Operation) -> Terms
     match o {
         Operation::Put { register, reading } => Terms {
             register: Named::Is(register),
+            value: Putting::Value(reading.count),
             time: TimeNeed::Any,
             first: Doing::PutPublish { register, reading },
         },
         Operation::Open => Terms {
             register: Named::Nothing,
+            value: Putting::Nothing,
             time: TimeNeed::Absent,
             first: Doing::OnTime(TimeStep::OpenAnnounce),
         },
         Operation::Read { register } => Terms {
             register: Named::Is(register),
+            value: Putting::Nothing,
             time: TimeNeed::Own,
             first: Doing::ReadEnter {
                 goal: Goal { register },
@@ -73,16 +84,19 @@ fn terms_of(o: Operation) -> Terms
         },
         Operation::Close => Terms {
             register: Named::Nothing,
+            value: Putting::Nothing,
             time: TimeNeed::Own,
             first: Doing::OnTime(TimeStep::CloseWithdraw),
         },
         Operation::Get { register } => Terms {
             register: Named::Is(register),
+            value: Putting::Nothing,
             time: TimeNeed::Any,
             first: Doing::GetShow { register },
         },
         Operation::Collect => Terms {
             register: Named::Nothing,
+            value: Putting::Nothing,
             time: TimeNeed::Any,
             first: Doing::FlushTake,
         },
@@ -96,6 +110,16 @@ fn register_ok(r: Named, v: usize) -> bool
     match r {
         Named::Nothing => true,
         Named::Is(i) => wide16(i) < v,
+    }
+}
+
+// 16: the value, if there is one, is at most the limit in force.
+fn value_ok(x: Putting) -> bool
+    ensures { λ y. ⌜ y ≡ valueOk x ⌝ }
+{
+    match x {
+        Putting::Nothing => true,
+        Putting::Value(k) => k <= 999999999999,
     }
 }
 
@@ -130,27 +154,36 @@ fn time_ok(x: TimeNeed, t: Announced) -> bool
     }
 }
 
-// The tests of a begin, of a worker at the place d with the announced time t.
+// The tests of a begin, of a worker at the place d with the announced time t, in the order of the refusals. They are made before the first is
+// looked at: none changes anything, and the order stands in one place.
 fn begin(p: usize, v: usize, worker: u8, o: Operation, d: Doing, t: Announced) -> Gate
     ensures { λ r. ⌜ r ≡ beginGate p v worker o d t ⌝ }
 {
     let x = terms_of(o);
     let register = x.register;
+    let value = x.value;
     let need = x.time;
     let doing = x.first;
+    let known = register_ok(register, v);
+    let fits = value_ok(value);
+    let place = worker::about(d);
+    let unannounced = open_ok(need, t);
+    let announced = time_ok(need, t);
     if wide8(worker) < p {
-        if register_ok(register, v) {
-            let place = worker::about(d);
-            if place.idle {
-                if open_ok(need, t) {
-                    if time_ok(need, t) {
-                        return Gate::Start { worker, doing };
+        if known {
+            if fits {
+                if place.idle {
+                    if unannounced {
+                        if announced {
+                            return Gate::Start { worker, doing };
+                        }
+                        return Gate::Refuse(13);
                     }
-                    return Gate::Refuse(13);
+                    return Gate::Refuse(12);
                 }
-                return Gate::Refuse(12);
+                return Gate::Refuse(10);
             }
-            return Gate::Refuse(10);
+            return Gate::Refuse(16);
         }
         return Gate::Refuse(4);
     }

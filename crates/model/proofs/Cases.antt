@@ -74,4 +74,7 @@ runs =
       freed-once = refl;
       unlinked-log = refl;
       pool-order = refl;
+      limit-log = refl;
+      earlier-log = refl;
+      earlier-order = refl;
     }

@@ -1,14 +1,19 @@
--- The theorems under the rules of docs/HUB.md. That their batch size is from 1 to 64 is computed for each number of workers.
-use mathlib.Core.Bool.{Bool, true, _&&_}
+-- The theorems under document 01's rules and under those in force. That their batch size is from 1 to 64 is computed for each number of workers;
+-- that they differ in refusal 16 alone is seen where the tests of a begin are: the rules in force have one test more.
+use mathlib.Core.Bool.{Bool, true, false, cond, _&&_}
 use mathlib.Core.Path.{_≡_, refl, sym, subst}
-use mathlib.Core.Logic.{⊎-elim}
+use mathlib.Core.Logic.{_⊎_, inl, inr, ⊎-elim}
 use Prim.Native.Nat.{ℕ, zero, suc, _≤_}
 use native.Mathlib.Omega.{arith}
-use lib.Dec.{leb}
+use lib.Dec.{ltb, leb}
 use borrow.Author.Tests as Tests
+use Rattle.model.specs.Store.{Hub, blank, up}
 use Rattle.model.specs.Batch.{leastFrom, logUp, batchOf}
-use Rattle.model.specs.Rules.{Rules, document01, Allowed, under, allUnder}
-use Rattle.model.specs.Document.{Document}
+use Rattle.model.specs.Rules.{Rules, document01, inForce, Allowed, under, allUnder}
+use Rattle.model.specs.Answer.{Applied}
+use Rattle.model.specs.Record.{SetUp, Begin, Step, Decoded, Asks, Refuses, decode}
+use Rattle.model.specs.Apply.{refuse, setUp, terms, registerBelow, valueWithin, begin, obey, applyDecoded, apply}
+use Rattle.model.specs.Document.{Theorems, Document}
 use Rattle.model.proofs.Basic.{eq-cases, and-both}
 use Rattle.model.proofs.Main.{demand}
 use Rattle.model.proofs.Refusals.{demand-1}
@@ -39,15 +44,42 @@ each (suc n) p t a b =
 pub allowed : (rules : Rules) → rules .batch ≡ batchOf → Allowed rules
 allowed rules e p a b = subst (λ (f : ℕ → ℕ). (1 ≤ f p) × (f p ≤ 64)) (sym e) (each 16 p tested a b)
 
-document01-allowed : Allowed document01
-document01-allowed = allowed document01 refl
+theorems : (rules : Rules) → rules .batch ≡ batchOf → Theorems rules
+theorems rules e =
+    let a : Allowed rules = allowed rules e in
+    record {
+      demand-1 = demand-1 rules;
+      demand-3 = λ row b ok bs. demand row (under rules b) ok (allUnder rules bs);
+      batches = a;
+      sound = λ row b ok bs. sound row (under rules b) a ok (allUnder rules bs);
+      as-published = λ row b ok bs. as-published row (under rules b) a ok (allUnder rules bs);
+    }
+
+-- two lists of tests that differ in one
+one-test : (a b c : Bool) (x₀ x₁ x₂ y : Applied)
+    → (cond a (cond b (cond c y x₂) x₁) x₀ ≡ x₂) ⊎ (cond a (cond b (cond c y x₂) x₁) x₀ ≡ cond a (cond b y x₁) x₀)
+one-test true true true x₀ x₁ x₂ y = inr refl
+one-test true true false x₀ x₁ x₂ y = inl refl
+one-test true false c x₀ x₁ x₂ y = inr refl
+one-test false b c x₀ x₁ x₂ y = inr refl
+
+only-16 : (h : Hub) (d : Decoded) → (applyDecoded inForce h d ≡ refuse h 16) ⊎ (applyDecoded inForce h d ≡ applyDecoded document01 h d)
+unfolding applyDecoded obey setUp begin
+only-16 (blank row) (Asks (SetUp z)) = inr refl
+only-16 (up s) (Asks (SetUp z)) = inr refl
+only-16 (blank row) (Asks (Begin w o)) = inr refl
+only-16 (up s) (Asks (Begin w o)) =
+    one-test (ltb w (s .site .P)) (registerBelow (s .site .V') (terms o .register)) (valueWithin (inForce .limit) (terms o .value)) _ _ _ _
+only-16 (blank row) (Asks (Step w)) = inr refl
+only-16 (up s) (Asks (Step w)) = inr refl
+only-16 h (Refuses k) = inr refl
 
 pub document : Document
+unfolding apply
 document =
     record {
-      demand-1 = demand-1 document01;
-      demand-3 = λ row b e bs. demand row (under document01 b) e (allUnder document01 bs);
-      batches = document01-allowed;
-      sound = λ row b e bs. sound row (under document01 b) document01-allowed e (allUnder document01 bs);
-      as-published = λ row b e bs. as-published row (under document01 b) document01-allowed e (allUnder document01 bs);
+      in-force = theorems inForce refl;
+      earlier = theorems document01 refl;
+      changing = demand;
+      refusal-16 = λ h b. only-16 h (decode b);
     }

@@ -78,7 +78,7 @@ module _ (now : ℕ) (s : Store) (olds : List (List ℕ)) (h : List Call) (o : L
   unfolding applyDecoded obey setUp step
   decoded-bounded rules (Asks (SetUp z)) = unchanged 9
   decoded-bounded rules (Asks (Begin w c)) =
-      begin-by Bounded s w c (λ k n. unchanged k)
+      begin-by Bounded rules s w c (λ k n. unchanged k)
       (λ t. (
         place s w (terms c .first),
         refl,

@@ -47,10 +47,10 @@ module _ (now : ℕ) (s : Store) (olds : List (List ℕ)) (h : List Call) (o : L
   unfolding observe effects
   not-begun w c k = refused-holds (Asks (Begin w c)) k refl refl
 
-  begin-holds : (w : ℕ) (c : Operation) → Holds now s (Asks (Begin w c)) h o (begin s w c)
+  begin-holds : (rules : Rules) (w : ℕ) (c : Operation) → Holds now s (Asks (Begin w c)) h o (begin rules s w c)
   unfolding observe effects
-  begin-holds w c =
-      begin-by (Holds now s (Asks (Begin w c)) h o) s w c (λ k n. not-begun w c k)
+  begin-holds rules w c =
+      begin-by (Holds now s (Asks (Begin w c)) h o) rules s w c (λ k n. not-begun w c k)
       (λ t.
       record {
         store = place s w (terms c .first);
@@ -104,7 +104,7 @@ module _ (now : ℕ) (s : Store) (olds : List (List ℕ)) (h : List Call) (o : L
   decoded-holds : (rules : Rules) (d : Decoded) → Holds now s d h o (applyDecoded rules (up s) d)
   unfolding applyDecoded obey setUp observe effects
   decoded-holds rules (Asks (SetUp z)) = refused-holds (Asks (SetUp z)) 9 refl refl
-  decoded-holds rules (Asks (Begin w c)) = begin-holds w c
+  decoded-holds rules (Asks (Begin w c)) = begin-holds rules w c
   decoded-holds rules (Asks (Step w)) = step-holds w
   decoded-holds rules (Refuses k) = refused-holds (Refuses k) k refl refl
 

@@ -87,9 +87,10 @@ setup-well rules row z =
     cond-both (Ends (blank row) (Asks (SetUp z))) (inRanges z && leb (z .N) (length row)) _ _ (λ e. tt)
     (λ e. on-reading (blank row) (Asks (SetUp z)) 5 refl (omega arith))
 
-begin-well : (s : Store) (w : ℕ) (c : Operation) → Ends (up s) (Asks (Begin w c)) (begin s w c)
+begin-well : (rules : Rules) (s : Store) (w : ℕ) (c : Operation) → Ends (up s) (Asks (Begin w c)) (begin rules s w c)
 unfolding takesStep
-begin-well s w c = begin-by (Ends (up s) (Asks (Begin w c))) s w c (λ k n. on-reading (up s) (Asks (Begin w c)) k refl n) (λ t. tt)
+begin-well rules s w c =
+    begin-by (Ends (up s) (Asks (Begin w c))) rules s w c (λ k n. on-reading (up s) (Asks (Begin w c)) k refl n) (λ t. tt)
 
 -- the refusals of a record that is not read as a command are 6, 1 and 2
 abbrev Read : Decoded → Type 0
@@ -112,7 +113,7 @@ unfolding applyDecoded obey setUp step takesStep occurrences
 decoded-well rules (blank row) (Asks (SetUp z)) r = setup-well rules row z
 decoded-well rules (up s) (Asks (SetUp z)) r = on-reading (up s) (Asks (SetUp z)) 9 refl (omega arith)
 decoded-well rules (blank row) (Asks (Begin w c)) r = on-reading (blank row) (Asks (Begin w c)) 8 refl (omega arith)
-decoded-well rules (up s) (Asks (Begin w c)) r = begin-well s w c
+decoded-well rules (up s) (Asks (Begin w c)) r = begin-well rules s w c
 decoded-well rules (blank row) (Asks (Step w)) r = on-reading (blank row) (Asks (Step w)) 8 refl (omega arith)
 decoded-well rules (up s) (Asks (Step w)) r =
     cond-both (Ends (up s) (Asks (Step w))) (ltb w (s .site .P)) _ _

@@ -1,5 +1,5 @@
 -- One record applied to the hub: setup (H2), the begin of an operation (H4), a step, and the refusals in their order (H7.1): 6, 1, 2, 8 or 9,
--- 5, 3, 4, then 10 or 11, then 12 or 13.
+-- 5, 3, 4, 16, then 10 or 11, then 12 or 13.
 use mathlib.Core.Bool.{Bool, true, false, cond, not, _&&_}
 use mathlib.Core.List.{List, [], _∷_}
 use mathlib.Core.Option.{Option, none, some}
@@ -71,25 +71,33 @@ pub data TimeNeed : Type 0 where
   NoTime : TimeNeed
   OwnTime : TimeNeed
 
--- The terms on which an operation begins: the register that it names, if any, what it asks of the announced time, and its first place.
+-- The terms on which an operation begins: the register that it names, if any, the value that it puts, if any, what it asks of the announced
+-- time, and its first place.
 pub record Terms : Type 0 where
   pub register : Option ℕ
+  pub value : Option ℕ
   pub time : TimeNeed
   pub first : Doing
 
 -- H4.1: an operation is taken apart here. H5.31: a collect begins with flush (1).
 abbrev pub terms : Operation → Terms
-terms (Put r x) = record { register = some r; time = AnyTime; first = PutPublish r x }
-terms Open = record { register = none; time = NoTime; first = OnTime OpenAnnounce }
-terms (Read r) = record { register = some r; time = OwnTime; first = ReadEnter (record { register = r }) }
-terms Close = record { register = none; time = OwnTime; first = OnTime CloseWithdraw }
-terms (Get r) = record { register = some r; time = AnyTime; first = GetShow r }
-terms Collect = record { register = none; time = AnyTime; first = FlushTake }
+terms (Put r x) = record { register = some r; value = some (x .count); time = AnyTime; first = PutPublish r x }
+terms Open = record { register = none; value = none; time = NoTime; first = OnTime OpenAnnounce }
+terms (Read r) = record { register = some r; value = none; time = OwnTime; first = ReadEnter (record { register = r }) }
+terms Close = record { register = none; value = none; time = OwnTime; first = OnTime CloseWithdraw }
+terms (Get r) = record { register = some r; value = none; time = AnyTime; first = GetShow r }
+terms Collect = record { register = none; value = none; time = AnyTime; first = FlushTake }
 
 -- 4: the register, if there is one, is below v
 abbrev pub registerBelow : ℕ → Option ℕ → Bool
 registerBelow v none = true
 registerBelow v (some r) = ltb r v
+
+-- 16: the value, if there is one, is at most the limit, if there is one
+abbrev pub valueWithin : Option ℕ → Option ℕ → Bool
+valueWithin none x = true
+valueWithin (some most) none = true
+valueWithin (some most) (some x) = leb x most
 
 -- 12: only an open asks that no time is announced. `has`: a time is announced
 abbrev pub mayOpen : TimeNeed → Bool → Bool
@@ -107,17 +115,18 @@ mayUseTime OwnTime has = has
 abbrev pub isIdle : Doing → Bool
 isIdle d = about d .idle
 
--- H7.1: 3 worker not below P; 4; 10; 12; 13; else begun (H4.1)
-unfoldable pub begin : Store → ℕ → Operation → Applied
-begin s w o =
+-- H7.1: 3 worker not below P; 4; 16; 10; 12; 13; else begun (H4.1)
+unfoldable pub begin : Rules → Store → ℕ → Operation → Applied
+begin rules s w o =
     let has = ltb (workerAt s w .announced) absent in
     let x = terms o in
     let begun : Applied = record { hub = up (place s w (x .first)); answer = Ok } in
     unless (ltb w (s .site .P)) (up s) 3
     (unless (registerBelow (s .site .V') (x .register)) (up s) 4
+    (unless (valueWithin (rules .limit) (x .value)) (up s) 16
     (unless (isIdle (workerAt s w .doing)) (up s) 10
     (unless (mayOpen (x .time) has) (up s) 12
-    (unless (mayUseTime (x .time) has) (up s) 13 begun))))
+    (unless (mayUseTime (x .time) has) (up s) 13 begun)))))
 
 ------------------------------------------------------------------------
 -- A step
@@ -144,7 +153,7 @@ takesStep (up s) (Refuses k) = false
 unfoldable pub obey : Rules → Hub → Command → Applied
 obey rules h (SetUp z) = setUp rules h z
 obey rules (blank row) (Begin w o) = refuse (blank row) 8
-obey rules (up s) (Begin w o) = begin s w o
+obey rules (up s) (Begin w o) = begin rules s w o
 obey rules (blank row) (Step w) = refuse (blank row) 8
 obey rules (up s) (Step w) = step s w
 

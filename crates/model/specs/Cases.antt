@@ -6,7 +6,7 @@ use Prim.Native.Nat.{ℕ}
 use lib.ListN.{length, replicate, getD, set}
 use Rattle.model.specs.Store.{absent, Range, Slot, slot₀, FlushRead, startWorker, Store, Hub, blank, up}
 use Rattle.model.specs.Batch.{batchOf}
-use Rattle.model.specs.Rules.{document01, Ruled, under}
+use Rattle.model.specs.Rules.{document01, inForce, Ruled, under}
 use Rattle.model.specs.Answer.{Answer, Ok, Going, At, Value, No}
 use Rattle.model.specs.Ranges.{needed, merge}
 use Rattle.model.specs.Steps.{flushSplit}
@@ -31,7 +31,11 @@ recordOf (Step w) = 7 ∷ w ∷ replicate 14 0
 
 -- a command's record, handed in under the rules of docs/HUB.md
 abbrev pub handed : Command → Ruled
-handed c = under document01 (recordOf c)
+handed c = under inForce (recordOf c)
+
+-- and before the first change request
+abbrev pub handedBefore : Command → Ruled
+handedBefore c = under document01 (recordOf c)
 
 abbrev pub setup : ℕ → ℕ → ℕ → ℕ → Command
 setup p v n t = SetUp (record { P = p; V' = v; N = n; clock = t })
@@ -179,4 +183,4 @@ exampleText =
 
 -- over a row of two slots, the least that its setup needs
 abbrev pub Example : Type 0
-Example = logOf document01 (replicate 2 slot₀) exampleFile ≡ exampleText
+Example = logOf inForce (replicate 2 slot₀) exampleFile ≡ exampleText

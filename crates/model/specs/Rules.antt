@@ -1,20 +1,23 @@
 -- The rules in force when a record is handed in, and a record with its rules. A list of records may change its rules on the way.
 use mathlib.Core.List.{List, map}
+use mathlib.Core.Option.{Option, none, some}
 use Prim.Native.Nat.{ℕ, _≤_}
 use Rattle.model.specs.Batch.{batchOf}
 
--- The rules in force when a record is handed in. Today they are the batch size of so many workers; later requests add to them.
+-- The rules in force when a record is handed in: what a later paper set otherwise than document 01.
 pub record Rules : Type 0 where
   -- B for so many workers; only a setup looks at it
   pub batch : ℕ → ℕ
+  -- the largest value that may be put, or none where every value may; only the begin of a put looks at it
+  pub limit : Option ℕ
 
--- the rules of docs/HUB.md, which follow the scope paper, document 01
+-- the rules of the scope paper, document 01, which were in force before the first change request: every value may be put
 abbrev pub document01 : Rules
-document01 = record { batch = batchOf }
+document01 = record { batch = batchOf; limit = none }
 
--- the rules that the code follows
+-- the rules of docs/HUB.md, which the code follows. H7.9: a value has at most twelve digits.
 abbrev pub inForce : Rules
-inForce = document01
+inForce = record { batch = batchOf; limit = some 999999999999 }
 
 -- H1.19, H2.2: a local pool has room for 64 ranges, so the batch size is from 1 to 64 for each number of workers that a setup may have
 abbrev pub Allowed : Rules → Type 0

@@ -5,20 +5,23 @@ use mathlib.Core.List.{List, [], _∷_, _++_, map}
 use Prim.Native.Nat.{ℕ}
 use lib.ListN.{replicate}
 use Rattle.model.specs.Store.{slot₀}
-use Rattle.model.specs.Rules.{document01}
-use Rattle.model.specs.Record.{Open, Read, Get, Collect, Command, Begin, Step}
-use Rattle.model.specs.Apply.{applyRuled}
-use Rattle.model.specs.Log.{text, logOf}
+use Rattle.model.specs.Rules.{inForce, Ruled}
+use Rattle.model.specs.Record.{Open, Read, Close, Get, Collect, Command, Begin, Step}
+use Rattle.model.specs.Apply.{applyRuled, answersTo}
+use Rattle.model.specs.Log.{text, lines, logOf}
 use Rattle.model.specs.Demand.{events, order}
-use Rattle.model.specs.Cases.{recordOf, handed, setup, put, rowOf, joined}
+use Rattle.model.specs.Cases.{recordOf, handed, handedBefore, setup, put, rowOf, joined}
 
 -- the log of a list of commands, over a row of n slots
 abbrev pub logFor : ℕ → List Command → List ℕ
-logFor n l = logOf document01 (replicate n slot₀) (joined (map recordOf l))
+logFor n l = logOf inForce (replicate n slot₀) (joined (map recordOf l))
 
--- the order of the calls of the commands after a setup; call i is the i-th that began, from 0
+-- the order of the calls of the records after a setup; call i is the i-th that began, from 0
+abbrev pub orderOf : ℕ → Ruled → List Ruled → List ℕ
+orderOf n first l = order 0 (events (applyRuled (rowOf n) first .hub) l) []
+
 abbrev pub orderFor : ℕ → Command → List Command → List ℕ
-orderFor n first l = order 0 (events (applyRuled (rowOf n) (handed first) .hub) (map handed l)) []
+orderFor n first l = orderOf n (handed first) (map handed l)
 
 abbrev pub steps : ℕ → ℕ → List Command
 steps n w = replicate n (Step w)
@@ -98,6 +101,41 @@ poolOrder =
     ++ steps 2 1
     ++ (Begin 1 Collect ∷ steps 5 1)
 
+-- H7.9: the largest value and the one above it are put, by an idle worker and by a busy one, on a register and on one that is not there; and a
+-- worker that is not there puts. The value above is refused after 3 and 4 and before 10; the largest one is stored and shown.
+abbrev pub limits : List Command
+limits =
+    (setup 2 1 3 1 ∷ put 0 0 1000000000000 ∷ put 0 0 999999999999 ∷ [])
+    ++ (put 0 0 1000000000000 ∷ put 0 1 1000000000000 ∷ put 2 0 1000000000000 ∷ put 0 0 1 ∷ [])
+    ++ steps 3 0
+    ++ (Begin 1 (Get 0) ∷ steps 1 1)
+
+-- H7.10: before the rule worker 0 puts 1000000000000, and worker 1 begins a put of 1000000000001.
+abbrev pub beforeSetup : Command
+beforeSetup = setup 2 1 4 1
+
+abbrev pub beforeLimit : List Command
+beforeLimit = (put 0 0 1000000000000 ∷ steps 3 0) ++ (put 1 0 1000000000001 ∷ [])
+
+-- After it a get and a read show the first, and the second put goes on. A new put of such a value is refused; a smaller one covers both, and
+-- two collects free their slots, 1 and 2.
+abbrev pub afterLimit : List Command
+afterLimit =
+    (Begin 0 (Get 0) ∷ steps 1 0)
+    ++ (Begin 0 Open ∷ steps 2 0)
+    ++ (Begin 0 (Read 0) ∷ steps 2 0)
+    ++ (Begin 0 Close ∷ steps 1 0)
+    ++ steps 3 1
+    ++ (put 0 0 1000000000002 ∷ Begin 0 (Get 0) ∷ steps 1 0)
+    ++ (put 0 0 5 ∷ steps 8 0)
+    ++ (Begin 1 Collect ∷ steps 7 1)
+    ++ (Begin 1 Collect ∷ steps 6 1)
+    ++ (Begin 1 (Get 0) ∷ steps 1 1)
+
+-- both lists, between which the rules change
+abbrev pub changing : List Ruled
+changing = map handedBefore beforeLimit ++ map handed afterLimit
+
 pub record Runs : Type 0 where
   pub moved-log : logFor 6 (movedSetup ∷ movedRead)
       ≡ text
@@ -121,3 +159,10 @@ pub record Runs : Type 0 where
   pub pool-order : logFor 5 poolOrder
       ≡ text
       "0 ok\n1 ok\n2 going\n3 ok\n4 going\n5 going\n6 going\n7 done\n8 ok\n9 done\n10 going\n11 ok\n12 going\n13 going\n14 going\n15 going\n16 going\n17 going\n18 going\n19 done\n20 ok\n21 going\n22 going\n23 going\n24 going\n25 freed 2\n"
+  pub limit-log : logFor 3 limits
+      ≡ text "0 ok\n1 no 16\n2 ok\n3 no 16\n4 no 4\n5 no 3\n6 no 10\n7 going\n8 going\n9 done\n10 ok\n11 value 999999999999\n"
+  pub earlier-log : lines 0 (answersTo (rowOf 4) (handedBefore beforeSetup ∷ changing))
+      ≡ text
+      "0 ok\n1 ok\n2 going\n3 going\n4 done\n5 ok\n6 ok\n7 value 1000000000000\n8 ok\n9 going\n10 at 1\n11 ok\n12 going\n13 value 1000000000000\n14 ok\n15 done\n16 going\n17 going\n18 done\n19 no 16\n20 ok\n21 value 1000000000001\n22 ok\n23 going\n24 going\n25 going\n26 going\n27 going\n28 going\n29 going\n30 done\n31 ok\n32 going\n33 going\n34 going\n35 going\n36 freed 0\n37 freed 2\n38 done\n39 ok\n40 going\n41 going\n42 going\n43 going\n44 freed 1\n45 done\n46 ok\n47 value 5\n"
+  -- the second put, call 1, has its effect after the rule, behind the close
+  pub earlier-order : orderOf 4 (handedBefore beforeSetup) changing ≡ 0 ∷ 2 ∷ 3 ∷ 4 ∷ 5 ∷ 1 ∷ 6 ∷ 7 ∷ 8 ∷ 9 ∷ 10 ∷ []

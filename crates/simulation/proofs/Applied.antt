@@ -19,14 +19,14 @@ use Rattle.model.proofs.Basic.{cond-both}
 use Rattle.values.specs.Meaning.{answerOf}
 use Rattle.values.specs.declared.Answer.{Answer}
 use Rattle.answers.specs.Numbers.{kindOf, numberOf, answerFrom}
-use Rattle.worker.specs.About.{aboutOf}
 use Rattle.worker.specs.declared.Announced.{Announced}
 use Rattle.worker.specs.declared.Doing.{Doing}
 use Rattle.worker.specs.declared.Worker.{Worker}
 use Rattle.state.specs.State.{workerIn}
 use Rattle.arrays.specs.Arrays.{fillTo}
 use Rattle.gate.specs.declared.Gate.{Gate}
-use Rattle.gate.specs.Gate.{operationRep, decodedRep, decodedIn, termsOf, registerOk, openOk, timeOk, beginGate, sizesOk, gateOf, whoOf}
+use Rattle.gate.specs.Gate.{operationRep, decodedRep, decodedIn, sizesOk, gateOf, whoOf}
+use Rattle.gate.proofs.Tests.{begin-gate-by}
 use Rattle.simulation.specs.Memory.{Memory}
 use Rattle.simulation.specs.Left.{Sized}
 use Rattle.simulation.specs.Shell.{obeyIn, gateIn, doneAs}
@@ -83,20 +83,6 @@ module _ (m : Memory) where
   abbrev SetsUp : Record.Decoded → Gate → Type 0
   SetsUp r g = makes g ≡ setsUp r (said (answerOf (obeyIn m g .answer)) .ok)
 
-  begin-sets-up : (w : ℕ) (o : Record.Operation) (p v : ℕ) (d : Doing) (t : Announced)
-      → SetsUp (Asks (Record.Begin w o)) (beginGate p v w (operationRep o) d t)
-  unfolding beginGate setsUp
-  begin-sets-up w o p v d t =
-      let N : Gate → Type 0 = SetsUp (Asks (Record.Begin w o)) in
-      let x = termsOf (operationRep o) in
-      cond-both N (ltb w p) _ _
-      (λ e. cond-both N (registerOk (x .register) v) _ _
-      (λ e. cond-both N (aboutOf d .idle) _ _
-      (λ e. cond-both N (openOk (x .time) t) _ _ (λ e. cond-both N (timeOk (x .time) t) _ _ (λ e. refl) (λ e. refl)) (λ e. refl))
-      (λ e. refl))
-      (λ e. refl))
-      (λ e. refl)
-
   gate-sets-up : (r : Record.Decoded) (up : Bool) (p v long : ℕ) (d : Doing) (t : Announced) → SetsUp r (gateOf (decodedRep r) up p v long d t)
   unfolding gateOf setsUp obeyIn
   gate-sets-up (Record.Refuses k) up p v long d t = refl
@@ -104,7 +90,8 @@ module _ (m : Memory) where
       let N : Gate → Type 0 = SetsUp (Asks (SetUp z)) in
       cond-both N up _ _ (λ e. refl) (λ e. cond-both N (sizesOk (z .P) (z .V') (z .N) (z .clock) long) _ _ (λ e. refl) (λ e. refl))
   gate-sets-up (Asks (Record.Begin w o)) up p v long d t =
-      cond-both (SetsUp (Asks (Record.Begin w o))) up _ _ (λ e. begin-sets-up w o p v d t) (λ e. refl)
+      let N : Gate → Type 0 = SetsUp (Asks (Record.Begin w o)) in
+      cond-both N up _ _ (λ e. begin-gate-by N p v w (operationRep o) d t (λ k f. refl) (λ f. refl)) (λ e. refl)
   gate-sets-up (Asks (Record.Step w)) up p v long d t =
       let N : Gate → Type 0 = SetsUp (Asks (Record.Step w)) in
       cond-both N up _ _ (λ e. cond-both N (ltb w p) _ _ (λ e. refl) (λ e. refl)) (λ e. refl)

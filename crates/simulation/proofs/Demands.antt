@@ -10,10 +10,10 @@ use lib.ListN.{length, getD, length-append, length-map, List·getD-map}
 use lib.Seq.{getD-append-seam}
 use Rattle.lists.specs.Over.{over}
 use Rattle.lists.proofs.Over.{getD-over-in}
-use Rattle.model.specs.Store.{Hub, blank, up, upFrom}
+use Rattle.model.specs.Store.{Store, Hub, blank, up, upFrom}
 use Rattle.model.specs.Answer.{Answer, Ok, said}
 use Rattle.model.specs.Record.{Sizes, SetUp, Asks, decode}
-use Rattle.model.specs.Rules.{inForce, allUnder}
+use Rattle.model.specs.Rules.{document01, inForce, under, allUnder}
 use Rattle.model.specs.Apply.{apply, hubAfter, answersTo}
 use Rattle.model.specs.Demand.{Event, events, Exchange, exchange}
 use Rattle.model.proofs.Main.{answers-of-events}
@@ -22,14 +22,15 @@ use Rattle.values.specs.declared.Answer as Code
 use Rattle.values.specs.declared.Answer.the-variants as Is
 use Rattle.answers.specs.Numbers.{kindOf, numberOf, answerFrom}
 use Rattle.slots.specs.Slots.{slotOf}
-use Rattle.simulation.specs.Memory.{Memory}
-use Rattle.simulation.specs.Left.{ready}
+use Rattle.queue.specs.State.{Begins}
+use Rattle.simulation.specs.Memory.{Memory, write}
+use Rattle.simulation.specs.Left.{LeftUnder, Left, ready}
 use Rattle.simulation.specs.Holds.{Holds, Decided, sent, AsModel}
 use Rattle.simulation.specs.Public.{OnAny, exchangeOf}
 use Rattle.simulation.specs.Records.{recordAt}
 use Rattle.simulation.specs.Buffer.{exchangeAt, setsUp, EachOnAny}
 use Rattle.simulation.specs.Demands.{CallIn, ForRecord, ForBuffer, leftBy, Called, Calls, leftByAll, exchanged, exchanges}
-use Rattle.simulation.specs.Demands.{Accepts, CodeDemand3, Demands}
+use Rattle.simulation.specs.Demands.{Accepts, CodeDemand3, OnEarlier, Demands}
 use Rattle.simulation.proofs.Below.{map-long, at-below}
 use Rattle.simulation.proofs.Parts.{parts-records}
 use Rattle.simulation.proofs.Again.{BlankOrLeft}
@@ -159,6 +160,27 @@ first-setup m c ds C es fs b S =
     behind-setup (map slotOf (m .slots)) (D .0) es (fs ++ exchanges ds) b (S .sizes) (held (D .0) m (D .1))
     (subst (λ (l : List Exchange). l ≡ map exchange (events (D .0) (sent l))) whole (calls-as-model (D .0) m (c ∷ ds) (D .1) C .answers)) (S .setup)
 
+-- memory from before the first change request
+on-earlier : (s : Store) (m : Memory) (E : LeftUnder document01 s) (cs : List CallIn) → Begins (m .hub .window) → m ≡ write s m → Calls m cs
+    → OnEarlier s m E cs
+on-earlier s m E cs begins laid C =
+    let L : Left s m =
+    record {
+      store =
+          record {
+            row = E .row;
+            setup = under document01 (E .setup);
+            batch = refl;
+            accepted = E .accepted;
+            records = allUnder document01 (E .records);
+            left = E .left;
+          };
+      begins = begins;
+      laid = laid;
+    } in
+    let A : AsModel (up s) m (exchanges cs) (leftByAll m cs) = calls-as-model (up s) m cs L C in
+    record { left = L; demand2 = A; demand3 = behind-records s (L .store) (exchanges cs) (A .answers) }
+
 pub demands : Demands
 demands =
     record {
@@ -176,4 +198,5 @@ demands =
       fromSetup = from-setup;
       demand3 = λ m cs ds c C. first-setup (leftByAll m cs) c ds (calls-behind m cs (c ∷ ds) C);
       demand3Left = λ s m cs L C. behind-records s (L .store) (exchanges cs) (calls-as-model (up s) m cs L C .answers);
+      earlier = on-earlier;
     }

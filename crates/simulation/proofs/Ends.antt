@@ -33,7 +33,8 @@ use Rattle.worker.specs.declared.Worker.{Worker}
 use Rattle.state.specs.State.{nobody, workerIn, withWorkersIn, atPlace}
 use Rattle.gate.specs.declared.Gate.{Gate}
 use Rattle.gate.specs.declared.Gate.the-variants.{Refuse, Make, Start, Go}
-use Rattle.gate.specs.Gate.{operationRep, decodedRep, decodedIn, termsOf, registerOk, openOk, timeOk, beginGate, sizesOk, gateOf, whoOf}
+use Rattle.gate.specs.Gate.{operationRep, decodedRep, decodedIn, sizesOk, gateOf, whoOf}
+use Rattle.gate.proofs.Tests.{begin-gate-by}
 use Rattle.announcing.specs.declared.Outcome.{Outcome}
 use Rattle.step.specs.declared.Next.{Next}
 use Rattle.step.specs.declared.Next.the-variants.{Taken}
@@ -93,24 +94,7 @@ read-numbered b =
     (λ e. cond-both ReadNumbered (ltb 7 (getD b 0 0)) _ _ (λ f. omega arith)
     (λ f. cond-both ReadNumbered (unusedZero b (commandOf b (getD b 0 0))) _ _ (λ g. tt) (λ g. omega arith)))
 
--- 3, 4, 10, 12 and 13
-begin-numbered : (up : Bool) (p v w u : ℕ) (o : Record.Operation) (d : Doing) (t : Announced)
-    → GateNumbered (Asks (Record.Begin u o)) up p d (beginGate p v w (operationRep o) d t)
-unfolding beginGate occurrences
-begin-numbered up p v w u o d t =
-    let N : Gate → Type 0 = GateNumbered (Asks (Record.Begin u o)) up p d in
-    let x = termsOf (operationRep o) in
-    cond-both N (ltb w p) _ _
-    (λ e. cond-both N (registerOk (x .register) v) _ _
-    (λ f. cond-both N (aboutOf d .idle) _ _
-    (λ g. cond-both N (openOk (x .time) t) _ _
-    (λ h. cond-both N (timeOk (x .time) t) _ _ (λ n. tt) (λ n. (omega arith, refl)))
-    (λ n. (omega arith, refl)))
-    (λ n. (omega arith, refl)))
-    (λ n. (omega arith, refl)))
-    (λ n. (omega arith, refl))
-
--- 9 and 5 of a setup, 8, and 3 of a step
+-- 9 and 5 of a setup, 8, those of a begin, and 3 of a step
 gate-numbered : (r : Record.Decoded) → ReadNumbered r → (up : Bool) (p v long : ℕ) (d : Doing) (t : Announced)
     → GateNumbered r up p d (gateOf (decodedRep r) up p v long d t)
 unfolding gateOf occurrences
@@ -120,7 +104,8 @@ gate-numbered (Asks (SetUp z)) n up p v long d t =
     cond-both N up _ _ (λ e. (omega arith, refl))
     (λ e. cond-both N (sizesOk (z .P) (z .V') (z .N) (z .clock) long) _ _ (λ f. tt) (λ f. (omega arith, refl)))
 gate-numbered (Asks (Record.Begin w o)) n up p v long d t =
-    cond-both (GateNumbered (Asks (Record.Begin w o)) up p d) up _ _ (λ e. begin-numbered up p v w w o d t) (λ e. (omega arith, refl))
+    let N : Gate → Type 0 = GateNumbered (Asks (Record.Begin w o)) up p d in
+    cond-both N up _ _ (λ e. begin-gate-by N p v w (operationRep o) d t (λ k f. (f, refl)) (λ f. tt)) (λ e. (omega arith, refl))
 gate-numbered (Asks (Record.Step w)) n up p v long d t =
     let N : Gate → Type 0 = GateNumbered (Asks (Record.Step w)) up p d in
     cond-both N up _ _

@@ -8,9 +8,10 @@ use Rattle.model.specs.Store as Model
 use Rattle.model.specs.Store.{absent}
 use Rattle.model.specs.About as Place
 use Rattle.model.specs.About.{about}
+use Rattle.model.specs.Rules.{inForce}
 use Rattle.model.specs.Record as Record
 use Rattle.model.specs.Apply as Begin
-use Rattle.model.specs.Apply.{Terms, terms, registerBelow, mayOpen, mayUseTime}
+use Rattle.model.specs.Apply.{Terms, terms, registerBelow, valueWithin, mayOpen, mayUseTime}
 use Rattle.worker.specs.declared.Announced.the-variants as Announced
 use Rattle.worker.specs.declared.Named.{Named}
 use Rattle.worker.specs.declared.Named.the-variants.{Nothing, Is}
@@ -20,8 +21,10 @@ use Rattle.worker.specs.Rep.{announcedRep, goalRep, doingRep}
 use Rattle.worker.specs.About.{aboutOf}
 use Rattle.gate.specs.declared.TimeNeed.{TimeNeed}
 use Rattle.gate.specs.declared.TimeNeed.the-variants.{Any, Absent, Own}
+use Rattle.gate.specs.declared.Putting.{Putting}
+use Rattle.gate.specs.declared.Putting.the-variants as Putting
 use Rattle.gate.specs.declared.Terms as Code
-use Rattle.gate.specs.Gate.{operationRep, termsOf, registerOk, hasTime, openOk, timeOk}
+use Rattle.gate.specs.Gate.{operationRep, termsOf, registerOk, valueOk, hasTime, openOk, timeOk}
 
 abbrev pub stanceRep : Place.Stance → Stance
 stanceRep Place.Nowhere = Nowhere
@@ -47,13 +50,18 @@ abbrev pub namedRep : Option ℕ → Named
 namedRep none = Nothing
 namedRep (some r) = Is r
 
+abbrev pub valueRep : Option ℕ → Putting
+valueRep none = Putting.Nothing
+valueRep (some x) = Putting.Value x
+
 abbrev pub needRep : Begin.TimeNeed → TimeNeed
 needRep Begin.AnyTime = Any
 needRep Begin.NoTime = Absent
 needRep Begin.OwnTime = Own
 
 abbrev pub termsRep : Terms → Code.Terms
-termsRep x = record { register = namedRep (x .register); time = needRep (x .time); first = doingRep (x .first) }
+termsRep x =
+    record { register = namedRep (x .register); value = valueRep (x .value); time = needRep (x .time); first = doingRep (x .first) }
 
 pub same-terms : (o : Record.Operation) → termsOf (operationRep o) ≡ termsRep (terms o)
 same-terms (Record.Put r x) = refl
@@ -66,6 +74,11 @@ same-terms Record.Collect = refl
 pub same-register : (x : Option ℕ) (v : ℕ) → registerOk (namedRep x) v ≡ registerBelow v x
 same-register none v = refl
 same-register (some r) v = refl
+
+-- the code's limit is that of the rules in force
+pub same-value : (x : Option ℕ) → valueOk (valueRep x) ≡ valueWithin (inForce .limit) x
+same-value none = refl
+same-value (some x) = refl
 
 has-time : (t : ℕ) → hasTime (announcedRep t) ≡ ltb t absent
 has-time t = go (ltb t absent)

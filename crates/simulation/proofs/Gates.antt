@@ -11,7 +11,7 @@ use Rattle.model.specs.Rules.{inForce}
 use Rattle.model.specs.Answer.{Ok, Stepped, Applied}
 use Rattle.model.specs.Record as Record
 use Rattle.model.specs.Steps.{stepAt}
-use Rattle.model.specs.Apply.{refuse, Terms, terms, registerBelow, isIdle, mayOpen, mayUseTime, setUp, begin, step, obey, applyDecoded}
+use Rattle.model.specs.Apply.{refuse, Terms, terms, registerBelow, valueWithin, isIdle, mayOpen, mayUseTime, setUp, begin, step, obey, applyDecoded}
 use Rattle.model.proofs.View.{idle-is}
 use Rattle.worker.specs.declared.Worker.{Worker}
 use Rattle.worker.specs.Rep.{doingRep, workerRep}
@@ -22,10 +22,10 @@ use Rattle.worker.specs.About.{aboutOf}
 use Rattle.gate.specs.declared.Terms as Code
 use Rattle.gate.specs.declared.Gate.{Gate}
 use Rattle.gate.specs.declared.Gate.the-variants.{Refuse, Make, Start, Go}
-use Rattle.gate.specs.Gate.{operationRep, decodedRep, registerOk, openOk, timeOk, beginGate, gateOf, whoOf}
+use Rattle.gate.specs.Gate.{operationRep, decodedRep, registerOk, valueOk, openOk, timeOk, beginGate, gateOf, whoOf}
 use Rattle.simulation.specs.Memory.{hubRep}
 use Rattle.simulation.proofs.Laws.{worker-in}
-use Rattle.simulation.proofs.Facts.{same-facts, termsRep, same-terms, same-register, same-open, same-use}
+use Rattle.simulation.proofs.Facts.{same-facts, termsRep, same-terms, same-register, same-value, same-open, same-use}
 use Rattle.simulation.proofs.Sound.{Sound}
 
 -- the gate of a record that was read as r, by whether the memory is ready, the length of the row, and the hub by value
@@ -73,20 +73,22 @@ module _ (s : Store) (S : Sound s) where
 
   begins : (w : ℕ) (o : Record.Operation)
       → Means s (beginGate (s .site .P) (s .site .V') w (operationRep o) (workerIn (hubRep s emptyHub) w .doing) (workerIn (hubRep s emptyHub) w .announced))
-      (begin s w o)
+      (begin inForce s w o)
   unfolding beginGate begin
   begins w o =
-      subst (λ (z : Code.Terms). M (chosen z) (begin s w o)) (sym (same-terms o))
+      subst (λ (z : Code.Terms). M (chosen z) (begin inForce s w o)) (sym (same-terms o))
       (both M (ltb w (s .site .P)) (ltb w (s .site .P)) _ _ _ _ refl
       (λ i. both M (registerOk (z .register) (s .site .V'))
       (registerBelow (s .site .V') (a .register)) _ _ _ _ (same-register (a .register) (s .site .V'))
-      (λ r. both M (aboutOf (x .doing) .idle) (isIdle (y .doing))
+      (λ r. both M (valueOk (z .value)) (valueWithin (inForce .limit) (a .value)) _ _ _ _ (same-value (a .value))
+      (λ k. both M (aboutOf (x .doing) .idle) (isIdle (y .doing))
       _ _ _ _ (ap (λ (k : Worker). aboutOf (k .doing) .idle) (who-is w i) ∙ same-facts (y .doing) .0)
       (λ e. both M (openOk (z .time) (x .announced)) (mayOpen (a .time) (ltb (y .announced) absent)) _ _ _ _
       (ap (λ (k : Worker). openOk (z .time) (k .announced)) (who-is w i) ∙ same-open (a .time) (y .announced))
       (λ f. both M (timeOk (z .time) (x .announced)) (mayUseTime (a .time) (ltb (y .announced) absent)) _ _ _ _
       (ap (λ (k : Worker). timeOk (z .time) (k .announced)) (who-is w i) ∙ same-use (a .time) (y .announced))
       (λ u. (o, refl, record { inside = ltb-true w (s .site .P) i; idle = idle-is (y .doing) e; is = refl }))
+      (λ n. refl))
       (λ n. refl))
       (λ n. refl))
       (λ n. refl))
@@ -113,9 +115,11 @@ module _ (s : Store) (S : Sound s) where
       chosen q =
           cond (ltb w (s .site .P))
           (cond (registerOk (q .register) (s .site .V'))
+          (cond (valueOk (q .value))
           (cond (aboutOf (x .doing) .idle)
           (cond (openOk (q .time) (x .announced)) (cond (timeOk (q .time) (x .announced)) (Start w (q .first)) (Refuse 13)) (Refuse 12))
           (Refuse 10))
+          (Refuse 16))
           (Refuse 4))
           (Refuse 3)
 

@@ -14,8 +14,11 @@ use Rattle.model.specs.Answer.{Answer, Ok, Going, Freed, At, Value, Done, No, S
 use Rattle.model.specs.Record.{SetUp, Begin, Step, Decoded, Asks, Refuses, commandOf, unusedZero, decode}
 use Rattle.model.specs.Steps.{putPublish, putStamp, putHandIn, flushTake, flushSplit, flushRead, flushFree}
 use Rattle.model.specs.Steps.{openAnnounce, openPass, answerFor, readEnter, readStand, getShow, closeWithdraw, timeStep, stepAt}
-use Rattle.model.specs.Apply.{inRanges, setUp, terms, registerBelow, isIdle, mayOpen, mayUseTime, begin, step, obey, applyDecoded, apply}
-use Rattle.model.proofs.Basic.{cond-both}
+use Rattle.model.specs.Apply.{inRanges, setUp, step, obey, applyDecoded, apply}
+use Rattle.model.specs.Demand.{All}
+use Rattle.model.specs.Refusals.{onReading}
+use Rattle.model.proofs.Basic.{cond-both, All-get}
+use Rattle.model.proofs.Begin.{begin-by}
 use Rattle.values.specs.Meaning.{answerOf}
 use Rattle.values.specs.declared.Answer as Code
 use Rattle.values.specs.declared.Answer.the-variants as Is
@@ -92,25 +95,19 @@ abbrev SoundIn : Model.Hub → Type 0
 SoundIn (blank row) = Unit {0}
 SoundIn (up s) = Sound s
 
+-- the number of a refusal on reading fits its byte
+numbers-small : All (λ (i : ℕ). i < 256) onReading
+numbers-small = search arith
+
 decoded-ranged : (h : Model.Hub) → SoundIn h → (d : Decoded) → RangedRead d → RangedBy (applyDecoded inForce h d)
-unfolding applyDecoded obey setUp begin step
+unfolding applyDecoded obey setUp step
 decoded-ranged h S (Refuses k) r = r
 decoded-ranged (blank row) S (Asks (SetUp z)) r = cond-both RangedBy (inRanges z && leb (z .N) (length row)) _ _ (λ e. tt) (λ e. lit< tt)
 decoded-ranged (blank row) S (Asks (Begin w o)) r = lit< tt
 decoded-ranged (blank row) S (Asks (Step w)) r = lit< tt
 decoded-ranged (up s) S (Asks (SetUp z)) r = lit< tt
 decoded-ranged (up s) S (Asks (Begin w o)) r =
-    let x = terms o in
-    let has = ltb (workerAt s w .announced) Model.absent in
-    cond-both RangedBy (ltb w (s .site .P)) _ _
-    (λ e. cond-both RangedBy (registerBelow (s .site .V') (x .register)) _ _
-    (λ e. cond-both RangedBy (isIdle (workerAt s w .doing)) _ _
-    (λ e. cond-both RangedBy (mayOpen (x .time) has) _ _
-    (λ e. cond-both RangedBy (mayUseTime (x .time) has) _ _ (λ e. tt) (λ e. lit< tt))
-    (λ e. lit< tt))
-    (λ e. lit< tt))
-    (λ e. lit< tt))
-    (λ e. lit< tt)
+    begin-by RangedBy inForce s w o (λ k n. All-get (λ (i : ℕ). i < 256) onReading numbers-small k n) (λ t. tt)
 decoded-ranged (up s) S (Asks (Step w)) r =
     cond-both RangedBy (ltb w (s .site .P)) _ _
     (λ e. let below : w < s .site .P = ltb-true w (s .site .P) e in step-ranged s S w below (workerAt s w .doing) (S .places w below))

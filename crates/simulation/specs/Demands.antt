@@ -7,16 +7,17 @@ use mathlib.Core.Logic.{_⊎_}
 use mathlib.Core.List.{List, [], _∷_, _++_, map}
 use Prim.Native.Nat.{ℕ, _%_, _≤_}
 use lib.ListN.{length}
-use Rattle.model.specs.Store.{Store, Hub, blank, upFrom}
-use Rattle.model.specs.Rules.{inForce, Ruled, allUnder}
+use Rattle.model.specs.Store.{Store, Hub, blank, up, upFrom}
+use Rattle.model.specs.Rules.{document01, inForce, Ruled, allUnder}
 use Rattle.model.specs.Answer.{Ok}
 use Rattle.model.specs.Record.{Sizes, SetUp, Asks, decode, recordsOf}
 use Rattle.model.specs.Apply.{apply, applyRuled, answersTo}
 use Rattle.model.specs.Demand.{events, Exchange, exchange, Demand3}
 use Rattle.values.specs.declared.Answer.{Answer}
 use Rattle.slots.specs.Slots.{slotOf}
-use Rattle.simulation.specs.Memory.{Memory, cut}
-use Rattle.simulation.specs.Left.{Left, Sized, ready}
+use Rattle.queue.specs.State.{Begins}
+use Rattle.simulation.specs.Memory.{Memory, write, cut}
+use Rattle.simulation.specs.Left.{LeftUnder, Left, Sized, ready}
 use Rattle.simulation.specs.Holds.{Holds, Decided, sent, AsModel}
 use Rattle.simulation.specs.Public.{exchangeOf, Does}
 use Rattle.simulation.specs.Records.{recordsIn}
@@ -93,6 +94,16 @@ pub record CodeDemand3 (h : Hub) (old : List Ruled) (es : List Exchange) : Type 
   pub answers : map exchange (events h (old ++ sent es)) ≡ map exchange (events h old) ++ es
   pub demand : Demand3 (events h (old ++ sent es))
 
+-- H7.10: what holds of the calls cs on the memory m of a store s that records left under document 01's rules, E, before the first change
+-- request.
+pub record OnEarlier (s : Store) (m : Memory) (E : LeftUnder document01 s) (cs : List CallIn) : Type 0 where
+  -- it is memory that records left, so the contracts say of it what they say of any
+  pub left : Left s m
+  -- the calls do what the model does under the rules in force (demand 2),
+  pub demand2 : AsModel (up s) m (exchanges cs) (leftByAll m cs)
+  -- and with the records before them, under the earlier rules, they have demand 3
+  pub demand3 : CodeDemand3 (apply document01 (blank (E .row)) (E .setup) .hub) (allUnder document01 (E .records)) (exchanges cs)
+
 pub record Demands : Type 0 where
   -- Demand 2 of calls in any mix.
   pub demand2 : (h : Hub) (m : Memory) (cs : List CallIn) → Holds h m → Calls m cs → AsModel h m (exchanges cs) (leftByAll m cs)
@@ -115,3 +126,6 @@ pub record Demands : Type 0 where
   -- Demand 3 of the records that left the memory, under whatever rules, and of the calls after them.
   pub demand3Left : (s : Store) (m : Memory) (cs : List CallIn) (L : Left s m) → Calls m cs
       → CodeDemand3 (applyRuled (blank (L .store .row)) (L .store .setup) .hub) (L .store .records) (exchanges cs)
+  -- Memory that records left before the first change request (H7.10).
+  pub earlier : (s : Store) (m : Memory) (E : LeftUnder document01 s) (cs : List CallIn) → Begins (m .hub .window) → m ≡ write s m → Calls m cs
+      → OnEarlier s m E cs

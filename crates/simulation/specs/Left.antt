@@ -2,13 +2,14 @@
 use mathlib.Core.Path.{_≡_}
 use mathlib.Core.Bool.{Bool}
 use mathlib.Core.List.{List}
+use Prim.Native.Nat.{ℕ}
 use lib.ListN.{length}
 use Rattle.model.specs.Store as Model
 use Rattle.model.specs.Store.{Store, blank, up}
 use Rattle.model.specs.Answer.{Ok}
 use Rattle.model.specs.Batch.{batchOf}
-use Rattle.model.specs.Rules.{Ruled}
-use Rattle.model.specs.Apply.{applyRuled, hubAfter}
+use Rattle.model.specs.Rules.{Rules, Ruled, allUnder}
+use Rattle.model.specs.Apply.{apply, applyRuled, hubAfter}
 use Rattle.slots.specs.Slots.{linkedTo}
 use Rattle.queue.specs.State.{Begins}
 use Rattle.ready.specs.Ready.{readyOf}
@@ -24,7 +25,15 @@ pub record LeftByRecords (s : Store) : Type 0 where
   pub records : List Ruled
   pub left : hubAfter (applyRuled (blank row) setup .hub) records ≡ up s
 
--- memory in which such a store lies
+-- One that they leave all under the same rules.
+pub record LeftUnder (rules : Rules) (s : Store) : Type 0 where
+  pub row : List Model.Slot
+  pub setup : List ℕ
+  pub accepted : apply rules (blank row) setup .answer ≡ Ok
+  pub records : List (List ℕ)
+  pub left : hubAfter (apply rules (blank row) setup .hub) (allUnder rules records) ≡ up s
+
+-- memory in which a store lies that records left
 pub record Left (s : Store) (m : Memory) : Type 0 where
   pub store : LeftByRecords s
   pub begins : Begins (m .hub .window)

@@ -1,0 +1,36 @@
+-- One law about the decision on a begin: a claim that holds of each of its refusals, and of the start of a worker below p, holds of it. The tests
+-- are gone through here and, beside the model's, in the simulation's Gates.
+use mathlib.Core.Path.{_≡_}
+use mathlib.Core.Bool.{true}
+use Prim.Native.Nat.{ℕ, _<_}
+use native.Mathlib.Omega.{arith}
+use lib.Dec.{ltb}
+use Rattle.model.specs.Demand.{occurrences}
+use Rattle.model.specs.Refusals.{onReading}
+use Rattle.model.proofs.Basic.{cond-both}
+use Rattle.worker.specs.declared.Announced.{Announced}
+use Rattle.worker.specs.declared.Doing.{Doing}
+use Rattle.worker.specs.About.{aboutOf}
+use Rattle.record.specs.declared.Operation.{Operation}
+use Rattle.gate.specs.declared.Gate.{Gate}
+use Rattle.gate.specs.declared.Gate.the-variants.{Refuse, Start}
+use Rattle.gate.specs.Gate.{termsOf, registerOk, valueOk, openOk, timeOk, beginGate}
+
+pub begin-gate-by : (Q : Gate → Type 0) (p v w : ℕ) (o : Operation) (d : Doing) (t : Announced)
+    → ((k : ℕ) → 0 < occurrences k onReading → Q (Refuse k))
+    → (ltb w p ≡ true → Q (Start w (termsOf o .first))) → Q (beginGate p v w o d t)
+unfolding beginGate occurrences
+begin-gate-by Q p v w o d t refused started =
+    let x = termsOf o in
+    cond-both Q (ltb w p) _ _
+    (λ e. cond-both Q (registerOk (x .register) v) _ _
+    (λ f. cond-both Q (valueOk (x .value)) _ _
+    (λ f. cond-both Q (aboutOf d .idle) _ _
+    (λ f. cond-both Q (openOk (x .time) t) _ _
+    (λ f. cond-both Q (timeOk (x .time) t) _ _ (λ f. started e)
+    (λ n. refused 13 (omega arith)))
+    (λ n. refused 12 (omega arith)))
+    (λ n. refused 10 (omega arith)))
+    (λ n. refused 16 (omega arith)))
+    (λ n. refused 4 (omega arith)))
+    (λ n. refused 3 (omega arith))
