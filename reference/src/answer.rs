@@ -1,8 +1,8 @@
-//! Answers and refusals, with the numbers that document 01 gives them.
+//! Answers and refusals, with the numbers that documents 01 and 02 give them.
 
 use std::fmt;
 
-/// A refusal; its discriminant is the number in document 01's two tables.
+/// A refusal; its discriminant is the number in document 01's two tables or in a request of 02.
 #[derive(Clone, Copy, Debug, PartialEq, Eq, PartialOrd, Ord, Hash)]
 #[repr(u8)]
 pub enum Refusal {
@@ -36,11 +36,13 @@ pub enum Refusal {
     NoFreeSlot = 14,
     /// 15: open's first step, clock at its last value.
     LastClock = 15,
+    /// 16: put value too large (A1).
+    Value = 16,
 }
 
 impl Refusal {
     /// All refusals, in the order of their numbers.
-    pub const ALL: [Refusal; 15] = [
+    pub const ALL: [Refusal; 16] = [
         Refusal::Operation,
         Refusal::UnusedByte,
         Refusal::Worker,
@@ -56,6 +58,7 @@ impl Refusal {
         Refusal::NotAnnounced,
         Refusal::NoFreeSlot,
         Refusal::LastClock,
+        Refusal::Value,
     ];
 
     /// The refusal's number.

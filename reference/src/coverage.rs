@@ -23,7 +23,7 @@ impl Observer for () {
 
 macro_rules! branches {
     ($($name:ident $text:literal)*) => {
-        /// A branch of the steps.
+        /// A branch of the steps, or of the tests that a put above A1's limit meets.
         #[derive(Clone, Copy, Debug, PartialEq, Eq)]
         #[repr(usize)]
         pub enum Branch { $(#[doc = $text] $name,)* }
@@ -84,6 +84,26 @@ branches! {
     GetStamps "get stamps"
     GetStampedAlready "get has nothing to stamp"
     Close "close withdraws"
+    PutOfLimit "a put of the limit begins"
+    PutAboveLimit "a put of one above the limit gets 16"
+    LargeIdle "a put above the limit gets 16 on an idle worker"
+    LargeBusy "a put above the limit gets 16 on a busy worker"
+    LargeNoRegister "a put above the limit gets 4"
+    LargeNoWorker "a put above the limit gets 3"
+    LargeNotSetUp "a put above the limit gets 8"
+}
+
+impl Branch {
+    /// Those of a put at A1's limit or above it.
+    pub const OF_LIMIT: [Branch; 7] = [
+        Branch::PutOfLimit,
+        Branch::PutAboveLimit,
+        Branch::LargeIdle,
+        Branch::LargeBusy,
+        Branch::LargeNoRegister,
+        Branch::LargeNoWorker,
+        Branch::LargeNotSetUp,
+    ];
 }
 
 /// Sizes of hubs: what they are called, and which P, V and N are meant.
@@ -113,7 +133,7 @@ pub struct Coverage {
     /// By kind: ok, going, freed, at, value, done.
     pub answers: [u64; 6],
     /// By refusal number; index 0 stays 0.
-    pub refusals: [u64; 16],
+    pub refusals: [u64; Refusal::ALL.len() + 1],
     /// By branch.
     pub branches: [u64; Branch::ALL.len()],
     /// By sizes, as in `SIZES`: setups that were accepted.
@@ -124,7 +144,7 @@ impl Default for Coverage {
     fn default() -> Self {
         Coverage {
             answers: [0; 6],
-            refusals: [0; 16],
+            refusals: [0; Refusal::ALL.len() + 1],
             branches: [0; Branch::ALL.len()],
             sizes: [0; SIZES.len()],
         }

@@ -14,7 +14,8 @@ use crate::store::{Doing, Store};
 use std::collections::HashSet;
 use std::hash::{BuildHasherDefault, Hasher};
 
-/// The hub to explore: its setup and the values that puts may bring.
+/// The hub to explore: its setup and the values of puts. In each state every record is taken with each
+/// of `max_values` as the largest value that a put may bring.
 #[derive(Clone, Copy, Debug)]
 pub struct Size {
     pub workers: u8,
@@ -22,6 +23,7 @@ pub struct Size {
     pub slots: u16,
     pub clock: u32,
     pub values: &'static [u64],
+    pub max_values: &'static [u64],
 }
 
 /// What an exploration went through.
@@ -53,12 +55,16 @@ pub fn explore<F: Fault + Clone>(size: Size, invariants: bool) -> Result<Explore
     while let Some((hub, ghost)) = open.pop() {
         coder.encode(store(&hub), &ghost, &mut code);
         let mut next = hub.clone();
-        for &record in &alphabet {
-            let failed = |reason| format!("{reason}\nat {record:?} in {:?}", store(&hub));
+        for &(record, max_value) in &alphabet {
+            let failed = |reason| {
+                format!("{reason}\nat {record:?}, values to {max_value}, in {:?}", store(&hub))
+            };
+            next.max_value = max_value;
             let answer = next.take_record(record);
             explored.records += 1;
             let mut next_ghost = ghost.clone();
-            next_ghost.follow(store(&hub), record, answer, store(&next)).map_err(failed)?;
+            let (before, after) = (store(&hub), store(&next));
+            next_ghost.follow(before, record, max_value, answer, after).map_err(failed)?;
             coder.encode(store(&next), &next_ghost, &mut next_code);
             if matches!(answer, Answer::No(refusal) if !refusal.at_step()) {
                 if code != next_code {
@@ -86,8 +92,8 @@ fn store<F: Fault>(hub: &Hub<F>) -> &Store {
     hub.store().expect("set up")
 }
 
-/// Every record whose fields fit, with the values of the alphabet.
-fn alphabet(size: Size) -> Vec<Record> {
+/// Every record whose fields fit, with the values of the alphabet and each largest value.
+fn alphabet(size: Size) -> Vec<(Record, u64)> {
     let mut records = Vec::new();
     for worker in 0..size.workers {
         records.push(Record::Step { worker });
@@ -101,7 +107,8 @@ fn alphabet(size: Size) -> Vec<Record> {
             records.extend(size.values.iter().map(put));
         }
     }
-    records
+    let with = |&max_value| records.iter().map(move |&record| (record, max_value));
+    size.max_values.iter().flat_map(with).collect()
 }
 
 /// Writes a state as bytes, one string for each state that can behave differently: what no later

@@ -1,57 +1,96 @@
-//! Document 01's four ways to get it nearly right, as variants of the hub chosen at compile time.
+//! Ways to get it nearly right, as variants of the hub chosen at compile time: document 01's four,
+//! and those of requests of document 02.
 //!
 //! The right hub has every constant false, so that the variants cost it nothing.
 
-/// Which rules the hub breaks.
-pub trait Fault {
-    /// Keeps everything newer than the oldest snapshot: needed where some a < high.
-    const NEWER_THAN_OLDEST: bool = false;
-    /// Counts high as inside the range: needed where some low ≤ a ≤ high.
-    const HIGH_INSIDE: bool = false;
-    /// Looks up the covering version's low when handing in.
-    const COVERING_LOW: bool = false;
-    /// Reads the announced times first and takes the pools after them; as many steps as the right flush.
-    const TIMES_FIRST: bool = false;
-    /// Leaves a read on an unlinked version.
-    const LEAVE_READ: bool = false;
+use crate::answer::Answer;
+use crate::store::Doing;
+
+macro_rules! faults {
+    ($($(#[$text:meta])+ $name:ident $constant:ident)*) => {
+        /// Which rules the hub breaks.
+        pub trait Fault {
+            $($(#[$text])+ const $constant: bool = false;)*
+        }
+
+        $(
+            $(#[$text])+
+            #[derive(Clone, Copy, Debug, Default)]
+            pub struct $name;
+            impl Fault for $name {
+                const $constant: bool = true;
+            }
+        )*
+    };
 }
 
-/// No fault: the hub of document 01.
+/// No fault: the hub of documents 01 and 02.
 #[derive(Clone, Copy, Debug, Default)]
 pub struct Right;
 impl Fault for Right {}
 
-/// First way, first half.
-#[derive(Clone, Copy, Debug, Default)]
-pub struct NewerThanOldest;
-impl Fault for NewerThanOldest {
-    const NEWER_THAN_OLDEST: bool = true;
+faults! {
+    /// First way, first half: keeps everything newer than the oldest snapshot, needed where some
+    /// a < high.
+    NewerThanOldest NEWER_THAN_OLDEST
+    /// First way, second half: counts high as inside the range, needed where some low ≤ a ≤ high.
+    HighInside HIGH_INSIDE
+    /// Second way: looks up the covering version's low when handing in.
+    CoveringLow COVERING_LOW
+    /// Third way: reads the announced times first and takes the pools after them; as many steps as
+    /// the right flush.
+    TimesFirst TIMES_FIRST
+    /// Fourth way: leaves a read on an unlinked version.
+    LeaveRead LEAVE_READ
+
+    /// A1: refuses a put of the limit itself.
+    LimitRefused LIMIT_REFUSED
+    /// A1: accepts a put of one above the limit.
+    NextAccepted NEXT_ACCEPTED
+    /// A1: tests the lower six bytes of the value only.
+    SixBytes SIX_BYTES
+    /// A1: tests 16 with the record's own bytes, before 8.
+    ValueFirst VALUE_FIRST
+    /// A1: tests 16 before 4.
+    ValueBeforeRegister VALUE_BEFORE_REGISTER
+    /// A1: tests 16 after 10.
+    ValueAfterBusy VALUE_AFTER_BUSY
+    /// A1: sets the worker idle with 16, as 14 and 15 do.
+    ValueIdles VALUE_IDLES
+    /// A1: tests 16 at put's first step once more, where a put may come that began before the rule.
+    ValueAtStep VALUE_AT_STEP
+    /// A1: a get shows the limit in place of a larger value that is stored.
+    GetHides GET_HIDES
+    /// A1: a read shows the limit in place of a larger value that is stored.
+    ReadHides READ_HIDES
+    /// A1: a flush passes over a version with a larger value and does not free it.
+    LargeKept LARGE_KEPT
+    /// A1: takes memory with a larger value in a slot for not set up.
+    LargeNotSetUp LARGE_NOT_SET_UP
 }
 
-/// First way, second half.
-#[derive(Clone, Copy, Debug, Default)]
-pub struct HighInside;
-impl Fault for HighInside {
-    const HIGH_INSIDE: bool = true;
+/// The largest value that a put may bring, or what a fault takes for it.
+#[inline(always)]
+pub(crate) fn largest<F: Fault>(max_value: u64) -> u64 {
+    if F::LIMIT_REFUSED {
+        max_value - 1
+    } else if F::NEXT_ACCEPTED {
+        max_value.saturating_add(1)
+    } else {
+        max_value
+    }
 }
 
-/// Second way.
-#[derive(Clone, Copy, Debug, Default)]
-pub struct CoveringLow;
-impl Fault for CoveringLow {
-    const COVERING_LOW: bool = true;
-}
-
-/// Third way.
-#[derive(Clone, Copy, Debug, Default)]
-pub struct TimesFirst;
-impl Fault for TimesFirst {
-    const TIMES_FIRST: bool = true;
-}
-
-/// Fourth way.
-#[derive(Clone, Copy, Debug, Default)]
-pub struct LeaveRead;
-impl Fault for LeaveRead {
-    const LEAVE_READ: bool = true;
+/// What a step answers; with a fault the limit may stand for a larger value.
+#[inline(always)]
+pub(crate) fn shown<F: Fault>(doing: Doing, answer: Answer, max_value: u64) -> Answer {
+    let hides = match doing {
+        Doing::Get { .. } => F::GET_HIDES,
+        Doing::ReadAt { .. } => F::READ_HIDES,
+        _ => false,
+    };
+    match answer {
+        Answer::Value(value) if hides => Answer::Value(value.min(max_value)),
+        answer => answer,
+    }
 }

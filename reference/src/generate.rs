@@ -3,7 +3,7 @@
 
 use crate::hub::Hub;
 use crate::record::{Record, LAST_OPERATION, LENGTH};
-use crate::store::{Doing, Store, LAST_CLOCK, MAX_REGISTERS, MAX_SLOTS, MAX_WORKERS};
+use crate::store::{Doing, Store, LAST_CLOCK, MAX_REGISTERS, MAX_SLOTS, MAX_VALUE, MAX_WORKERS};
 
 /// A small random number generator (splitmix64).
 #[derive(Clone, Debug)]
@@ -30,7 +30,8 @@ impl Random {
 
     /// A number from `low` to `high`, both included.
     pub fn between(&mut self, low: u64, high: u64) -> u64 {
-        low + self.below(high - low + 1)
+        let count = u128::from(high - low) + 1;
+        low + ((u128::from(self.bits()) * count) >> 64) as u64
     }
 
     /// True in so many of a thousand.
@@ -89,10 +90,12 @@ pub enum Kind {
     Sizes,
     /// Many registers, and slots that run out all the same.
     Full,
+    /// Puts above the limit, often with another reason to be refused.
+    Values,
 }
 
 impl Kind {
-    pub const ALL: [(Kind, &'static str); 15] = [
+    pub const ALL: [(Kind, &'static str); 16] = [
         (Kind::Uniform, "uniform"),
         (Kind::Mixed, "mixed"),
         (Kind::Slots, "slots"),
@@ -108,6 +111,7 @@ impl Kind {
         (Kind::Stalled, "stalled"),
         (Kind::Sizes, "sizes"),
         (Kind::Full, "full"),
+        (Kind::Values, "values"),
     ];
 
     /// The kind with this name.
@@ -143,6 +147,8 @@ struct Profile {
     invalid: u64,
     /// Setups among them.
     setup: u64,
+    /// Puts above the limit among the rest of them.
+    large: u64,
     /// A busy worker falls still after a step.
     stall: u64,
     /// A read falls still after a step.
@@ -160,6 +166,7 @@ const MIXED: Profile = Profile {
     burst: 6,
     invalid: 20,
     setup: 5,
+    large: 100,
     stall: 10,
     stall_read: 30,
     stillness: 200,
@@ -252,18 +259,32 @@ impl Profile {
                 burst: 12,
                 ..MIXED
             },
+            Kind::Values => Profile {
+                workers: (1, 4),
+                registers: (1, 3),
+                spare: (2, 20),
+                invalid: 200,
+                large: 800,
+                ..MIXED
+            },
         }
     }
 }
 
 /// A script of `count` records, the last one maybe short.
 pub fn script(kind: Kind, seed: u64, count: usize) -> Vec<u8> {
+    script_across(kind, seed, count, 0)
+}
+
+/// The same with its first `before` records from before A1: a hub that takes them with the largest
+/// `max_value` and the others with A1's accepts most of both.
+pub fn script_across(kind: Kind, seed: u64, count: usize, before: usize) -> Vec<u8> {
     let mut random = Random::new(seed ^ (kind as u64) << 56);
     let mut file = Vec::with_capacity(count * LENGTH);
     if kind == Kind::Uniform {
         file.extend((0..count * LENGTH).map(|_| random.bits() as u8));
     } else {
-        Writer::new(kind, &mut random).write(&mut file, count, &mut random);
+        Writer::new(kind, &mut random).write(&mut file, count, before, &mut random);
     }
     let tail = match kind {
         Kind::Tails => true,
@@ -309,9 +330,10 @@ impl Writer {
         }
     }
 
-    fn write(&mut self, file: &mut Vec<u8>, count: usize, random: &mut Random) {
+    fn write(&mut self, file: &mut Vec<u8>, count: usize, before: usize, random: &mut Random) {
         let mut burst: Option<(u8, u64)> = None;
         for place in 0..count {
+            self.hub.max_value = if place < before { u64::MAX } else { MAX_VALUE };
             let bytes = if self.hub.store().is_none() && random.chance(700) {
                 self.setup.encode()
             } else if self.hub.store().is_none() || random.chance(self.profile.invalid) {
@@ -389,7 +411,7 @@ impl Writer {
         ];
         let register = random.below(self.registers) as u16;
         match random.weighted(&weights) {
-            0 => Record::Put { worker, register, value: value(random) },
+            0 => Record::Put { worker, register, value: value(self.hub.max_value, random) },
             1 => Record::Open { worker },
             2 => Record::Read { worker, register },
             3 => Record::Close { worker },
@@ -405,18 +427,22 @@ impl Writer {
         if random.chance(self.profile.setup) {
             return self.any_setup(random).encode();
         }
-        let mut bytes = match random.below(8) {
-            0 => self.any_setup(random),
-            1 => Record::Put { worker, register, value: value(random) },
-            2 => Record::Open { worker },
-            3 => Record::Read { worker, register },
-            4 => Record::Close { worker },
-            5 => Record::Get { worker, register },
-            6 => Record::Collect { worker },
-            _ => Record::Step { worker },
-        }
-        .encode();
-        // Half of these only meet the state: busy or idle, a time or none.
+        let record = if random.chance(self.profile.large) {
+            Record::Put { worker, register, value: large(random) }
+        } else {
+            match random.below(8) {
+                0 => self.any_setup(random),
+                1 => Record::Put { worker, register, value: value(self.hub.max_value, random) },
+                2 => Record::Open { worker },
+                3 => Record::Read { worker, register },
+                4 => Record::Close { worker },
+                5 => Record::Get { worker, register },
+                6 => Record::Collect { worker },
+                _ => Record::Step { worker },
+            }
+        };
+        let mut bytes = record.encode();
+        // Half of these only meet the state, busy or idle, a time or none, and the limit.
         if random.chance(500) {
             for _ in 0..random.between(1, 3) {
                 self.spoil(&mut bytes, random);
@@ -460,11 +486,24 @@ impl Writer {
     }
 }
 
-/// Mostly small values that can be told apart, sometimes any or the largest.
-fn value(random: &mut Random) -> u64 {
+/// Mostly small values that can be told apart, sometimes any up to the limit, it, or one below; also
+/// larger ones where the limit is not A1's.
+fn value(max_value: u64, random: &mut Random) -> u64 {
     match random.below(16) {
-        0 => random.bits(),
-        1 => u64::MAX,
+        0 => random.between(0, max_value),
+        1 => max_value - random.below(2),
+        2..6 if max_value > MAX_VALUE => large(random),
         _ => random.between(1, 999_999),
+    }
+}
+
+/// A value above the limit: just above it, with one high bit over a small one, the largest, or any.
+fn large(random: &mut Random) -> u64 {
+    match random.below(5) {
+        0 => MAX_VALUE + 1,
+        1 => random.pick(&[MAX_VALUE + 1, MAX_VALUE + 2, 1 << 40, 1 << 63, u64::MAX - 1]),
+        2 => u64::MAX,
+        3 => random.between(1, 999_999) | 1 << random.between(40, 63),
+        _ => random.between(MAX_VALUE + 1, u64::MAX),
     }
 }

@@ -43,17 +43,18 @@ impl Ghost {
         }
     }
 
-    /// Follows one record from `before` to `after`, and checks its answer against demand 3 and
-    /// the conditions of the refusals.
+    /// Follows one record from `before` to `after`, taken with this largest value of a put, and
+    /// checks its answer against demand 3 and the conditions of the refusals.
     pub fn follow(
         &mut self,
         before: &Store,
         record: Record,
+        max_value: u64,
         answer: Answer,
         after: &Store,
     ) -> Result<(), String> {
         let Record::Step { worker } = record else {
-            return check_begin(before, record, answer);
+            return check_begin(before, record, max_value, answer);
         };
         let w = usize::from(worker);
         let doing = before.workers[w].doing;
@@ -76,12 +77,14 @@ impl Ghost {
                 ensure!(answer == Answer::No(Refusal::Idle), "an idle worker's step: {answer:?}");
             }
             (Doing::PutPublish { .. }, answer) => {
-                let refused = answer == Answer::No(Refusal::NoFreeSlot);
-                ensure!(refused == before.free.is_empty(), "14 is not exact: {answer:?}");
+                let full = before.free.is_empty();
+                let expected = if full { Answer::No(Refusal::NoFreeSlot) } else { Answer::Going };
+                ensure!(answer == expected, "14 is not exact: {answer:?}");
             }
             (Doing::OpenAnnounce, answer) => {
-                let refused = answer == Answer::No(Refusal::LastClock);
-                ensure!(refused == (before.clock == LAST_CLOCK), "15 is not exact: {answer:?}");
+                let last = before.clock == LAST_CLOCK;
+                let expected = if last { Answer::No(Refusal::LastClock) } else { Answer::Going };
+                ensure!(answer == expected, "15 is not exact: {answer:?}");
             }
             (Doing::Close, _) => self.copies[w] = None,
             (Doing::ReadStart { register }, _) => self.reading[w] = Some(register),
@@ -146,7 +149,12 @@ impl Ghost {
 }
 
 /// The begin of an operation, and what it may be refused for once its fields fit.
-fn check_begin(before: &Store, record: Record, answer: Answer) -> Result<(), String> {
+fn check_begin(
+    before: &Store,
+    record: Record,
+    max_value: u64,
+    answer: Answer,
+) -> Result<(), String> {
     let (worker, open, snapshot) = match record {
         Record::Put { worker, .. } | Record::Get { worker, .. } | Record::Collect { worker } => {
             (worker, false, false)
@@ -156,7 +164,10 @@ fn check_begin(before: &Store, record: Record, answer: Answer) -> Result<(), Str
         Record::Setup { .. } | Record::Step { .. } => return Ok(()),
     };
     let state = &before.workers[usize::from(worker)];
-    let expected = if state.doing != Doing::Idle {
+    let too_large = matches!(record, Record::Put { value, .. } if value > max_value);
+    let expected = if too_large {
+        Answer::No(Refusal::Value)
+    } else if state.doing != Doing::Idle {
         Answer::No(Refusal::Busy)
     } else if open && state.announced.is_some() {
         Answer::No(Refusal::Announced)

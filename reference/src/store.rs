@@ -2,7 +2,7 @@
 
 use crate::answer::{Answer, Refusal};
 use crate::coverage::{Branch, Observer};
-use crate::fault::Fault;
+use crate::fault::{self, Fault};
 use crate::flush;
 use crate::pool::{batch_size, Queue, Range, MAX_BATCH};
 use crate::record::Record;
@@ -13,6 +13,8 @@ pub const MAX_WORKERS: usize = 16;
 pub const MAX_REGISTERS: u16 = 256;
 /// Most slots.
 pub const MAX_SLOTS: u16 = 2048;
+/// The largest value that a put may bring (A1): twelve decimal digits. Above it is 16.
+pub const MAX_VALUE: u64 = 999_999_999_999;
 /// The clock's last value: an open there gets 15.
 pub const LAST_CLOCK: u32 = u32::MAX;
 
@@ -159,18 +161,20 @@ impl Store {
         })
     }
 
-    /// Takes a well-formed record. To a store that is set up, a setup is refusal 9.
+    /// Takes a well-formed record, with `max_value` as the largest value that a put may bring. To a
+    /// store that is set up, a setup is refusal 9.
     #[inline]
     pub fn take<F: Fault, O: Observer>(
         &mut self,
         record: Record,
+        max_value: u64,
         seen: &mut O,
     ) -> Result<Answer, Refusal> {
         match record {
-            Record::Step { worker } => return self.step::<F, O>(worker, seen),
+            Record::Step { worker } => return self.step::<F, O>(worker, max_value, seen),
             Record::Setup { .. } => return Err(Refusal::SetUp),
             Record::Put { worker, register, value } => {
-                self.begin(worker, register, Doing::PutPublish { register, value })
+                self.begin_put::<F>(worker, register, value, max_value)
             }
             Record::Open { worker } => self.begin(worker, 0, Doing::OpenAnnounce),
             Record::Read { worker, register } => {
@@ -193,13 +197,41 @@ impl Store {
         .map(|()| Answer::Ok)
     }
 
-    /// Begins an operation: 3, 4, 10, then 12 or 13, else the worker is busy with it. An
-    /// operation without a register gives 0, which is below every V.
-    fn begin(&mut self, worker: u8, register: u16, doing: Doing) -> Result<(), Refusal> {
+    /// 3 and 4, else the worker. An operation without a register gives 0, which is below every V.
+    fn worker_for(&mut self, worker: u8, register: u16) -> Result<&mut Worker, Refusal> {
         let worker = self.workers.get_mut(usize::from(worker)).ok_or(Refusal::Worker)?;
         if usize::from(register) >= self.newest.len() {
             return Err(Refusal::Register);
         }
+        Ok(worker)
+    }
+
+    /// Begins a put: 16 stands between 4 and 10.
+    fn begin_put<F: Fault>(
+        &mut self,
+        worker: u8,
+        register: u16,
+        value: u64,
+        max_value: u64,
+    ) -> Result<(), Refusal> {
+        let tested = if F::SIX_BYTES { value & 0xffff_ffff_ffff } else { value };
+        let too_large = tested > fault::largest::<F>(max_value);
+        if F::VALUE_BEFORE_REGISTER && too_large && self.worker_for(worker, 0).is_ok() {
+            return Err(Refusal::Value);
+        }
+        let state = self.worker_for(worker, register)?;
+        if too_large && !(F::VALUE_AFTER_BUSY && state.doing != Doing::Idle) {
+            if F::VALUE_IDLES {
+                state.doing = Doing::Idle;
+            }
+            return Err(Refusal::Value);
+        }
+        self.begin(worker, register, Doing::PutPublish { register, value })
+    }
+
+    /// Begins an operation: 3, 4, 10, then 12 or 13, else the worker is busy with it.
+    fn begin(&mut self, worker: u8, register: u16, doing: Doing) -> Result<(), Refusal> {
+        let worker = self.worker_for(worker, register)?;
         if worker.doing != Doing::Idle {
             return Err(Refusal::Busy);
         }
@@ -214,11 +246,22 @@ impl Store {
 
     /// Takes one step of a worker: 3, 11, else the step, which may itself meet 14 or 15.
     #[inline]
-    fn step<F: Fault, O: Observer>(&mut self, worker: u8, seen: &mut O) -> Result<Answer, Refusal> {
+    fn step<F: Fault, O: Observer>(
+        &mut self,
+        worker: u8,
+        max_value: u64,
+        seen: &mut O,
+    ) -> Result<Answer, Refusal> {
         let w = usize::from(worker);
         let doing = self.workers.get(w).ok_or(Refusal::Worker)?.doing;
         let (next, answer) = match doing {
             Doing::Idle => return Err(Refusal::Idle),
+            Doing::PutPublish { value, .. } if F::VALUE_AT_STEP && value > max_value => {
+                (Doing::Idle, Answer::No(Refusal::Value))
+            }
+            Doing::FlushFree { next } if F::LARGE_KEPT && self.frees_above(w, next, max_value) => {
+                (Doing::FlushFree { next: next + 1 }, Answer::Going)
+            }
             Doing::PutPublish { register, value } => self.put_publish(register, value, seen),
             Doing::PutStamp { register, covered, own } => {
                 self.put_stamp(register, covered, own, seen)
@@ -236,6 +279,12 @@ impl Store {
             Doing::Close => self.close(w, seen),
         };
         self.workers[w].doing = next;
-        Ok(answer)
+        Ok(fault::shown::<F>(doing, answer, max_value))
+    }
+
+    /// Is a flush about to free a version with a value above this? Only a fault asks.
+    fn frees_above(&self, w: usize, next: u16, value: u64) -> bool {
+        let range = self.workers[w].merged.get(usize::from(next));
+        range.is_some_and(|range| self.slots[usize::from(range.slot)].value > value)
     }
 }

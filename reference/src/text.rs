@@ -15,7 +15,8 @@
 //! ```
 //!
 //! `bytes` gives a record by its bytes, fewer than sixteen only as the last command. Unpacking writes
-//! it for a record that is refused whatever the hub's state, with the reason as a comment.
+//! it for a record that its bytes alone refuse, with 6, 1 or 2, and the reason as a comment. A put
+//! of any value is a `put`: whether it gets 16 or a refusal before that is the hub's question.
 
 use crate::answer::Refusal;
 use crate::record::{Record, LENGTH};

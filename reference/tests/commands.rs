@@ -44,10 +44,11 @@ fn file(name: &str, contents: &[u8]) -> PathBuf {
 
 #[test]
 fn hublog_prints_the_log() {
-    let script = records("setup 1 1 2 1\n put 0 0 7\n step 0 x2\n bytes 01");
+    let script =
+        records("setup 1 1 2 1\n put 0 0 7\n step 0 x2\n put 0 0 1000000000000\n bytes 01");
     let output = run(HUBLOG, &[], &script);
     assert!(output.status.success());
-    assert_eq!(text(&output.stdout), "0 ok\n1 ok\n2 going\n3 going\n4 no 6\n");
+    assert_eq!(text(&output.stdout), "0 ok\n1 ok\n2 going\n3 going\n4 no 16\n5 no 6\n");
     assert_eq!(text(&output.stderr), "");
     assert_eq!(run(HUBLOG, &[], &[]).stdout, b"");
 }

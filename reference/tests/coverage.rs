@@ -21,6 +21,12 @@ fn the_random_suite_reaches_everything() {
     }
     println!("{total}");
     assert_eq!(total.missing(), Vec::<String>::new());
+    // Before setup there are few records.
+    for branch in Branch::OF_LIMIT {
+        let least = if branch == Branch::LargeNotSetUp { 40 } else { 1000 };
+        let met = total.branches[branch as usize];
+        assert!(met >= least, "{branch:?} met {met} times");
+    }
 }
 
 /// Hubs of middle sizes are used, not only set up: their slots run out, and are freed and taken again.
@@ -45,7 +51,7 @@ fn counts_have_a_name_each() {
     names.sort();
     names.dedup();
     assert_eq!(names.len(), counts.len());
-    // Six answers, refusals 1 to 15 but 7, the branches and the sizes.
+    // Six answers, refusals 1 to 16 but 7, the branches and the sizes.
     assert!(names.contains(&&"no 6".to_string()) && !names.contains(&&"no 7".to_string()));
     assert_eq!(Coverage::default().missing().len(), counts.len());
 }

@@ -1,14 +1,19 @@
 //! Complete exploration of small hubs near the end of the clock.
 //!
-//! The counts are those of the whole reachable space; another reading of document 01 would
+//! The counts are those of the whole reachable space; another reading of the documents would
 //! change them. The larger ones are ignored by default: `cargo test --release -- --ignored`.
 
 use reference::explore::{explore, Explored, Size};
-use reference::fault::{CoveringLow, HighInside, NewerThanOldest, Right, TimesFirst};
+use reference::fault::{
+    CoveringLow, Fault, GetHides, HighInside, LimitRefused, NewerThanOldest, NextAccepted,
+    ReadHides, Right, TimesFirst, ValueAfterBusy, ValueAtStep, ValueIdles,
+};
+use reference::store::MAX_VALUE;
 
 /// A hub whose clock is set up so many below its last value.
 fn size(workers: u8, registers: u16, slots: u16, below: u32, values: &'static [u64]) -> Size {
-    Size { workers, registers, slots, clock: u32::MAX - below, values }
+    let clock = u32::MAX - below;
+    Size { workers, registers, slots, clock, values, max_values: &[MAX_VALUE] }
 }
 
 fn states(size: Size) -> usize {
@@ -76,4 +81,45 @@ fn faults_that_keep_demand_3() {
     explore::<NewerThanOldest>(small, false).unwrap();
     explore::<HighInside>(small, false).unwrap();
     explore::<CoveringLow>(small, false).unwrap();
+}
+
+/// Two values that A1 tells apart.
+const AT_LIMIT: &[u64] = &[MAX_VALUE, MAX_VALUE + 1];
+
+/// A put above the limit changes nothing: as many states as without it.
+#[test]
+fn puts_above_the_limit_lead_nowhere() {
+    let hub = |values| size(2, 1, 2, 2, values);
+    assert_eq!(states(hub(AT_LIMIT)), states(hub(&[1])));
+}
+
+/// Before A1 and after it, in any turn.
+fn across(size: Size) -> Size {
+    Size { max_values: &[u64::MAX, MAX_VALUE], ..size }
+}
+
+/// Every record with A1 in every state that records left before it, and so on: the states are those of
+/// two values without A1.
+#[test]
+fn every_state_from_before_a1() {
+    assert_eq!(states(across(size(1, 1, 3, 2, AT_LIMIT))), 16_941);
+    assert_eq!(states(across(size(2, 1, 2, 2, AT_LIMIT))), 279_879);
+}
+
+/// Those near misses of A1 that show where no worker and no register is missing.
+#[test]
+fn near_misses_of_a1_are_found() {
+    fn found<F: Fault + Clone>(size: Size) -> String {
+        let reason = explore::<F>(size, false).unwrap_err();
+        reason.lines().next().unwrap_or_default().to_string()
+    }
+    let small = size(1, 1, 2, 1, AT_LIMIT);
+    assert!(found::<LimitRefused>(small).ends_with("No(Value), not Ok"));
+    assert!(found::<NextAccepted>(small).ends_with("Ok, not No(Value)"));
+    assert!(found::<ValueAfterBusy>(small).ends_with("No(Busy), not No(Value)"));
+    assert_eq!(found::<ValueIdles>(small), "a refused record changes the store");
+    let small = across(small);
+    assert!(found::<ValueAtStep>(small).ends_with("14 is not exact: No(Value)"));
+    assert!(found::<GetHides>(small).starts_with("a get: Value(999999999999), not"));
+    assert!(found::<ReadHides>(small).starts_with("a read: 999999999999, not"));
 }

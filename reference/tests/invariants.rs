@@ -1,25 +1,29 @@
 //! The invariant and the plain registers along random scripts, after every record.
 
-use reference::generate::{script, Kind};
+mod common;
+
+use reference::generate::{script_across, Kind};
 use reference::invariant::{self, Ghost};
 use reference::record::LENGTH;
 use reference::{Answer, Hub, Record};
 
-/// Runs a script and checks after each record (on large hubs after every hundredth).
-fn run(kind: Kind, seed: u64, count: usize) -> Result<(), String> {
+/// Runs a script whose first `before` records come before A1, and checks after each record (on large
+/// hubs after every hundredth).
+fn run(kind: Kind, seed: u64, count: usize, before: usize) -> Result<(), String> {
     let mut hub = Hub::new();
     let mut ghost = None;
-    for (number, bytes) in script(kind, seed, count).chunks(LENGTH).enumerate() {
-        let before = hub.store().cloned();
+    for (number, bytes) in script_across(kind, seed, count, before).chunks(LENGTH).enumerate() {
+        common::set_rule(&mut hub, number, before);
+        let earlier = hub.store().cloned();
         let answer = hub.take(bytes);
         let Some(after) = hub.store() else { continue };
-        let (Some(before), Some(ghost)) = (&before, &mut ghost) else {
+        let (Some(earlier), Some(ghost)) = (&earlier, &mut ghost) else {
             ghost = Some(Ghost::start(after));
             continue;
         };
         let refused = matches!(answer, Answer::No(refusal) if !refusal.at_step());
         if let (Ok(record), false) = (Record::decode(bytes), refused) {
-            ghost.follow(before, record, answer, after)?;
+            ghost.follow(earlier, record, hub.max_value, answer, after)?;
         }
         if kind != Kind::Large || number % 100 == 0 {
             invariant::check(after).map_err(|reason| format!("record {number}: {reason}"))?;
@@ -33,12 +37,14 @@ fn run(kind: Kind, seed: u64, count: usize) -> Result<(), String> {
 fn random_scripts_keep_the_invariant() {
     for (kind, name) in Kind::ALL {
         let (seeds, count) = match kind {
-            Kind::Large => (2, 8000),
+            Kind::Large => (3, 8000),
             Kind::Sizes => (10, 1000),
             _ => (30, 1000),
         };
         for seed in 0..seeds {
-            if let Err(reason) = run(kind, 5000 + seed, count) {
+            // Every third of them comes over from before A1.
+            let before = if seed % 3 == 2 { count / 2 } else { 0 };
+            if let Err(reason) = run(kind, 5000 + seed, count, before) {
                 panic!("{name} {seed}: {reason}");
             }
         }

@@ -4,6 +4,7 @@ mod common;
 
 use common::{examined, sample};
 use reference::listing::Listing;
+use reference::store::MAX_VALUE;
 
 /// The text for a script, with some of the hub's answers replaced.
 fn listing(script: &str, replaced: &[(usize, &str)]) -> String {
@@ -51,9 +52,24 @@ fn refused_and_unfinished_operations_are_listed() {
     assert_eq!(rows(&listing, "operation worker"), expected, "{listing}");
 }
 
+/// What is refused on reading is no operation; the values of those that are stand in full.
+#[test]
+fn puts_above_the_limit_are_not_listed() {
+    let script = "setup 2 1 3 1\n put 0 0 1000000000000\n put 0 0 999999999999\n step 0 x3
+        put 1 0 18446744073709551615\n get 1 0\n step 1";
+    let listing = listing(script, &[]);
+    let expected = [
+        "1 put of 999999999999 to register 0 0 2 4 5 done",
+        "2 get of register 0 1 7 8 8 value 999999999999 999999999999",
+    ];
+    assert_eq!(rows(&listing, "place operation"), expected, "{listing}");
+    assert!(!listing.contains("1000000000000") && !listing.contains("Not in the order"));
+    assert!(listing.contains("\n9 records, 2 operations: 2 finished, 0 refused, "), "{listing}");
+}
+
 #[test]
 fn columns_line_up() {
-    let values = [0, 9, 10, u64::MAX];
+    let values = [0, 9, 10, MAX_VALUE];
     let puts: String = values.iter().map(|x| format!("put 0 0 {x}\n step 0 x9\n")).collect();
     let listing = listing(&format!("setup 1 1 9 1\n {puts}"), &[]);
     let lines: Vec<&str> = listing

@@ -128,7 +128,7 @@ fn what_is_no_log() {
         "0 ok \n",
         "0 freed\n",
         "0 freed 01\n",
-        "0 no 16\n",
+        "0 no 17\n",
         "ok\n",
     ] {
         assert!(log::parse_log(text).is_err(), "{text:?}");

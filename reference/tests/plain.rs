@@ -1,11 +1,10 @@
-//! A slow hub written straight from document 01's sentences, with other data: each register's
+//! A slow hub written straight from the documents' sentences, with other data: each register's
 //! list is a vector, each pool a vector of vectors, times are wide numbers. Both hubs give one log.
 
 mod common;
 
-use reference::generate::{script, Kind};
-use reference::log;
-use reference::Hub;
+use reference::fault::Right;
+use reference::generate::{script_across, Kind};
 use std::collections::VecDeque;
 
 /// An open high and an unset low: above every time.
@@ -39,6 +38,8 @@ struct Worker {
 
 #[derive(Default)]
 struct Plain {
+    /// Is it still the time before A1?
+    before_a1: bool,
     workers: Vec<Worker>,
     clock: u64,
     batch: usize,
@@ -94,6 +95,10 @@ impl Plain {
         if register >= self.lists.len() {
             return Err(4);
         }
+        let value = number(&bytes[8..]);
+        if operation == 1 && value > 999999999999 && !self.before_a1 {
+            return Err(16);
+        }
         let worker = &mut self.workers[w];
         if operation == 7 {
             return match worker.operation {
@@ -106,7 +111,7 @@ impl Plain {
             (_, 2, Some(_)) => Err(12),
             (_, 3 | 4, None) => Err(13),
             _ => {
-                worker.operation = Some((operation, register, number(&bytes[8..])));
+                worker.operation = Some((operation, register, value));
                 worker.steps = 0;
                 worker.flushing = operation == 6;
                 Ok("ok".to_string())
@@ -283,10 +288,16 @@ fn both_hubs_give_one_log() {
     for (kind, name) in Kind::ALL {
         let (seeds, count) = if kind == Kind::Large { (4, 30_000) } else { (150, 1500) };
         for seed in 0..seeds {
-            let file = script(kind, 9000 + seed, count);
+            // Every third of them comes over from before A1.
+            let before = if seed % 3 == 2 { count / 3 } else { 0 };
+            let file = script_across(kind, 9000 + seed, count, before);
             let mut plain = Plain::default();
-            let expected: Vec<String> = file.chunks(16).map(|bytes| plain.take(bytes)).collect();
-            let answers = common::words(&log::answers(&mut Hub::new(), &file));
+            let take = |(number, bytes)| {
+                plain.before_a1 = number < before;
+                plain.take(bytes)
+            };
+            let expected: Vec<String> = file.chunks(16).enumerate().map(take).collect();
+            let answers = common::words(&common::across::<Right>(&file, before));
             let differs = answers.iter().zip(&expected).position(|(a, b)| a != b);
             if let Some(at) = differs {
                 panic!("{name} {seed}, record {at}: {} and {}", answers[at], expected[at]);

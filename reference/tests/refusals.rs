@@ -7,10 +7,10 @@ use reference::generate::{script, Kind};
 use reference::record::LENGTH;
 use reference::store::{Doing, Store};
 use reference::{Answer, Hub, Refusal};
-use std::collections::HashSet;
+use std::collections::HashMap;
 
-/// Document 01's order of the refusals on reading.
-const ORDER: [u8; 12] = [6, 1, 2, 8, 9, 5, 3, 4, 10, 11, 12, 13];
+/// The order of the refusals on reading: document 01's, with 16 after 4 and before 10.
+const ORDER: [u8; 13] = [6, 1, 2, 8, 9, 5, 3, 4, 16, 10, 11, 12, 13];
 
 /// The bytes that operations 0 to 7 use.
 const USED: [&[usize]; 8] = [
@@ -24,7 +24,7 @@ const USED: [&[usize]; 8] = [
     &[0, 1],
 ];
 
-/// Every refusal that a record deserves by itself, straight from the two tables.
+/// Every refusal that a record deserves by itself, straight from the tables.
 fn deserved(bytes: &[u8], store: Option<&Store>) -> Vec<u8> {
     let mut numbers = Vec::new();
     if bytes.len() < LENGTH {
@@ -55,6 +55,10 @@ fn deserved(bytes: &[u8], store: Option<&Store>) -> Vec<u8> {
         }
         return numbers;
     }
+    let value = (8..16).rev().fold(0, |value, place| value << 8 | u64::from(bytes[place]));
+    if operation == 1 && value > 999_999_999_999 {
+        numbers.push(16);
+    }
     let Some(store) = store else {
         numbers.push(8);
         return numbers;
@@ -83,7 +87,7 @@ fn deserved(bytes: &[u8], store: Option<&Store>) -> Vec<u8> {
 
 #[test]
 fn the_first_deserved_refusal_in_the_order() {
-    let mut pairs = HashSet::new();
+    let mut pairs = HashMap::new();
     for (kind, _) in Kind::ALL {
         for seed in 0..60 {
             let mut hub = Hub::new();
@@ -96,7 +100,9 @@ fn the_first_deserved_refusal_in_the_order() {
                     Some(&first) => {
                         assert_eq!(answer, no(u64::from(first)), "{bytes:?}");
                         assert!(before.as_ref() == hub.store(), "{bytes:?} changes the store");
-                        pairs.extend(numbers.iter().map(|&other| (first, other)));
+                        for &other in &numbers {
+                            *pairs.entry((first, other)).or_insert(0) += 1;
+                        }
                     }
                     None => {
                         let refused = matches!(answer, Answer::No(refusal) if !refusal.at_step());
@@ -124,10 +130,21 @@ fn the_first_deserved_refusal_in_the_order() {
         (10, 12),
         (10, 13),
     ] {
-        assert!(pairs.contains(&pair), "{pair:?} did not meet");
+        assert!(pairs.contains_key(&pair), "{pair:?} did not meet");
     }
     for number in ORDER {
-        assert!(pairs.contains(&(number, number)), "{number} was not met");
+        assert!(pairs.contains_key(&(number, number)), "{number} was not met");
+    }
+    for (pair, least) in [
+        ((2, 16), 200),
+        ((8, 16), 30),
+        ((3, 16), 200),
+        ((4, 16), 200),
+        ((16, 10), 500),
+        ((16, 16), 1000),
+    ] {
+        let met = pairs.get(&pair).copied().unwrap_or(0);
+        assert!(met >= least, "{pair:?} met {met} times");
     }
 }
 
@@ -164,6 +181,19 @@ fn records_that_deserve_several() {
         (busy, "read 1 0", 13),
         (busy, "close 1", 13),
         ("setup 1 1 1 1\n open 0\n step 0 x2", "open 0", 12),
+        // A value above the limit: after all that the record and its fields deserve, before busy.
+        ("", "bytes 01 00 00 00 00 00 00 00 ff ff ff ff ff ff ff", 6),
+        ("", "bytes 08 00 00 00 00 00 00 00 ff ff ff ff ff ff ff ff", 1),
+        (busy, "bytes 01 00 00 00 01 00 00 00 ff ff ff ff ff ff ff ff", 2),
+        ("", "put 0 0 1000000000000", 8),
+        (busy, "put 2 0 1000000000000", 3),
+        (busy, "put 2 1 18446744073709551615", 3),
+        (busy, "put 0 1 1000000000000", 4),
+        (busy, "put 1 1 18446744073709551615", 4),
+        (busy, "put 0 0 1000000000000", 16),
+        (busy, "put 1 0 1000000000000", 16),
+        (busy, "put 0 0 999999999999", 10),
+        (snapshot_busy, "put 0 0 18446744073709551615", 16),
     ];
     for (before, record, number) in cases {
         let mut hub = common::hub_after(before);
@@ -248,8 +278,8 @@ fn the_tables_numbers() {
         assert_eq!(Refusal::from_number(place as u64 + 1), Some(*refusal));
     }
     assert_eq!(Refusal::from_number(0), None);
-    assert_eq!(Refusal::from_number(16), None);
-    assert_eq!(words(&[no(15)]), ["no 15"]);
+    assert_eq!(Refusal::from_number(17), None);
+    assert_eq!(words(&[no(15), no(16)]), ["no 15", "no 16"]);
 }
 
 #[test]

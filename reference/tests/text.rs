@@ -38,6 +38,7 @@ fn scripts_come_back() {
 fn text_comes_back_too() {
     let text = "setup 16 256 2048 4294967295
 put 255 65535 18446744073709551615
+put 0 0 1000000000000
 open 3
 read 4 9
 close 5

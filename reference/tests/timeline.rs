@@ -5,6 +5,7 @@ mod common;
 use common::{examined, sample};
 use reference::generate::{script, Kind};
 use reference::order::{self, Claim, Violation};
+use reference::store::MAX_VALUE;
 use reference::timeline::Timeline;
 use reference::{log, Answer, Hub};
 
@@ -186,9 +187,8 @@ fn the_width_grows_with_the_records() {
 
 #[test]
 fn labels_that_do_not_fit_are_shortened() {
-    let largest = u64::MAX;
-    let last = timeline(&format!("setup 1 1 9 1\n put 0 0 {largest}"), &[]);
-    assert!(last.contains(&format!(">put r0 = {largest}</text>")), "{last}");
+    let last = timeline(&format!("setup 1 1 9 1\n put 0 0 {MAX_VALUE}"), &[]);
+    assert!(last.contains(&format!(">put r0 = {MAX_VALUE}</text>")), "{last}");
     // A get that is followed at once has room for nine digits.
     let svg =
         timeline("setup 1 1 9 1\n get 0 0\n step 0\n get 0 0\n", &[(2, "value 12345678901234567")]);
@@ -196,6 +196,16 @@ fn labels_that_do_not_fit_are_shortened() {
         svg.contains(r#"<text class="answer wrong" x="122" y="118">123456789…</text>"#),
         "{svg}"
     );
+}
+
+/// A record that is refused on reading has its column and no bar.
+#[test]
+fn puts_above_the_limit_are_not_drawn() {
+    let legend = timeline("", &[]);
+    let svg = timeline("setup 1 1 2 1\n put 0 0 1000000000000\n get 0 0\n step 0", &[]);
+    assert_eq!(count(&svg, "bar") - count(&legend, "bar"), 1, "{svg}");
+    assert!(svg.contains(">4 records, 1 operation: 1 finished, 0 refused, "), "{svg}");
+    assert!(!svg.contains("1000000000000") && !svg.contains("no 16"), "{svg}");
 }
 
 #[test]

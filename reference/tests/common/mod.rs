@@ -2,9 +2,10 @@
 #![allow(dead_code)]
 
 use reference::coverage::Coverage;
-use reference::fault::Right;
+use reference::fault::{Fault, Right};
 use reference::order::{self, Order, Violation};
-use reference::store::{Store, MAX_SLOTS};
+use reference::record::LENGTH;
+use reference::store::{Store, MAX_SLOTS, MAX_VALUE};
 use reference::{log, text, Answer, Hub, Refusal};
 
 /// The records of a readable text.
@@ -15,6 +16,22 @@ pub fn records(script: &str) -> Vec<u8> {
 /// The answers to a readable text, as words.
 pub fn run(script: &str) -> Vec<String> {
     words(&log::answers(&mut Hub::new(), &records(script)))
+}
+
+/// Tells a hub whether its next record, of this number, comes before A1.
+pub fn set_rule<F: Fault>(hub: &mut Hub<F>, number: usize, before: usize) {
+    hub.max_value = if number < before { u64::MAX } else { MAX_VALUE };
+}
+
+/// The answers to a file whose first `before` records come before A1.
+pub fn across<F: Fault>(file: &[u8], before: usize) -> Vec<Answer> {
+    let mut hub = Hub::<F>::with_row(usize::from(MAX_SLOTS));
+    let records = file.chunks(LENGTH).enumerate();
+    let answer = |(number, bytes)| {
+        set_rule(&mut hub, number, before);
+        hub.take(bytes)
+    };
+    records.map(answer).collect()
 }
 
 /// Answers as the log's words, without numbers.
