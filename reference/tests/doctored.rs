@@ -85,6 +85,34 @@ fn a_put_finds_a_free_slot() {
 }
 
 #[test]
+fn a_put_refused_with_16_is_left_out() {
+    let script = "setup 1 1 3 1\n put 0 0 1000000000000\n get 0 0\n step 0";
+    let (order, violation) = examined(script, &[]);
+    assert_eq!((order.records, order.operations.len(), violation), (4, 1, None));
+    assert_eq!(order.operations[0].shown, Some(0));
+    refused_at(3, Claim::Value, script, &[(3, "value 1000000000000")]);
+    // Whatever its value: it takes no step, and nothing of it is shown.
+    let script = "setup 1 1 3 1\n put 0 0 7\n step 0 x3";
+    let violation = refused_at(2, Claim::Fit, script, &[(1, "no 16")]);
+    assert!(violation.sentence.contains("has no operation"), "{violation}");
+    // Nor is 16 the end of a put that has begun.
+    let script = "setup 1 1 3 1\n put 0 0 7\n step 0\n get 0 0";
+    let violation = refused_at(3, Claim::Fit, script, &[(2, "no 16"), (3, "ok")]);
+    assert!(violation.sentence.contains("is busy"), "{violation}");
+}
+
+/// The log of a hub from before A1 is held to the same order.
+#[test]
+fn a_put_above_the_limit_that_was_accepted_is_fed() {
+    let script = "setup 2 1 3 1\n put 0 0 1000000000000\n step 0 x3\n get 1 0\n step 1";
+    let accepted = [(1, "ok"), (2, "going"), (3, "going"), (4, "done")];
+    let answers = |value| accepted.into_iter().chain([(6, value)]).collect::<Vec<_>>();
+    let (order, violation) = examined(script, &answers("value 1000000000000"));
+    assert_eq!((order.sequence.len(), violation), (2, None));
+    refused_at(6, Claim::Value, script, &answers("value 999999999999"));
+}
+
+#[test]
 fn the_last_clock_is_not_announced() {
     refused_at(2, Claim::Fit, "setup 1 1 1 4294967295\n open 0\n step 0", &[(2, "going")]);
 }

@@ -1,0 +1,219 @@
+//! A1: a put above 999999999999 gets 16, and values that were stored before it stay, are shown and are
+//! freed like the others.
+
+mod common;
+
+use common::{across, last, no, records, run, set_rule, words};
+use reference::fault::Right;
+use reference::generate::{script_across, Kind};
+use reference::order;
+use reference::record::LENGTH;
+use reference::store::{Doing, Store, MAX_VALUE};
+use reference::{Answer, Hub, Record};
+
+const WITHIN: [u64; 5] = [0, 1, 549_755_813_888, 999_999_999_998, 999_999_999_999];
+
+const ABOVE: [u64; 9] = [
+    1_000_000_000_000,
+    1_000_000_000_001,
+    1 << 40,
+    1 << 40 | 7,
+    1 << 48 | 7,
+    9_999_999_999_999,
+    1 << 63,
+    u64::MAX - 1,
+    u64::MAX,
+];
+
+#[test]
+fn puts_up_to_the_limit_are_accepted() {
+    for value in WITHIN {
+        let script = format!("setup 2 1 2 1\n put 0 0 {value}\n step 0 x3\n get 1 0\n step 1");
+        let shown = format!("value {value}");
+        assert_eq!(run(&script), ["ok", "ok", "going", "going", "done", "ok", &shown]);
+    }
+}
+
+/// Whatever the worker does, and nothing changes.
+#[test]
+fn puts_above_the_limit_are_refused() {
+    for before in ["", "put 0 0 7", "put 0 0 7\n step 0", "open 0\n step 0", "collect 0", "get 0 0"]
+    {
+        for value in ABOVE {
+            let mut hub = common::hub_after(&format!("setup 2 1 2 1\n {before}"));
+            let store = common::store(&hub).clone();
+            assert_eq!(last(&mut hub, &format!("put 0 0 {value}")), no(16), "{before:?}, {value}");
+            assert_eq!(common::store(&hub), &store, "{before:?}, {value}");
+        }
+    }
+    // Nor is there a put to step, or a value to show.
+    let script = "setup 1 1 2 1\n put 0 0 1000000000000\n step 0\n get 0 0\n step 0";
+    assert_eq!(run(script), ["ok", "no 16", "no 11", "ok", "value 0"]);
+}
+
+/// 16 is about puts: no other record has a value.
+#[test]
+fn other_records_have_no_value() {
+    for operation in [0, 2, 3, 4, 5, 6, 7] {
+        let mut bytes = [0xff; LENGTH];
+        bytes[..8].copy_from_slice(&[operation, 0, 0, 0, 0, 0, 0, 0]);
+        let mut hub = common::hub_after("setup 1 1 1 1");
+        assert_eq!(hub.take(&bytes), no(2), "operation {operation}");
+    }
+}
+
+/// The words of two texts, the first from before A1; demand 3 holds of both together.
+fn words_across(before: &str, after: &str) -> Vec<String> {
+    let (before, after) = (records(before), records(after));
+    let number = before.len() / LENGTH;
+    let file = [before, after].concat();
+    let answers = across::<Right>(&file, number);
+    order::check(&file, &answers).expect("in order");
+    words(&answers[number..])
+}
+
+#[test]
+fn larger_values_from_before_are_shown_by_get_and_read() {
+    for value in ABOVE {
+        let before = format!("setup 3 1 4 1\n put 0 0 {value}\n step 0 x3\n open 1\n step 1 x2");
+        let shown = format!("value {value}");
+        let at_once = "get 0 0\n step 0\n read 1 0\n step 1 x2";
+        assert_eq!(words_across(&before, at_once), ["ok", &shown, "ok", "going", &shown]);
+        // Another such put is refused; a smaller one covers the version, which the snapshot sees.
+        let covered = format!(
+            "put 0 0 {value}\n put 0 0 5\n step 0 x3\n get 0 0\n step 0\n read 1 0\n step 1 x3"
+        );
+        let expected = [
+            "no 16", "ok", "going", "going", "done", "ok", "value 5", "ok", "going", "going",
+            &shown,
+        ];
+        assert_eq!(words_across(&before, &covered), expected);
+    }
+}
+
+#[test]
+fn larger_values_from_before_are_freed() {
+    // Slot 1 has the value; the put of 5 covers it and hands it in, and a collect frees it.
+    let before = "setup 1 1 3 1\n put 0 0 18446744073709551615\n step 0 x7";
+    let after = "put 0 0 5\n step 0 x8\n collect 0\n step 0 x5\n get 0 0\n step 0";
+    let expected = [
+        "ok", "going", "going", "going", "going", "going", "going", "freed 0", "done", "ok",
+        "going", "going", "going", "freed 1", "done", "ok", "value 5",
+    ];
+    assert_eq!(words_across(before, after), expected);
+    // Under a snapshot that needs it, it stays; after the close it goes.
+    let before = format!("{before}\n open 0\n step 0 x2");
+    let after = "put 0 0 5\n step 0 x8\n collect 0\n step 0 x4\n read 0 0\n step 0 x3\n close 0
+        step 0\n collect 0\n step 0 x5";
+    let expected = [
+        "ok",
+        "going",
+        "going",
+        "going",
+        "going",
+        "going",
+        "going",
+        "freed 0",
+        "done",
+        "ok",
+        "going",
+        "going",
+        "going",
+        "done",
+        "ok",
+        "going",
+        "going",
+        "value 18446744073709551615",
+        "ok",
+        "done",
+        "ok",
+        "going",
+        "going",
+        "going",
+        "freed 1",
+        "done",
+    ];
+    assert_eq!(words_across(&before, after), expected);
+}
+
+/// A put that began before A1 is part of the memory that records left.
+#[test]
+fn a_put_from_before_goes_on() {
+    for steps in 0..3 {
+        let before =
+            format!("setup 2 1 2 1\n put 0 0 1000000000000\n {}", "step 0\n".repeat(steps));
+        let after = format!("{}get 0 0\n step 0", "step 0\n".repeat(3 - steps));
+        let expected = ["going", "going", "done", "ok", "value 1000000000000"];
+        assert_eq!(words_across(&before, &after), expected[steps..]);
+    }
+}
+
+/// What became of values above the limit after A1.
+#[derive(Debug, Default)]
+struct Met {
+    refused: usize,
+    got: usize,
+    read: usize,
+    freed: usize,
+    /// First steps of puts that began before.
+    published: usize,
+    /// Puts within the limit over a version above it.
+    covered: usize,
+}
+
+impl Met {
+    /// Sees a record that was taken after A1, with the store before it.
+    fn see(&mut self, store: &Store, record: Record, answer: Answer) {
+        let above = |value| usize::from(value > MAX_VALUE);
+        let stored = |slot: u16| above(store.slots[usize::from(slot)].value);
+        let worker = match record {
+            Record::Step { worker } => store.workers.get(usize::from(worker)),
+            Record::Put { value, .. } if answer == no(16) => return self.refused += above(value),
+            _ => None,
+        };
+        match (worker.map(|worker| worker.doing), answer) {
+            (Some(Doing::Get { .. }), Answer::Value(value)) => self.got += above(value),
+            (Some(Doing::ReadAt { .. }), Answer::Value(value)) => self.read += above(value),
+            (Some(Doing::PutPublish { value, .. }), Answer::Going) if value > MAX_VALUE => {
+                self.published += 1;
+            }
+            (Some(Doing::PutPublish { register, .. }), Answer::Going) => {
+                self.covered += stored(store.newest[usize::from(register)]);
+            }
+            (Some(Doing::FlushFree { .. }), Answer::Freed(slot)) => self.freed += stored(slot),
+            _ => {}
+        }
+    }
+
+    /// Takes a file whose first `before` records come before A1.
+    fn follow(&mut self, file: &[u8], before: usize) -> Vec<Answer> {
+        let mut hub = Hub::new();
+        let take = |(number, bytes)| {
+            set_rule(&mut hub, number, before);
+            let store = hub.store().filter(|_| number >= before).cloned();
+            let answer = hub.take(bytes);
+            if let (Some(store), Ok(record)) = (store, Record::decode(bytes)) {
+                self.see(&store, record, answer);
+            }
+            answer
+        };
+        file.chunks(LENGTH).enumerate().map(take).collect()
+    }
+}
+
+#[test]
+fn random_scripts_come_over_from_before() {
+    let mut met = Met::default();
+    for (kind, name) in Kind::ALL {
+        for seed in 0..60 {
+            let file = script_across(kind, 7000 + seed, 600, 300);
+            let answers = met.follow(&file, 300);
+            if let Err(violation) = order::check(&file, &answers) {
+                panic!("{name} {seed}: {violation}");
+            }
+        }
+    }
+    let Met { refused, got, read, freed, published, covered } = met;
+    let enough = refused > 1000 && got > 300 && read > 600 && freed > 1000 && published > 80;
+    assert!(enough && covered > 600, "{met:?}");
+}
