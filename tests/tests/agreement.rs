@@ -1,7 +1,7 @@
 //! `hublog` and the second program print the same, byte for byte, and `hublog`'s own logs keep demand 3.
 
 use hublog_tests::{agree, printed};
-use reference::coverage::Coverage;
+use reference::coverage::{Branch, Coverage};
 use reference::generate::{script, Kind, Random};
 use reference::text;
 use std::thread;
@@ -67,6 +67,52 @@ fn an_unstamped_put_is_not_in_an_older_snapshot() {
     );
 }
 
+/// A1: 16 stands after 4 and before 10, is given from 1000000000000 on, and changes nothing.
+#[test]
+fn the_limit_of_a_put() {
+    holds(
+        "put 0 0 1000000000000\n setup 2 1 4 1\n put 2 0 1000000000000\n put 2 1 1000000000000
+        put 0 1 1000000000000\n put 0 0 1000000000000\n step 0\n put 0 0 999999999999
+        put 0 0 1000000000000\n put 0 0 999999999998\n step 0\n put 0 0 18446744073709551615\n step 0 x2
+        get 1 0\n put 1 0 1099511627776\n step 1\n put 1 0 1000000000001\n put 1 0 999999999998
+        step 1 x2\n get 0 0\n step 0",
+        &[
+            "no 8", "ok", "no 3", "no 3", "no 4", "no 16", "no 11", "ok", "no 16", "no 10", "going",
+            "no 16", "going", "done", "ok", "no 16", "value 999999999999", "no 16", "ok", "going",
+            "going", "ok", "value 999999999998",
+        ],
+    );
+    // 2, 1 and 6 come before it too.
+    holds(
+        "setup 1 1 2 1\n bytes 01 00 00 00 01 00 00 00 ff ff ff ff ff ff ff ff
+        bytes 08 00 00 00 00 00 00 00 ff ff ff ff ff ff ff ff
+        bytes 01 00 00 00 00 00 00 00 ff ff ff ff ff ff ff",
+        &["ok", "no 2", "no 1", "no 6"],
+    );
+}
+
+/// Each power of two and each power of ten, one below and one above; twice, on an idle and a busy worker.
+#[test]
+fn values_of_all_lengths() {
+    let powers = (0..64).map(|n| 1 << n).chain((0..20).map(|n| 10u64.pow(n)));
+    let values = powers.flat_map(|power: u64| [power - 1, power, power.saturating_add(1)]);
+    let mut refused = 0;
+    for value in values.chain([u64::MAX]) {
+        let script = format!(
+            "setup 2 1 3 1\n put 0 0 {value}\n put 0 0 {value}\n step 0 x3\n get 1 0\n step 1"
+        );
+        let shown = format!("value {value}");
+        if value <= 999_999_999_999 {
+            holds(&script, &["ok", "ok", "no 10", "going", "going", "done", "ok", &shown]);
+        } else {
+            holds(&script, &["ok", "no 16", "no 16", "no 11", "no 11", "no 11", "ok", "value 0"]);
+            refused += 1;
+        }
+    }
+    // From 2^40 on, 10^12 and one above, from 10^13 on, the largest.
+    assert_eq!(refused, 3 * 24 + 2 + 3 * 7 + 1);
+}
+
 #[test]
 fn ends_of_files() {
     assert_eq!(printed(b"", &[]), b"");
@@ -110,6 +156,12 @@ fn random_scripts_of_all_kinds() {
     let total = together(scripts);
     println!("{total}");
     assert_eq!(total.missing(), Vec::<String>::new());
+    // Puts at A1's limit and above it; before setup there are few records.
+    for branch in Branch::OF_LIMIT {
+        let least = if branch == Branch::LargeNotSetUp { 40 } else { 500 };
+        let met = total.branches[branch as usize];
+        assert!(met >= least, "{branch:?} met {met} times");
+    }
 }
 
 #[test]
