@@ -271,11 +271,14 @@ impl Follower {
     }
 
     fn take(&mut self, bytes: &[u8], answer: Answer) -> Result<(), Violation> {
-        // Refused on reading: begins nothing and takes no step.
-        if matches!(answer, Answer::No(refusal) if !refusal.at_step()) {
+        let record = Record::decode(bytes);
+        // Refused on reading: begins nothing and takes no step. A worker's step is not, while it has
+        // an operation.
+        let on_reading = matches!(answer, Answer::No(refusal) if !refusal.at_step());
+        if on_reading && !matches!(record, Ok(Record::Step { worker }) if self.busy(worker)) {
             return Ok(());
         }
-        let Ok(record) = Record::decode(bytes) else {
+        let Ok(record) = record else {
             return self.unfit("a malformed record is not refused");
         };
         let (worker, action) = match record {
@@ -291,6 +294,10 @@ impl Follower {
             Record::Collect { worker } => (worker, Action::Collect),
         };
         self.begin(worker, action, answer)
+    }
+
+    fn busy(&self, worker: u8) -> bool {
+        self.workers.get(usize::from(worker)).is_some_and(|worker| worker.operation.is_some())
     }
 
     fn set_up(

@@ -95,10 +95,6 @@ fn a_put_refused_with_16_is_left_out() {
     let script = "setup 1 1 3 1\n put 0 0 7\n step 0 x3";
     let violation = refused_at(2, Claim::Fit, script, &[(1, "no 16")]);
     assert!(violation.sentence.contains("has no operation"), "{violation}");
-    // Nor is 16 the end of a put that has begun.
-    let script = "setup 1 1 3 1\n put 0 0 7\n step 0\n get 0 0";
-    let violation = refused_at(3, Claim::Fit, script, &[(2, "no 16"), (3, "ok")]);
-    assert!(violation.sentence.contains("is busy"), "{violation}");
 }
 
 /// The log of a hub from before A1 is held to the same order.
@@ -182,6 +178,12 @@ fn each_step_has_its_answers() {
                     assert_eq!((found.record, found.claim), (record, Claim::Fit), "{words}");
                 }
             }
+        }
+        // A worker that has an operation takes its step: nothing on reading is left to refuse it.
+        for number in (1..17).filter(|number| !(14..16).contains(number) && !before.is_empty()) {
+            let violation =
+                refused_at(record, Claim::Fit, &script, &[(record, &format!("no {number}"))]);
+            assert!(violation.sentence.contains("cannot answer `no "), "{violation}");
         }
     }
 }

@@ -166,9 +166,12 @@ fn random_scripts_for_near_misses_with_values_from_before_a1() {
     let (differing, claims) = over::<ReadHides>();
     assert_eq!(claims, vec![Claim::Value; differing]);
     let (differing, claims) = over::<ValueAtStep>();
-    assert_eq!(claims, vec![Claim::Fit; differing], "a put without an end");
+    assert_eq!(claims, vec![Claim::Fit; differing], "a step answered 16");
     let (_, claims) = over::<LargeKept>();
     assert_eq!(claims, [], "keeps too much, frees nothing needed");
     let (_, claims) = over::<LargeNotSetUp>();
-    assert!(claims.len() > 30 && claims.iter().all(|&claim| claim == Claim::Fit), "a second setup");
+    assert!(
+        claims.len() > 30 && claims.iter().all(|&claim| claim == Claim::Fit),
+        "a step answered 8"
+    );
 }
