@@ -62,4 +62,4 @@ module _ {M : Type 1} (𝓤 : URA M) (H : Heap 𝓤) (A : Atoms 𝓤) (W : Given
 pub hub-sizes : (h : Hub) → Is B.the-row h (hub-vals h) → (length (h .workers) ≡ 16) × (length (h .times) ≡ 256)
 hub-sizes h is =
     let o = LL.owed B.the-type B′.the-laws h _ is .1 .1 .1 .1 .1 .1 in
-    (sym (length-map (h .workers) _) ∙ o .1 .0 .1 .0 .1, o .0 .1 .0)
+    (sym (length-map (h .workers) _) ∙ o .1 .0 .1 .0 .1, sym (length-map (h .times) _) ∙ o .0 .1 .0 .1)
