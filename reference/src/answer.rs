@@ -6,7 +6,7 @@ use std::fmt;
 #[derive(Clone, Copy, Debug, PartialEq, Eq, PartialOrd, Ord, Hash)]
 #[repr(u8)]
 pub enum Refusal {
-    /// 1: operation above 7.
+    /// 1: operation above 8.
     Operation = 1,
     /// 2: an unused byte is not zero.
     UnusedByte = 2,
@@ -30,7 +30,7 @@ pub enum Refusal {
     Idle = 11,
     /// 12: open with a time announced.
     Announced = 12,
-    /// 13: read or close with none announced.
+    /// 13: read, close or total with none announced.
     NotAnnounced = 13,
     /// 14: put's first step, every slot in some register's list.
     NoFreeSlot = 14,
@@ -38,11 +38,15 @@ pub enum Refusal {
     LastClock = 15,
     /// 16: put value too large (A1).
     Value = 16,
+    /// 17: total of a group with no rows (A2).
+    Group = 17,
+    /// 18: total's step, the value to be summed is above A1's limit (A2).
+    Summand = 18,
 }
 
 impl Refusal {
     /// All refusals, in the order of their numbers.
-    pub const ALL: [Refusal; 16] = [
+    pub const ALL: [Refusal; 18] = [
         Refusal::Operation,
         Refusal::UnusedByte,
         Refusal::Worker,
@@ -59,6 +63,8 @@ impl Refusal {
         Refusal::NoFreeSlot,
         Refusal::LastClock,
         Refusal::Value,
+        Refusal::Group,
+        Refusal::Summand,
     ];
 
     /// The refusal's number.
@@ -73,9 +79,9 @@ impl Refusal {
         Refusal::ALL.get(index).copied()
     }
 
-    /// Is this met by a step that is taken (14 and 15), and not on reading a record?
+    /// Is this met by a step that is taken (14, 15 and 18), and not on reading a record?
     pub const fn at_step(self) -> bool {
-        matches!(self, Refusal::NoFreeSlot | Refusal::LastClock)
+        matches!(self, Refusal::NoFreeSlot | Refusal::LastClock | Refusal::Summand)
     }
 }
 
@@ -90,12 +96,34 @@ pub enum Answer {
     Freed(u16),
     /// An open's answer: its time.
     At(u32),
-    /// A get's or read's answer.
+    /// A get's or read's answer, and a total's that is not below 0.
     Value(u64),
+    /// A total's answer below 0: how far below.
+    Minus(u64),
     /// The end of a put, close or collect.
     Done,
     /// Refused.
     No(Refusal),
+}
+
+impl Answer {
+    /// A total's answer.
+    #[inline]
+    pub const fn total(sum: i64) -> Answer {
+        match sum {
+            0.. => Answer::Value(sum as u64),
+            _ => Answer::Minus(sum.unsigned_abs()),
+        }
+    }
+
+    /// The number that a get, read or total shows.
+    pub fn shown(self) -> Option<i128> {
+        match self {
+            Answer::Value(value) => Some(i128::from(value)),
+            Answer::Minus(below) => Some(-i128::from(below)),
+            _ => None,
+        }
+    }
 }
 
 /// The words of the log.
@@ -107,6 +135,7 @@ impl fmt::Display for Answer {
             Answer::Freed(slot) => write!(f, "freed {slot}"),
             Answer::At(time) => write!(f, "at {time}"),
             Answer::Value(value) => write!(f, "value {value}"),
+            Answer::Minus(below) => write!(f, "value -{below}"),
             Answer::Done => write!(f, "done"),
             Answer::No(refusal) => write!(f, "no {}", refusal.number()),
         }

@@ -78,6 +78,9 @@ impl Census {
                 | Doing::PutStamp { register, .. }
                 | Doing::ReadStart { register }
                 | Doing::Get { register } => self.look_at_register(store, register),
+                Doing::TotalStart { place, .. } => {
+                    self.look_at_register(store, store.groups.row(place).register);
+                }
                 Doing::OpenAnnounce | Doing::Close => self.look_at_times(store),
                 _ => {}
             }

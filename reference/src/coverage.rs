@@ -1,6 +1,7 @@
-//! Which answers, refusals, branches of the steps and sizes of hubs a run reached.
+//! Which answers, refusals, branches of the steps, sizes of hubs and lists a run reached.
 
 use crate::answer::{Answer, Refusal};
+use crate::list::Groups;
 use crate::store::Store;
 use std::fmt;
 
@@ -23,7 +24,8 @@ impl Observer for () {
 
 macro_rules! branches {
     ($($name:ident $text:literal)*) => {
-        /// A branch of the steps, or of the tests that a put above A1's limit meets.
+        /// A branch of the steps, or of the tests that a put above A1's limit, a total or a list
+        /// meets.
         #[derive(Clone, Copy, Debug, PartialEq, Eq)]
         #[repr(usize)]
         pub enum Branch { $(#[doc = $text] $name,)* }
@@ -91,6 +93,38 @@ branches! {
     LargeNoRegister "a put above the limit gets 4"
     LargeNoWorker "a put above the limit gets 3"
     LargeNotSetUp "a put above the limit gets 8"
+    TotalStamps "total (1) stamps"
+    TotalStampedAlready "total (1) has nothing to stamp"
+    TotalFoundAtOnce "total (2) finds its value in the version total (1) stood on"
+    TotalFound "total (2) finds its value after moving"
+    TotalMoves "total (2) moves to the older version"
+    TotalAbove0 "a total answers a sum above 0"
+    Total0 "a total answers 0"
+    TotalBelow0 "a total answers a sum below 0"
+    LargeEarlier "a total meets a value above the limit before its last row"
+    LargeLast "a total meets a value above the limit at its last row"
+    FreeMovesOneTotal "flush (4) moves one total"
+    FreeMovesMoreTotals "flush (4) moves several totals at once"
+    TotalOneRow "a total of one row begins"
+    TotalRows "a total of 2 to 31 rows begins"
+    TotalAllRows "a total of 32 rows begins"
+    TotalTwice "a total begins whose group has a register twice"
+    TotalBusy "a total gets 10"
+    TotalNoSnapshot "a total gets 13"
+    TotalNotSetUp "a total gets 8"
+    NoRowsSnapshot "a total of no rows gets 17 under a snapshot"
+    NoRowsNoSnapshot "a total of no rows gets 17 without a snapshot"
+    NoRowsBusy "a total of no rows gets 17 on a busy worker"
+    NoRowsAbove31 "a total of a group above 31 gets 17"
+    NoRowsNoWorker "a total of no rows gets 3"
+    ListPart "a setup gets 5 for a part of a row"
+    ListSign "a setup gets 5 for a sign"
+    ListGroup "a setup gets 5 for a group above 31"
+    ListRegister "a setup gets 5 for a row's register"
+    ListFalling "a setup gets 5 for a group below the one before"
+    ListMany "a setup gets 5 for a row after 32 of its group"
+    ListLong "a setup gets 5 for a list of more than 4096 bytes"
+    ListAgain "a second setup with an unfit list gets 9"
 }
 
 impl Branch {
@@ -103,6 +137,47 @@ impl Branch {
         Branch::LargeNoRegister,
         Branch::LargeNoWorker,
         Branch::LargeNotSetUp,
+    ];
+
+    /// Those of a total, but for 18.
+    pub const OF_TOTAL: [Branch; 22] = [
+        Branch::TotalStamps,
+        Branch::TotalStampedAlready,
+        Branch::TotalFoundAtOnce,
+        Branch::TotalFound,
+        Branch::TotalMoves,
+        Branch::TotalAbove0,
+        Branch::Total0,
+        Branch::TotalBelow0,
+        Branch::FreeMovesOneTotal,
+        Branch::FreeMovesMoreTotals,
+        Branch::TotalOneRow,
+        Branch::TotalRows,
+        Branch::TotalAllRows,
+        Branch::TotalTwice,
+        Branch::TotalBusy,
+        Branch::TotalNoSnapshot,
+        Branch::TotalNotSetUp,
+        Branch::NoRowsSnapshot,
+        Branch::NoRowsNoSnapshot,
+        Branch::NoRowsBusy,
+        Branch::NoRowsAbove31,
+        Branch::NoRowsNoWorker,
+    ];
+
+    /// 18, which only a value from before A1 meets.
+    pub const OF_SUMMAND: [Branch; 2] = [Branch::LargeEarlier, Branch::LargeLast];
+
+    /// Those of a setup whose list is none.
+    pub const OF_LIST: [Branch; 8] = [
+        Branch::ListPart,
+        Branch::ListSign,
+        Branch::ListGroup,
+        Branch::ListRegister,
+        Branch::ListFalling,
+        Branch::ListMany,
+        Branch::ListLong,
+        Branch::ListAgain,
     ];
 }
 
@@ -127,26 +202,42 @@ const SIZES: [Sizes; 13] = [
     ("P below 16 with N from 1024 on", |p, _, n| p < 16 && n >= 1024),
 ];
 
+/// Lists that were accepted: what they are called, and which are meant.
+type Lists = (&'static str, fn(&Groups) -> bool);
+
+const LISTS: [Lists; 7] = [
+    ("no list", |groups| groups.all().is_empty()),
+    ("a list", |groups| !groups.all().is_empty()),
+    ("a list of one row", |groups| groups.all().len() == 1),
+    ("rows of group 0", |groups| !groups.rows(0).is_empty()),
+    ("rows of group 31", |groups| !groups.rows(31).is_empty()),
+    ("rows of all groups", |groups| (0..32).all(|group| !groups.rows(group).is_empty())),
+    ("the longest list", |groups| groups.all().len() == 1024),
+];
+
 /// Counts of everything a run reached.
 #[derive(Clone, Debug)]
 pub struct Coverage {
-    /// By kind: ok, going, freed, at, value, done.
-    pub answers: [u64; 6],
+    /// By kind: ok, going, freed, at, value, done, value below 0.
+    pub answers: [u64; 7],
     /// By refusal number; index 0 stays 0.
     pub refusals: [u64; Refusal::ALL.len() + 1],
     /// By branch.
     pub branches: [u64; Branch::ALL.len()],
     /// By sizes, as in `SIZES`: setups that were accepted.
     pub sizes: [u64; SIZES.len()],
+    /// By lists, as in `LISTS`: setups that were accepted.
+    pub lists: [u64; LISTS.len()],
 }
 
 impl Default for Coverage {
     fn default() -> Self {
         Coverage {
-            answers: [0; 6],
+            answers: [0; 7],
             refusals: [0; Refusal::ALL.len() + 1],
             branches: [0; Branch::ALL.len()],
             sizes: [0; SIZES.len()],
+            lists: [0; LISTS.len()],
         }
     }
 }
@@ -161,11 +252,15 @@ impl Observer for Coverage {
         for (count, (_, meant)) in self.sizes.iter_mut().zip(SIZES) {
             *count += u64::from(meant(p, v, n));
         }
+        for (count, (_, meant)) in self.lists.iter_mut().zip(LISTS) {
+            *count += u64::from(meant(&store.groups));
+        }
     }
 }
 
 impl Coverage {
-    const ANSWERS: [&'static str; 6] = ["ok", "going", "freed", "at", "value", "done"];
+    const ANSWERS: [&'static str; 7] =
+        ["ok", "going", "freed", "at", "value", "done", "value below 0"];
 
     /// Counts an answer.
     pub fn answered(&mut self, answer: Answer) {
@@ -176,6 +271,7 @@ impl Coverage {
             Answer::At(_) => 3,
             Answer::Value(_) => 4,
             Answer::Done => 5,
+            Answer::Minus(_) => 6,
             Answer::No(refusal) => {
                 self.refusals[usize::from(refusal.number())] += 1;
                 return;
@@ -193,6 +289,7 @@ impl Coverage {
         each(&mut self.refusals, &other.refusals);
         each(&mut self.branches, &other.branches);
         each(&mut self.sizes, &other.sizes);
+        each(&mut self.lists, &other.lists);
     }
 
     /// Every count with its name. Refusal 7 is the row writer's and has no part in a log.
@@ -207,7 +304,8 @@ impl Coverage {
         let branches = Branch::ALL.iter().zip(self.branches);
         let branches = branches.map(|((_, text), n)| (text.to_string(), n));
         let sizes = SIZES.iter().zip(self.sizes).map(|((name, _), n)| (name.to_string(), n));
-        answers.chain(refusals).chain(branches).chain(sizes).collect()
+        let lists = LISTS.iter().zip(self.lists).map(|((name, _), n)| (name.to_string(), n));
+        answers.chain(refusals).chain(branches).chain(sizes).chain(lists).collect()
     }
 
     /// What was never reached.

@@ -8,20 +8,22 @@ use crate::answer::Answer;
 use crate::fault::Fault;
 use crate::hub::Hub;
 use crate::invariant::{self, Ghost};
+use crate::list::Groups;
 use crate::pool::Range;
 use crate::record::Record;
 use crate::store::{Doing, Store};
 use std::collections::HashSet;
 use std::hash::{BuildHasherDefault, Hasher};
 
-/// The hub to explore: its setup and the values of puts. In each state every record is taken with each
-/// of `max_values` as the largest value that a put may bring.
+/// The hub to explore: its setup with a list, and the values of puts. In each state every record is taken
+/// with each of `max_values` as the largest value that a put may bring.
 #[derive(Clone, Copy, Debug)]
 pub struct Size {
     pub workers: u8,
     pub registers: u16,
     pub slots: u16,
     pub clock: u32,
+    pub list: &'static [u8],
     pub values: &'static [u64],
     pub max_values: &'static [u64],
 }
@@ -39,11 +41,11 @@ pub fn explore<F: Fault + Clone>(size: Size, invariants: bool) -> Result<Explore
     let mut hub = Hub::<F>::with_row(usize::from(size.slots));
     let Size { workers, registers, slots, clock, .. } = size;
     let setup = Record::Setup { workers, registers, slots, clock };
-    if hub.take_record(setup) != Answer::Ok {
+    if hub.take_record(setup, size.list) != Answer::Ok {
         return Err(format!("{setup:?} is refused"));
     }
     let ghost = Ghost::start(store(&hub));
-    let alphabet = alphabet(size);
+    let alphabet = alphabet(size, &store(&hub).groups);
     let coder = Coder::new::<F>(size);
     let mut seen: HashSet<Box<[u8]>, BuildHasherDefault<Mix>> = HashSet::default();
     let mut code = Vec::new();
@@ -52,7 +54,7 @@ pub fn explore<F: Fault + Clone>(size: Size, invariants: bool) -> Result<Explore
     seen.insert(code.as_slice().into());
     let mut open = vec![(hub, ghost)];
     let mut explored = Explored { states: 1, records: 0 };
-    while let Some((hub, ghost)) = open.pop() {
+    while let Some((hub, mut ghost)) = open.pop() {
         coder.encode(store(&hub), &ghost, &mut code);
         let mut next = hub.clone();
         for &(record, max_value) in &alphabet {
@@ -60,12 +62,17 @@ pub fn explore<F: Fault + Clone>(size: Size, invariants: bool) -> Result<Explore
                 format!("{reason}\nat {record:?}, values to {max_value}, in {:?}", store(&hub))
             };
             next.max_value = max_value;
-            let answer = next.take_record(record);
+            let answer = next.take_record(record, &[]);
             explored.records += 1;
-            let mut next_ghost = ghost.clone();
+            // Only a step changes the plain registers.
+            let mut stepped = None;
+            let next_ghost = match record {
+                Record::Step { .. } => stepped.insert(ghost.clone()),
+                _ => &mut ghost,
+            };
             let (before, after) = (store(&hub), store(&next));
             next_ghost.follow(before, record, max_value, answer, after).map_err(failed)?;
-            coder.encode(store(&next), &next_ghost, &mut next_code);
+            coder.encode(store(&next), next_ghost, &mut next_code);
             if matches!(answer, Answer::No(refusal) if !refusal.at_step()) {
                 if code != next_code {
                     return Err(failed("a refused record changes the store".to_string()));
@@ -80,7 +87,7 @@ pub fn explore<F: Fault + Clone>(size: Size, invariants: bool) -> Result<Explore
                 }
                 seen.insert(next_code.as_slice().into());
                 explored.states += 1;
-                open.push((next, next_ghost));
+                open.push((next, next_ghost.clone()));
             }
             next = hub.clone();
         }
@@ -92,14 +99,18 @@ fn store<F: Fault>(hub: &Hub<F>) -> &Store {
     hub.store().expect("set up")
 }
 
-/// Every record whose fields fit, with the values of the alphabet and each largest value.
-fn alphabet(size: Size) -> Vec<(Record, u64)> {
+/// Every record whose fields fit, with the values of the alphabet and each largest value. With a list,
+/// also totals of a group that has no rows.
+fn alphabet(size: Size, groups: &Groups) -> Vec<(Record, u64)> {
+    let last = groups.all().last().map(|row| u16::from(row.group));
     let mut records = Vec::new();
     for worker in 0..size.workers {
         records.push(Record::Step { worker });
         records.push(Record::Open { worker });
         records.push(Record::Close { worker });
         records.push(Record::Collect { worker });
+        let groups = last.map_or(0..0, |last| 0..last + 2);
+        records.extend(groups.map(|group| Record::Total { worker, group }));
         for register in 0..size.registers {
             records.push(Record::Read { worker, register });
             records.push(Record::Get { worker, register });
@@ -131,7 +142,7 @@ impl Coder {
         Coder {
             base: size.clock,
             values: size.values,
-            freed_slots: F::LEAVE_READ,
+            freed_slots: F::LEAVE_READ || F::LEAVE_TOTAL,
             own_versions: F::COVERING_LOW,
             times_first: F::TIMES_FIRST,
         }
@@ -229,6 +240,14 @@ impl Coder {
             Doing::ReadAt { slot, .. } => code.extend([11, slot as u8]),
             Doing::Get { register } => code.extend([12, register as u8]),
             Doing::Close => code.push(13),
+            Doing::TotalStart { place, sum } => {
+                code.extend([14, place.row as u8]);
+                code.extend(sum.to_le_bytes());
+            }
+            Doing::TotalAt { slot, place, sum, .. } => {
+                code.extend([15, slot as u8, place.row as u8]);
+                code.extend(sum.to_le_bytes());
+            }
         }
     }
 }

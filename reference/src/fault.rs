@@ -4,7 +4,7 @@
 //! The right hub has every constant false, so that the variants cost it nothing.
 
 use crate::answer::Answer;
-use crate::store::Doing;
+use crate::store::{Doing, MAX_VALUE};
 
 macro_rules! faults {
     ($($(#[$text:meta])+ $name:ident $constant:ident)*) => {
@@ -67,6 +67,37 @@ faults! {
     LargeKept LARGE_KEPT
     /// A1: takes memory with a larger value in a slot for not set up.
     LargeNotSetUp LARGE_NOT_SET_UP
+
+    /// A2: the sum without the last row.
+    SumWithoutLast SUM_WITHOUT_LAST
+    /// A2: adds what is to be subtracted, and the other way round.
+    SignsExchanged SIGNS_EXCHANGED
+    /// A2: takes each register's newest value, whatever the worker's time.
+    TotalNewest TOTAL_NEWEST
+    /// A2: counts a register once that stands in the group twice.
+    TwiceOnce TWICE_ONCE
+    /// A2: reads the rows of the next group too.
+    NextGroupToo NEXT_GROUP_TOO
+    /// A2: leaves a total on an unlinked version.
+    LeaveTotal LEAVE_TOTAL
+    /// A2: tests 18 when a total begins too, on the newest values.
+    LargeAtBegin LARGE_AT_BEGIN
+    /// A2: gives 18 for the limit itself.
+    LimitNotSummed LIMIT_NOT_SUMMED
+    /// A2: takes the group from byte 2 alone.
+    GroupByte GROUP_BYTE
+    /// A2: tests 17 after 10.
+    GroupAfterBusy GROUP_AFTER_BUSY
+    /// A2: tests 17 after 10 and 13.
+    GroupAfterSnapshot GROUP_AFTER_SNAPSHOT
+    /// A2: accepts a row of a group below the one before.
+    FallingGroup FALLING_GROUP
+    /// A2: accepts 33 rows of a group.
+    Row33 ROW_33
+    /// A2: accepts a row of register V, and takes the one before for it.
+    RegisterV REGISTER_V
+    /// A2: accepts a row of sign 2, for a minus.
+    SignTwo SIGN_TWO
 }
 
 /// The largest value that a put may bring, or what a fault takes for it.
@@ -78,6 +109,16 @@ pub(crate) fn largest<F: Fault>(max_value: u64) -> u64 {
         max_value.saturating_add(1)
     } else {
         max_value
+    }
+}
+
+/// The largest value that a total sums, or what a fault takes for it.
+#[inline(always)]
+pub(crate) fn largest_summed<F: Fault>() -> u64 {
+    if F::LIMIT_NOT_SUMMED {
+        MAX_VALUE - 1
+    } else {
+        MAX_VALUE
     }
 }
 

@@ -133,34 +133,41 @@ impl Store {
         (Doing::FlushFree { next: next + 1 }, Answer::Freed(slot))
     }
 
-    /// Unlinks a covered version; reads standing on it move to its older neighbour.
+    /// Unlinks a covered version; reads and totals standing on it move to its older neighbour.
     fn unlink<F: Fault, O: Observer>(&mut self, slot: u16, seen: &mut O) {
         let Slot { older, newer, .. } = self.slots[usize::from(slot)];
         if let Some(newer) = newer {
             self.slots[usize::from(newer)].older = older;
         }
         seen.branch(if older.is_some() { Branch::FreeMiddle } else { Branch::FreeOldest });
-        let mut moved = 0;
+        let (mut reads, mut totals) = (0, 0);
         if let Some(older) = older {
             self.slots[usize::from(older)].newer = newer;
-            if !F::LEAVE_READ {
-                for worker in &mut self.workers {
-                    match &mut worker.doing {
-                        Doing::ReadAt { slot: at, first } if *at == slot => {
-                            (*at, *first) = (older, false);
-                            moved += 1;
-                        }
-                        _ => {}
+            for worker in &mut self.workers {
+                match &mut worker.doing {
+                    Doing::ReadAt { slot: at, first } if *at == slot && !F::LEAVE_READ => {
+                        (*at, *first) = (older, false);
+                        reads += 1;
                     }
+                    Doing::TotalAt { slot: at, first, .. } if *at == slot && !F::LEAVE_TOTAL => {
+                        (*at, *first) = (older, false);
+                        totals += 1;
+                    }
+                    _ => {}
                 }
             }
         }
-        seen.branch(match moved {
+        seen.branch(match reads {
             0 => Branch::FreeMovesNoRead,
             1 => Branch::FreeMovesOneRead,
             _ => Branch::FreeMovesMoreReads,
         });
-        if !F::LEAVE_READ {
+        match totals {
+            0 => {}
+            1 => seen.branch(Branch::FreeMovesOneTotal),
+            _ => seen.branch(Branch::FreeMovesMoreTotals),
+        }
+        if !F::LEAVE_READ && !F::LEAVE_TOTAL {
             let freed = &mut self.slots[usize::from(slot)];
             (freed.older, freed.newer) = (None, None);
         }

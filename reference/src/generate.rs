@@ -1,7 +1,12 @@
-//! Seeded random scripts. A kind says what a script has much of; the hub runs alongside, so that
-//! most records are accepted and the rest are refused on purpose.
+//! Seeded random scripts with their lists. A kind says what a script has much of; the hub runs
+//! alongside, so that most records are accepted and the rest are refused on purpose.
 
+use crate::answer::Answer;
+use crate::fault::Right;
 use crate::hub::Hub;
+use crate::list::{Groups, GROUPS};
+use crate::lists::Habit;
+use crate::log;
 use crate::record::{Record, LAST_OPERATION, LENGTH};
 use crate::store::{Doing, Store, LAST_CLOCK, MAX_REGISTERS, MAX_SLOTS, MAX_VALUE, MAX_WORKERS};
 
@@ -92,10 +97,14 @@ pub enum Kind {
     Full,
     /// Puts above the limit, often with another reason to be refused.
     Values,
+    /// Totals of short lists, while versions are freed under them.
+    Totals,
+    /// Lists of all sizes, half of them unfit.
+    Lists,
 }
 
 impl Kind {
-    pub const ALL: [(Kind, &'static str); 16] = [
+    pub const ALL: [(Kind, &'static str); 18] = [
         (Kind::Uniform, "uniform"),
         (Kind::Mixed, "mixed"),
         (Kind::Slots, "slots"),
@@ -112,6 +121,8 @@ impl Kind {
         (Kind::Sizes, "sizes"),
         (Kind::Full, "full"),
         (Kind::Values, "values"),
+        (Kind::Totals, "totals"),
+        (Kind::Lists, "lists"),
     ];
 
     /// The kind with this name.
@@ -140,7 +151,10 @@ struct Profile {
     /// Slots beyond one for each register.
     spare: (u64, u64),
     clock: (u64, u64),
+    list: Habit,
     weights: Weights,
+    /// The weight of a total beside them.
+    total: u64,
     /// Most steps that a worker takes in a row.
     burst: u64,
     /// Refused on purpose.
@@ -162,7 +176,9 @@ const MIXED: Profile = Profile {
     registers: (1, 8),
     spare: (0, 60),
     clock: (1, 1000),
+    list: Habit { missing: 250, unfit: 20, groups: (1, 4), rows: (1, 5) },
     weights: Weights { put: 40, open: 12, read: 20, close: 8, get: 10, collect: 6 },
+    total: 8,
     burst: 6,
     invalid: 20,
     setup: 5,
@@ -223,6 +239,7 @@ impl Profile {
                 registers: (256, 256),
                 spare: (2048 - 256, 2048 - 256),
                 weights: Weights { put: 60, open: 10, read: 20, close: 8, get: 6, collect: 2 },
+                list: Habit { groups: (1, 32), rows: (1, 32), ..MIXED.list },
                 invalid: 5,
                 burst: 12,
                 ..MIXED
@@ -267,25 +284,70 @@ impl Profile {
                 large: 800,
                 ..MIXED
             },
+            Kind::Totals => Profile {
+                workers: (2, 5),
+                registers: (1, 4),
+                spare: (4, 24),
+                list: Habit { missing: 20, unfit: 10, groups: (1, 3), rows: (1, 6) },
+                weights: Weights { put: 40, open: 14, read: 4, close: 5, get: 2, collect: 20 },
+                total: 40,
+                invalid: 60,
+                burst: 10,
+                stall_read: 200,
+                stillness: 80,
+                ..MIXED
+            },
+            Kind::Lists => Profile {
+                workers: (1, 4),
+                registers: (1, most_registers),
+                list: Habit { missing: 50, unfit: 500, groups: (1, 32), rows: (1, 32) },
+                total: 60,
+                invalid: 60,
+                setup: 150,
+                burst: 40,
+                ..MIXED
+            },
         }
     }
 }
 
+/// The records of a script, and the list that is lent with each of them; empty where it is missing.
+#[derive(Clone, Debug, PartialEq, Eq)]
+pub struct Script {
+    pub records: Vec<u8>,
+    pub list: Vec<u8>,
+}
+
+impl Script {
+    /// These records without a list.
+    pub fn plain(records: Vec<u8>) -> Script {
+        Script { records, list: Vec::new() }
+    }
+
+    /// The hub's answers.
+    pub fn answers(&self) -> Vec<Answer> {
+        log::answers(&mut Hub::new(), &self.records, &self.list)
+    }
+}
+
 /// A script of `count` records, the last one maybe short.
-pub fn script(kind: Kind, seed: u64, count: usize) -> Vec<u8> {
+pub fn script(kind: Kind, seed: u64, count: usize) -> Script {
     script_across(kind, seed, count, 0)
 }
 
 /// The same with its first `before` records from before A1: a hub that takes them with the largest
 /// `max_value` and the others with A1's accepts most of both.
-pub fn script_across(kind: Kind, seed: u64, count: usize, before: usize) -> Vec<u8> {
+pub fn script_across(kind: Kind, seed: u64, count: usize, before: usize) -> Script {
     let mut random = Random::new(seed ^ (kind as u64) << 56);
     let mut file = Vec::with_capacity(count * LENGTH);
-    if kind == Kind::Uniform {
+    let list = if kind == Kind::Uniform {
         file.extend((0..count * LENGTH).map(|_| random.bits() as u8));
+        (0..random.below(40)).map(|_| random.bits() as u8).collect()
     } else {
-        Writer::new(kind, &mut random).write(&mut file, count, before, &mut random);
-    }
+        let mut writer = Writer::new(kind, &mut random);
+        writer.write(&mut file, count, before, &mut random);
+        writer.list
+    };
     let tail = match kind {
         Kind::Tails => true,
         Kind::Uniform => random.chance(500),
@@ -294,7 +356,7 @@ pub fn script_across(kind: Kind, seed: u64, count: usize, before: usize) -> Vec<
     if tail && !file.is_empty() {
         file.truncate(file.len() - random.between(1, LENGTH as u64 - 1) as usize);
     }
-    file
+    Script { records: file, list }
 }
 
 /// Writes one script, with the hub beside it.
@@ -304,6 +366,9 @@ struct Writer {
     workers: u64,
     registers: u64,
     setup: Record,
+    list: Vec<u8>,
+    /// The groups that have rows.
+    groups: Vec<u16>,
     /// For each worker, up to which record it is still.
     still: [usize; MAX_WORKERS],
 }
@@ -315,6 +380,8 @@ impl Writer {
         let (workers, registers) = (from(profile.workers), from(profile.registers));
         let slots = registers + from(profile.spare);
         let clock = from(profile.clock);
+        let list = profile.list.list(registers as u16, random);
+        let rows = Groups::read::<Right>(&list, registers as u16).unwrap_or_default();
         Writer {
             profile,
             hub: Hub::new(),
@@ -326,6 +393,8 @@ impl Writer {
                 slots: slots as u16,
                 clock: clock as u32,
             },
+            list,
+            groups: (0..GROUPS as u16).filter(|&group| !rows.rows(group).is_empty()).collect(),
             still: [0; MAX_WORKERS],
         }
     }
@@ -334,7 +403,9 @@ impl Writer {
         let mut burst: Option<(u8, u64)> = None;
         for place in 0..count {
             self.hub.max_value = if place < before { u64::MAX } else { MAX_VALUE };
-            let bytes = if self.hub.store().is_none() && random.chance(700) {
+            // A list that is none never lets a setup pass.
+            let setup = if place < 20 { 700 } else { 50 };
+            let bytes = if self.hub.store().is_none() && random.chance(setup) {
                 self.setup.encode()
             } else if self.hub.store().is_none() || random.chance(self.profile.invalid) {
                 self.refused(random)
@@ -352,8 +423,9 @@ impl Writer {
                 };
                 self.accepted(worker, random).encode()
             };
-            self.hub.take(&bytes);
-            if bytes[0] == LAST_OPERATION && self.falls_still(bytes[1], place, random) {
+            self.hub.take(&bytes, &self.list);
+            let step = matches!(Record::decode(&bytes), Ok(Record::Step { .. }));
+            if step && self.falls_still(bytes[1], place, random) {
                 burst = None;
             }
             file.extend_from_slice(&bytes);
@@ -382,7 +454,7 @@ impl Writer {
         let Some(record) = store.workers.get(usize::from(worker)) else { return false };
         let rate = match record.doing {
             Doing::Idle => return false,
-            Doing::ReadAt { .. } => self.profile.stall_read,
+            Doing::ReadAt { .. } | Doing::TotalAt { .. } => self.profile.stall_read,
             _ => self.profile.stall,
         };
         let falls = random.chance(rate);
@@ -408,6 +480,7 @@ impl Writer {
             if snapshot { close } else { 0 },
             get,
             collect,
+            if snapshot && !self.groups.is_empty() { self.profile.total } else { 0 },
         ];
         let register = random.below(self.registers) as u16;
         match random.weighted(&weights) {
@@ -416,7 +489,18 @@ impl Writer {
             2 => Record::Read { worker, register },
             3 => Record::Close { worker },
             4 => Record::Get { worker, register },
-            _ => Record::Collect { worker },
+            5 => Record::Collect { worker },
+            _ => Record::Total { worker, group: random.pick(&self.groups) },
+        }
+    }
+
+    /// Any group: mostly one that has rows or may have some.
+    fn any_group(&self, random: &mut Random) -> u16 {
+        match random.below(8) {
+            0..3 if !self.groups.is_empty() => random.pick(&self.groups),
+            3 => random.pick(&[32, 33, 255, 256, 287, 65535]),
+            4 => random.below(GROUPS as u64) as u16 | 1 << random.between(5, 15),
+            _ => random.below(GROUPS as u64) as u16,
         }
     }
 
@@ -430,7 +514,7 @@ impl Writer {
         let record = if random.chance(self.profile.large) {
             Record::Put { worker, register, value: large(random) }
         } else {
-            match random.below(8) {
+            match random.below(9) {
                 0 => self.any_setup(random),
                 1 => Record::Put { worker, register, value: value(self.hub.max_value, random) },
                 2 => Record::Open { worker },
@@ -438,7 +522,8 @@ impl Writer {
                 4 => Record::Close { worker },
                 5 => Record::Get { worker, register },
                 6 => Record::Collect { worker },
-                _ => Record::Step { worker },
+                7 => Record::Step { worker },
+                _ => Record::Total { worker, group: self.any_group(random) },
             }
         };
         let mut bytes = record.encode();

@@ -2,9 +2,10 @@
 //! plain registers of demand 3. Exploration and random runs check it after each record.
 
 use crate::answer::{Answer, Refusal};
+use crate::list::Row;
 use crate::pool::Range;
 use crate::record::Record;
-use crate::store::{Doing, Slot, Store, LAST_CLOCK};
+use crate::store::{Doing, Slot, Store, LAST_CLOCK, MAX_VALUE};
 
 /// The plain registers and copies, kept up by watching the store before and after each record.
 #[derive(Clone, Debug, PartialEq, Eq)]
@@ -98,6 +99,22 @@ impl Ghost {
                 let shown = copy[usize::from(register)];
                 ensure!(value == shown, "a read: {value}, not {shown}");
             }
+            (Doing::TotalStart { .. }, answer) => {
+                ensure!(answer == Answer::Going, "a total's step (1): {answer:?}");
+            }
+            (Doing::TotalAt { slot: at, place, .. }, answer) => {
+                let Slot { value, low, .. } = *slot(before, at);
+                let found = low.is_some() && low <= before.workers[w].announced;
+                let expected = if !found || value <= MAX_VALUE && place.left > 0 {
+                    Answer::Going
+                } else if value > MAX_VALUE {
+                    Answer::No(Refusal::Summand)
+                } else {
+                    let group = before.groups.row(place).group;
+                    Answer::total(self.sum(w, before.groups.rows(u16::from(group)))?)
+                };
+                ensure!(answer == expected, "a total: {answer:?}, not {expected:?}");
+            }
             (Doing::FlushFree { .. }, Answer::Freed(freed)) => {
                 let version = slot(before, freed);
                 let times = before.workers.iter().filter_map(|worker| worker.announced);
@@ -109,6 +126,36 @@ impl Ghost {
             }
             _ => {}
         }
+        Ok(())
+    }
+
+    /// The sum of these rows over the worker's copy. The values of a total that has not met 18 are
+    /// within the limit.
+    fn sum(&self, w: usize, rows: &[Row]) -> Result<i64, String> {
+        let copy = self.copies[w].as_ref().ok_or("a total without a copy")?;
+        let signed = |row: &Row| {
+            let value = copy[usize::from(row.register)] as i64;
+            if row.minus {
+                -value
+            } else {
+                value
+            }
+        };
+        Ok(rows.iter().map(signed).sum())
+    }
+
+    /// The sum so far of a worker's total is that of the rows before its place, over the copy.
+    fn check_sum(&self, store: &Store, w: usize) -> Result<(), String> {
+        let (place, sum) = match store.workers[w].doing {
+            Doing::TotalStart { place, sum } | Doing::TotalAt { place, sum, .. } => (place, sum),
+            _ => return Ok(()),
+        };
+        let rows = store.groups.rows(u16::from(store.groups.row(place).group));
+        let taken = rows.len().checked_sub(usize::from(place.left) + 1);
+        let taken = taken.ok_or(format!("worker {w}: {} rows left", place.left))?;
+        ensure!(rows[taken] == store.groups.row(place), "worker {w}: a row of another place");
+        let expected = self.sum(w, &rows[..taken])?;
+        ensure!(sum == expected, "worker {w}: {sum} so far, not {expected}");
         Ok(())
     }
 
@@ -128,6 +175,7 @@ impl Ghost {
             );
         }
         for (w, worker) in store.workers.iter().enumerate() {
+            self.check_sum(store, w)?;
             let time = worker.announced.filter(|&time| time < store.clock);
             ensure!(time.is_some() == self.copies[w].is_some(), "worker {w}: copy without time");
             if let (Some(time), Some(copy)) = (time, &self.copies[w]) {
@@ -160,13 +208,19 @@ fn check_begin(
             (worker, false, false)
         }
         Record::Open { worker } => (worker, true, false),
-        Record::Read { worker, .. } | Record::Close { worker } => (worker, false, true),
+        Record::Read { worker, .. } | Record::Close { worker } | Record::Total { worker, .. } => {
+            (worker, false, true)
+        }
         Record::Setup { .. } | Record::Step { .. } => return Ok(()),
     };
     let state = &before.workers[usize::from(worker)];
     let too_large = matches!(record, Record::Put { value, .. } if value > max_value);
+    let no_rows =
+        matches!(record, Record::Total { group, .. } if before.groups.rows(group).is_empty());
     let expected = if too_large {
         Answer::No(Refusal::Value)
+    } else if no_rows {
+        Answer::No(Refusal::Group)
     } else if state.doing != Doing::Idle {
         Answer::No(Refusal::Busy)
     } else if open && state.announced.is_some() {
@@ -256,6 +310,7 @@ fn check_times(store: &Store) -> Result<(), String> {
             Doing::OpenAnnounce => worker.announced.is_none(),
             Doing::OpenPass | Doing::Close => worker.announced.is_some(),
             Doing::ReadStart { .. } | Doing::ReadAt { .. } => worker.announced.is_some(),
+            Doing::TotalStart { .. } | Doing::TotalAt { .. } => worker.announced.is_some(),
             _ => true,
         };
         ensure!(right, "worker {w}: its time does not fit {:?}", worker.doing);
@@ -346,7 +401,7 @@ fn check_worker(store: &Store, w: usize, home: &[Option<usize>]) -> Result<(), S
             let last = worker.local.last().map(|range| range.high);
             ensure!(version.high.is_none() || last <= version.high, "worker {w}: highs fall");
         }
-        Doing::ReadAt { slot: at, .. } => {
+        Doing::ReadAt { slot: at, .. } | Doing::TotalAt { slot: at, .. } => {
             let time = worker.announced.ok_or("a read without a time")?;
             ensure!(home[usize::from(at)].is_some(), "worker {w}: reads a free slot");
             let mut next = Some(at);
@@ -355,6 +410,11 @@ fn check_worker(store: &Store, w: usize, home: &[Option<usize>]) -> Result<(), S
             }
             let found = next.is_some_and(|index| holds(slot(store, index), time));
             ensure!(found, "worker {w}: the version at {time} is not below its read");
+            if let Doing::TotalAt { place, .. } = worker.doing {
+                let register = usize::from(store.groups.row(place).register);
+                let own = home[usize::from(at)] == Some(register);
+                ensure!(own, "worker {w}: its total stands on a version of another register");
+            }
         }
         _ => {}
     }

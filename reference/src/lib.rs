@@ -1,5 +1,5 @@
-//! An independent reading of document 01 and of the requests of document 02 that have landed (A1): the
-//! hub's snapshot store, its log, and the tools that check them.
+//! An independent reading of document 01 and of the requests of document 02 that have landed (A1 and
+//! A2): the hub's snapshot store, its log, and the tools that check them.
 //!
 //! Each module has one topic. `hub` answers records over the `store`; `steps` and `flush` are what
 //! its workers do. `order` is the checker of demand 3 and shares no code with them; `listing` and
@@ -14,7 +14,9 @@ mod flush;
 pub mod generate;
 pub mod hub;
 pub mod invariant;
+pub mod list;
 pub mod listing;
+pub mod lists;
 pub mod log;
 pub mod order;
 pub mod plot;

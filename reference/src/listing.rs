@@ -1,7 +1,9 @@
 //! The order of demand 3 as text: a line for each operation.
 
 use crate::answer::Refusal;
-use crate::order::{Operation, Order, Outcome, Violation};
+use crate::list::Row;
+use crate::order::{Action, Operation, Order, Outcome, Violation};
+use std::collections::BTreeSet;
 use std::fmt::{self, Display, Formatter};
 
 const MEANING: &str = "\
@@ -13,13 +15,26 @@ the log.
   effect                the record at which it takes its place, by its own worker's step or another's
   end                   the record of its last step, - where the records end before
   answer                what the log says at its end
-  plain registers show  what a get or a read finds in plain registers, which are fed the
-                        operations in this order
 ";
 
-const ACCEPTED: &str = "\
+/// Without totals, and with them.
+const SHOWN: [&str; 2] = [
+    "  plain registers show  what a get or a read finds in plain registers, which are fed the
+                        operations in this order
+",
+    "  plain registers show  what a get, a read or a total finds in plain registers, which are fed
+                        the operations in this order
+",
+];
+
+const ACCEPTED: [&str; 2] = [
+    "\
 Accepted: every finished get and read answered what plain registers show. No version was freed that
-an open snapshot needs, and none twice without its slot being taken in between.";
+an open snapshot needs, and none twice without its slot being taken in between.",
+    "\
+Accepted: every finished get, read and total answered what plain registers show. No version was
+freed that an open snapshot needs, and none twice without its slot being taken in between.",
+];
 
 /// An order with what breaks it, if anything does. `Display` writes the text.
 #[derive(Clone, Copy, Debug)]
@@ -36,8 +51,10 @@ impl<'a> Listing<'a> {
 
 impl Display for Listing<'_> {
     fn fmt(&self, f: &mut Formatter) -> fmt::Result {
-        let Order { operations, sequence, .. } = self.order;
-        writeln!(f, "{MEANING}")?;
+        let Order { operations, sequence, groups, .. } = self.order;
+        let totals: BTreeSet<u16> = operations.iter().filter_map(group_of).collect();
+        let any_total = usize::from(!totals.is_empty());
+        writeln!(f, "{MEANING}{}", SHOWN[any_total])?;
         let in_order = (1..).zip(sequence).map(|(place, &index)| placed(place, &operations[index]));
         write_columns(f, PLACED, "><>>>><<", in_order)?;
 
@@ -47,9 +64,15 @@ impl Display for Listing<'_> {
             write_columns(f, LEFT_OUT, "<>>><", others)?;
         }
 
+        if !totals.is_empty() {
+            writeln!(f, "\nTotals:\n")?;
+            let rows = totals.iter().map(|&group| summed(group, groups.rows(group)));
+            write_columns(f, SUMMED, "><", rows)?;
+        }
+
         writeln!(f, "\n{}", self.order)?;
         match self.violation {
-            None => writeln!(f, "{ACCEPTED}"),
+            None => writeln!(f, "{}", ACCEPTED[any_total]),
             // Following stops at a slot that must not be freed.
             Some(violation) if violation.record == self.order.records => {
                 writeln!(f, "Not accepted, and followed no further: {violation}")
@@ -84,6 +107,9 @@ fn left_out(operation: &Operation) -> [String; 5] {
         Outcome::Refused { refusal: Refusal::NoFreeSlot, .. } => {
             "refused with 14: every slot is in some register's list"
         }
+        Outcome::Refused { refusal: Refusal::Summand, .. } => {
+            "refused with 18: a value to be summed is above 999999999999"
+        }
         Outcome::Refused { .. } => "refused with 15: the clock is at its last value",
         Outcome::Unfinished => "unfinished and without effect: counts as not begun",
         Outcome::Finished { .. } => "finished without effect",
@@ -95,6 +121,31 @@ fn left_out(operation: &Operation) -> [String; 5] {
         or_dash(operation.end()),
         why.to_string(),
     ]
+}
+
+/// The group of a total.
+fn group_of(operation: &Operation) -> Option<u16> {
+    match operation.action {
+        Action::Total { group } => Some(group),
+        _ => None,
+    }
+}
+
+const SUMMED: [&str; 2] = ["group", "sum"];
+
+/// A group with its registers.
+fn summed(group: u16, rows: &[Row]) -> [String; 2] {
+    let mut sum = String::new();
+    for Row { minus, register, .. } in rows {
+        sum += match (sum.is_empty(), minus) {
+            (true, false) => "r",
+            (true, true) => "-r",
+            (false, false) => " + r",
+            (false, true) => " - r",
+        };
+        sum += &register.to_string();
+    }
+    [group.to_string(), sum]
 }
 
 fn or_dash(cell: Option<impl Display>) -> String {

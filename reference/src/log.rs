@@ -68,6 +68,7 @@ pub fn append_answer(text: &mut Vec<u8>, answer: Answer) {
         Answer::Freed(slot) => (b"freed ", u64::from(slot)),
         Answer::At(time) => (b"at ", u64::from(time)),
         Answer::Value(value) => (b"value ", value),
+        Answer::Minus(below) => (b"value -", below),
         Answer::No(refusal) => (b"no ", u64::from(refusal.number())),
     };
     text.extend_from_slice(words);
@@ -99,12 +100,15 @@ pub fn parse_answer(words: &str) -> Option<Answer> {
             "done" => Answer::Done,
             _ => return None,
         },
+        Some(("value", number)) => match number.strip_prefix('-') {
+            Some(below) => Answer::Minus(parse_number(below).filter(|&below| below > 0)?),
+            None => Answer::Value(parse_number(number)?),
+        },
         Some((word, number)) => {
             let number = parse_number(number)?;
             match word {
                 "freed" => Answer::Freed(number.try_into().ok()?),
                 "at" => Answer::At(number.try_into().ok()?),
-                "value" => Answer::Value(number),
                 "no" => Answer::No(Refusal::from_number(number)?),
                 _ => return None,
             }
@@ -129,9 +133,14 @@ pub fn parse_log(text: &str) -> Result<Vec<Answer>, String> {
         .collect()
 }
 
-/// The answers to a whole file: sixteen bytes a record, a rest of 1 to 15 bytes as one more.
-pub fn answers<F: Fault, O: Observer>(hub: &mut Hub<F, O>, file: &[u8]) -> Vec<Answer> {
-    file.chunks(record::LENGTH).map(|bytes| hub.take(bytes)).collect()
+/// The answers to a whole file, with the list that is lent with each record: sixteen bytes a record, a
+/// rest of 1 to 15 bytes as one more.
+pub fn answers<F: Fault, O: Observer>(
+    hub: &mut Hub<F, O>,
+    file: &[u8],
+    list: &[u8],
+) -> Vec<Answer> {
+    file.chunks(record::LENGTH).map(|bytes| hub.take(bytes, list)).collect()
 }
 
 /// The log of a whole file, as text.
@@ -167,6 +176,7 @@ fn read_some(input: &mut impl Read, buffer: &mut [u8]) -> io::Result<usize> {
 /// a record: where a read fails it is none.
 pub fn run<F: Fault, O: Observer>(
     hub: &mut Hub<F, O>,
+    list: &[u8],
     input: &mut impl Read,
     output: &mut impl Write,
     mut each: impl FnMut(&mut Hub<F, O>, Answer),
@@ -180,14 +190,14 @@ pub fn run<F: Fault, O: Observer>(
         let filled = held + got;
         let mut records = buffer[..filled].chunks_exact(record::LENGTH);
         for bytes in &mut records {
-            let answer = hub.take(bytes);
+            let answer = hub.take(bytes, list);
             each(hub, answer);
             append_line(&mut text, &number, answer);
             number.increment();
         }
         let rest = records.remainder();
         if got == 0 && !rest.is_empty() {
-            let answer = hub.take(rest);
+            let answer = hub.take(rest, list);
             each(hub, answer);
             append_line(&mut text, &number, answer);
         }

@@ -1,4 +1,4 @@
-//! The checker of demand 3. It sees only the records and their answers.
+//! The checker of demand 3. It sees only the records, the list and the answers.
 //!
 //! It follows the operations, the clock, the announced times and the versions from the setup
 //! through the records (with the free list, to know which slot a put takes), places each
@@ -6,6 +6,8 @@
 //! code with the hub's steps.
 
 use crate::answer::{Answer, Refusal};
+use crate::fault::Right;
+use crate::list::{Groups, Row};
 use crate::record::{Record, LENGTH};
 use std::fmt;
 
@@ -18,6 +20,7 @@ pub enum Action {
     Close,
     Get { register: u16 },
     Collect,
+    Total { group: u16 },
 }
 
 impl fmt::Display for Action {
@@ -29,6 +32,7 @@ impl fmt::Display for Action {
             Action::Close => write!(f, "close"),
             Action::Get { register } => write!(f, "get of register {register}"),
             Action::Collect => write!(f, "collect"),
+            Action::Total { group } => write!(f, "total of group {group}"),
         }
     }
 }
@@ -54,8 +58,8 @@ pub struct Operation {
     /// The record of its effect in the order, if it had one.
     pub effect: Option<usize>,
     pub outcome: Outcome,
-    /// What the plain registers show for a get or read in the order.
-    pub shown: Option<u64>,
+    /// What the plain registers show for a get, read or total in the order.
+    pub shown: Option<i128>,
 }
 
 /// In a sentence.
@@ -84,9 +88,9 @@ impl Operation {
         }
     }
 
-    /// Is it a get or a read, for which plain registers show something?
+    /// Is it a get, a read or a total, for which plain registers show something?
     pub fn shows(&self) -> bool {
-        matches!(self.action, Action::Get { .. } | Action::Read { .. })
+        matches!(self.action, Action::Get { .. } | Action::Read { .. } | Action::Total { .. })
     }
 
     /// What they show, in words.
@@ -112,6 +116,8 @@ pub struct Order {
     pub registers: u16,
     /// P of the accepted setup, 0 without one.
     pub workers: u8,
+    /// The rows of the list that came with the accepted setup.
+    pub groups: Groups,
     /// Every operation, in the order in which they began.
     pub operations: Vec<Operation>,
     /// Indices into `operations`: one after another.
@@ -185,18 +191,18 @@ impl fmt::Display for Violation {
 
 impl std::error::Error for Violation {}
 
-/// Checks demand 3 for a file of records and the answers to them. The violation given is the one
-/// with the lowest record number.
-pub fn check(file: &[u8], answers: &[Answer]) -> Result<Order, Violation> {
-    match examine(file, answers) {
+/// Checks demand 3 for a file of records, the list that is lent with each, and the answers to them. The
+/// violation given is the one with the lowest record number.
+pub fn check(file: &[u8], list: &[u8], answers: &[Answer]) -> Result<Order, Violation> {
+    match examine(file, list, answers) {
         (_, Some(violation)) => Err(violation),
         (order, None) => Ok(order),
     }
 }
 
 /// The order as far as the records can be followed, and what `check` finds wrong with it.
-pub fn examine(file: &[u8], answers: &[Answer]) -> (Order, Option<Violation>) {
-    let mut follower = Follower::default();
+pub fn examine(file: &[u8], list: &[u8], answers: &[Answer]) -> (Order, Option<Violation>) {
+    let mut follower = Follower { list, ..Follower::default() };
     let followed = follower.follow(file, answers);
     let mut order = follower.order;
     replay(&mut order);
@@ -227,11 +233,15 @@ struct Worker {
     announced: Option<u32>,
     /// The version that its put covers.
     covered: Option<usize>,
+    /// The rows of its total that are read, and the version that it stands on.
+    rows: usize,
+    standing: Option<usize>,
 }
 
 /// Follows the records from the setup on.
 #[derive(Default)]
-struct Follower {
+struct Follower<'a> {
+    list: &'a [u8],
     order: Order,
     record: usize,
     clock: u32,
@@ -247,7 +257,7 @@ struct Follower {
     free: Vec<u16>,
 }
 
-impl Follower {
+impl Follower<'_> {
     fn violation(&self, claim: Claim, sentence: String) -> Violation {
         Violation { record: self.record, claim, sentence }
     }
@@ -292,6 +302,7 @@ impl Follower {
             Record::Close { worker } => (worker, Action::Close),
             Record::Get { worker, register } => (worker, Action::Get { register }),
             Record::Collect { worker } => (worker, Action::Collect),
+            Record::Total { worker, group } => (worker, Action::Total { group }),
         };
         self.begin(worker, action, answer)
     }
@@ -316,6 +327,12 @@ impl Follower {
         }
         if workers == 0 || registers == 0 || slots < registers {
             return self.unfit("a setup outside its ranges is accepted");
+        }
+        match Groups::read::<Right>(self.list, registers) {
+            Ok(groups) => self.order.groups = groups,
+            Err(unfit) => {
+                return self.unfit(format!("a setup is accepted, and its list has {unfit}"))
+            }
         }
         (self.order.workers, self.order.registers) = (workers, registers);
         self.clock = clock;
@@ -349,8 +366,13 @@ impl Follower {
                 return self.unfit(format!("register {register} does not exist"));
             }
         }
-        state.operation = Some(self.order.operations.len());
-        state.steps = 0;
+        if let Action::Total { group } = action {
+            if self.order.groups.rows(group).is_empty() {
+                return self.unfit(format!("group {group} has no rows"));
+            }
+        }
+        let operation = Some(self.order.operations.len());
+        *state = Worker { operation, steps: 0, rows: 0, standing: None, ..*state };
         self.order.operations.push(Operation {
             worker,
             action,
@@ -395,6 +417,12 @@ impl Follower {
             (Action::Read { .. }, 1.., Answer::Going | Answer::Value(_)) => {}
             (Action::Get { register }, 0, Answer::Value(_)) => self.stamp(register),
             (Action::Close, 0, Answer::Done) => self.workers[w].announced = None,
+            (Action::Total { group }, 0, Answer::Going) => self.sum(w, group),
+            (
+                Action::Total { group },
+                1..,
+                Answer::Going | Answer::Value(_) | Answer::Minus(_) | Answer::No(Refusal::Summand),
+            ) => self.sum(w, group),
             _ => {
                 let operation = &self.order.operations[operation];
                 return self.unfit(format!(
@@ -409,7 +437,7 @@ impl Follower {
     }
 
     /// Ends the operation unless the answer is `going` or `freed S`. A get has its effect here,
-    /// after a put stamped in the same step; so have reads, closes and collects.
+    /// after a put stamped in the same step; so have reads, closes, collects and totals.
     fn end(&mut self, w: usize, operation: usize, answer: Answer) {
         let record = self.record;
         let outcome = match answer {
@@ -472,6 +500,32 @@ impl Follower {
         }
     }
 
+    /// A step of a total: it stamps the next row's register and stands on the newest version; there it
+    /// reads that row, or moves to the older version. Its end is where the answer says so.
+    fn sum(&mut self, w: usize, group: u16) {
+        let Worker { announced, rows, standing, .. } = self.workers[w];
+        let Some(&Row { register, .. }) = self.order.groups.rows(group).get(rows) else { return };
+        let Some(version) = standing else {
+            self.stamp(register);
+            self.workers[w].standing = self.lists[usize::from(register)].last().copied();
+            return;
+        };
+        let low = self.versions[version].low;
+        if low.is_some() && low <= announced {
+            self.workers[w].rows += 1;
+            self.workers[w].standing = None;
+        } else {
+            self.workers[w].standing = Some(self.older(version));
+        }
+    }
+
+    /// The next older version of its register, or itself where there is none.
+    fn older(&self, version: usize) -> usize {
+        let list = &self.lists[usize::from(self.versions[version].register)];
+        let place = list.iter().position(|&linked| linked == version);
+        place.and_then(|place| place.checked_sub(1)).map_or(version, |place| list[place])
+    }
+
     /// Open (2): where the clock passes the time, it passes it for every open at that time,
     /// lowest worker first.
     fn pass(&mut self, w: usize, time: u32) -> Result<(), Violation> {
@@ -521,6 +575,10 @@ impl Follower {
                 return Err(self.violation(Claim::NeededFreed, sentence));
             }
         }
+        // A total that stands on it moves.
+        let older = Some(self.older(version));
+        let standing = self.workers.iter_mut().filter(|worker| worker.standing == Some(version));
+        standing.for_each(|worker| worker.standing = older);
         let list = &mut self.lists[usize::from(register)];
         list.retain(|&linked| linked != version);
         if list.is_empty() {
@@ -591,32 +649,47 @@ fn check_between(order: &Order) -> Result<(), Violation> {
 
 /// Feeds the plain registers in the order and keeps what they show.
 fn replay(order: &mut Order) {
+    let Order { groups, operations, sequence, .. } = order;
     let mut registers = vec![0; usize::from(order.registers)];
     let mut copies: Vec<Option<Vec<u64>>> = vec![None; usize::from(order.workers)];
-    for &index in &order.sequence {
-        let operation = &mut order.operations[index];
+    for &index in sequence.iter() {
+        let operation = &mut operations[index];
         let copy = &mut copies[usize::from(operation.worker)];
         match operation.action {
             Action::Put { register, value } => registers[usize::from(register)] = value,
             Action::Open => *copy = Some(registers.clone()),
             Action::Close => *copy = None,
             Action::Collect => {}
-            Action::Get { register } => operation.shown = Some(registers[usize::from(register)]),
+            Action::Get { register } => {
+                operation.shown = Some(i128::from(registers[usize::from(register)]));
+            }
             Action::Read { register } => {
-                operation.shown = copy.as_ref().map(|copy| copy[usize::from(register)]);
+                let shown = |copy: &Vec<u64>| i128::from(copy[usize::from(register)]);
+                operation.shown = copy.as_ref().map(shown);
+            }
+            Action::Total { group } => {
+                operation.shown = copy.as_ref().map(|copy| total(groups.rows(group), copy));
             }
         }
     }
 }
 
-/// Every finished get and read answers what is shown.
+/// The sum over a copy: the registers of the rows with a plus, less those with a minus.
+fn total(rows: &[Row], copy: &[u64]) -> i128 {
+    let of = |minus: bool| -> i128 {
+        let rows = rows.iter().filter(|row| row.minus == minus);
+        rows.map(|row| i128::from(copy[usize::from(row.register)])).sum()
+    };
+    of(false) - of(true)
+}
+
+/// Every finished get, read and total answers what is shown.
 fn check_values(order: &Order) -> Result<(), Violation> {
     for &index in &order.sequence {
         let operation = &order.operations[index];
         if let (true, Outcome::Finished { record, answer }) = (operation.shows(), operation.outcome)
         {
-            let right = operation.shown.is_some_and(|shown| answer == Answer::Value(shown));
-            if !right {
+            if operation.shown.is_none() || answer.shown() != operation.shown {
                 let shown = operation.shown_words();
                 let sentence = format!("{operation} answers `{answer}` where {shown} is shown");
                 return Err(Violation { record, claim: Claim::Value, sentence });

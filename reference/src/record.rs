@@ -6,7 +6,7 @@ use crate::answer::Refusal;
 pub const LENGTH: usize = 16;
 
 /// The highest operation number in use; above it is refusal 1.
-pub const LAST_OPERATION: u8 = 7;
+pub const LAST_OPERATION: u8 = 8;
 
 /// A record whose bytes are well formed. Whether its fields fit the hub is the hub's question.
 #[derive(Clone, Copy, Debug, PartialEq, Eq, Hash)]
@@ -19,6 +19,7 @@ pub enum Record {
     Get { worker: u8, register: u16 },
     Collect { worker: u8 },
     Step { worker: u8 },
+    Total { worker: u8, group: u16 },
 }
 
 /// For each operation, the bytes it does not use, as masks over the two halves of a record.
@@ -34,6 +35,7 @@ const UNUSED: [(u64, u64); LAST_OPERATION as usize + 1] = {
         WORKER_REGISTER,                   // get
         WORKER_ONLY,                       // collect
         WORKER_ONLY,                       // step
+        WORKER_REGISTER,                   // total: its group stands where a register does
     ]
 };
 
@@ -68,7 +70,8 @@ impl Record {
             4 => Record::Close { worker },
             5 => Record::Get { worker, register },
             6 => Record::Collect { worker },
-            _ => Record::Step { worker },
+            7 => Record::Step { worker },
+            _ => Record::Total { worker, group: register },
         })
     }
 
@@ -91,6 +94,7 @@ impl Record {
             Record::Get { worker, register } => (5, worker, register),
             Record::Collect { worker } => (6, worker, 0),
             Record::Step { worker } => (7, worker, 0),
+            Record::Total { worker, group } => (8, worker, group),
         };
         bytes[0] = operation;
         bytes[1] = worker;

@@ -44,7 +44,7 @@ impl Run {
             read: life,
             close: 10,
             get: life,
-            collect: 0,
+            ..Weights::NONE
         };
         let holders = self.workers.div_ceil(2);
         let roles = vec![
@@ -56,7 +56,7 @@ impl Run {
 
     /// Makes so many records and counts after each.
     pub fn measure(self, seed: u64, count: usize) -> Peak {
-        let mut records = Records::new(&self.shape(), seed);
+        let mut records = Records::new(&self.shape(), &[], seed);
         let mut census = Census::new(records.store());
         let mut peak = Peak::default();
         for _ in 0..count {
@@ -144,10 +144,10 @@ pub mod held {
 
     /// The counts and the bound after each record.
     pub fn counts() -> Vec<(Counts, usize)> {
-        let weights = Weights { put: 80, open: 3, read: 10, close: 10, get: 10, collect: 0 };
+        let weights = Weights { put: 80, open: 3, read: 10, close: 10, get: 10, ..Weights::NONE };
         let roles = vec![Role { workers: 1, turns: 0, weights }, Role::alike(WORKERS - 1, weights)];
         let shape = Shape { registers: REGISTERS, slots: MAX_SLOTS, roles };
-        let mut records = Records::new(&shape, 1);
+        let mut records = Records::new(&shape, &[], 1);
         let mut census = Census::new(records.store());
         let each = |place| {
             match of_worker_0(place) {

@@ -1,10 +1,11 @@
-//! The steps of put, open, read, get and close. Each gives what the worker does next and the
+//! The steps of put, open, read, get, close and total. Each gives what the worker does next and the
 //! answer.
 
 use crate::answer::{Answer, Refusal};
 use crate::coverage::{Branch, Observer};
-use crate::fault::Fault;
+use crate::fault::{self, Fault};
 use crate::flush;
+use crate::list::Place;
 use crate::pool::Range;
 use crate::store::{Doing, Slot, Store, LAST_CLOCK};
 
@@ -164,6 +165,70 @@ impl Store {
         seen.branch(if stamped { Branch::GetStamps } else { Branch::GetStampedAlready });
         let newest = self.newest[usize::from(register)];
         (Doing::Idle, Answer::Value(self.slots[usize::from(newest)].value))
+    }
+
+    /// Total (1) of a row: as read (1).
+    pub(crate) fn total_start<O: Observer>(
+        &mut self,
+        place: Place,
+        sum: i64,
+        seen: &mut O,
+    ) -> (Doing, Answer) {
+        let register = self.groups.row(place).register;
+        let stamped = self.stamp(register);
+        seen.branch(if stamped { Branch::TotalStamps } else { Branch::TotalStampedAlready });
+        let slot = self.newest[usize::from(register)];
+        (Doing::TotalAt { slot, first: true, place, sum }, Answer::Going)
+    }
+
+    /// Total (2) of a row: as read (2), and the value is summed. The last row's answers.
+    #[inline]
+    pub(crate) fn total_at<F: Fault, O: Observer>(
+        &mut self,
+        w: usize,
+        (slot, first): (u16, bool),
+        place: Place,
+        sum: i64,
+        seen: &mut O,
+    ) -> (Doing, Answer) {
+        let version = &self.slots[usize::from(slot)];
+        let found = version.low.is_some() && version.low <= self.workers[w].announced;
+        if !found && !F::TOTAL_NEWEST {
+            seen.branch(Branch::TotalMoves);
+            // As in read (2), there is an older version.
+            let slot = version.older.unwrap_or(slot);
+            return (Doing::TotalAt { slot, first: false, place, sum }, Answer::Going);
+        }
+        seen.branch(if first { Branch::TotalFoundAtOnce } else { Branch::TotalFound });
+        if version.value > fault::largest_summed::<F>() {
+            seen.branch(if place.left == 0 { Branch::LargeLast } else { Branch::LargeEarlier });
+            return (Doing::Idle, Answer::No(Refusal::Summand));
+        }
+        let sum = self.sum::<F>(place, sum, version.value as i64);
+        match place.next() {
+            Some(place) => (Doing::TotalStart { place, sum }, Answer::Going),
+            None => {
+                seen.branch(match sum {
+                    ..0 => Branch::TotalBelow0,
+                    0 => Branch::Total0,
+                    _ => Branch::TotalAbove0,
+                });
+                (Doing::Idle, Answer::total(sum))
+            }
+        }
+    }
+
+    /// The sum with one more value, which is at most A1's limit; or what a fault takes for it.
+    #[inline(always)]
+    fn sum<F: Fault>(&self, place: Place, sum: i64, value: i64) -> i64 {
+        let row = self.groups.row(place);
+        let left_out = F::SUM_WITHOUT_LAST && place.left == 0
+            || F::TWICE_ONCE && self.groups.stands_before(place);
+        match row.minus != F::SIGNS_EXCHANGED {
+            _ if left_out => sum,
+            false => sum + value,
+            true => sum - value,
+        }
     }
 
     /// Close.

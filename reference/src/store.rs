@@ -4,6 +4,7 @@ use crate::answer::{Answer, Refusal};
 use crate::coverage::{Branch, Observer};
 use crate::fault::{self, Fault};
 use crate::flush;
+use crate::list::{Groups, Place};
 use crate::pool::{batch_size, Queue, Range, MAX_BATCH};
 use crate::record::Record;
 
@@ -13,7 +14,8 @@ pub const MAX_WORKERS: usize = 16;
 pub const MAX_REGISTERS: u16 = 256;
 /// Most slots.
 pub const MAX_SLOTS: u16 = 2048;
-/// The largest value that a put may bring (A1): twelve decimal digits. Above it is 16.
+/// The largest value that a put may bring (A1): twelve decimal digits. Above it is 16, and 18 where a
+/// total meets it (A2).
 pub const MAX_VALUE: u64 = 999_999_999_999;
 /// The clock's last value: an open there gets 15.
 pub const LAST_CLOCK: u32 = u32::MAX;
@@ -80,6 +82,18 @@ pub enum Doing {
         register: u16,
     },
     Close,
+    /// Total (1) of the row at this place, with the sum of those before it.
+    TotalStart {
+        place: Place,
+        sum: i64,
+    },
+    /// Total (2) of that row, standing on a slot; `first` until it moves.
+    TotalAt {
+        slot: u16,
+        first: bool,
+        place: Place,
+        sum: i64,
+    },
 }
 
 /// A worker's record.
@@ -115,6 +129,8 @@ pub struct Store {
     /// B.
     pub batch: usize,
     pub clock: u32,
+    /// The rows of the list that came with the setup.
+    pub groups: Groups,
     /// One record for each of the P workers.
     pub workers: Vec<Worker>,
     /// Each register's newest version.
@@ -136,6 +152,7 @@ impl Store {
         registers: u16,
         slots: u16,
         clock: u32,
+        groups: Groups,
     ) -> Result<Store, Refusal> {
         let fits = (1..=MAX_WORKERS).contains(&usize::from(workers))
             && (1..=MAX_REGISTERS).contains(&registers)
@@ -151,6 +168,7 @@ impl Store {
         Ok(Store {
             batch: batch_size(usize::from(workers)),
             clock,
+            groups,
             workers: (0..workers).map(|_| Worker::start()).collect(),
             newest: (0..registers).collect(),
             slots: row,
@@ -184,6 +202,7 @@ impl Store {
             Record::Get { worker, register } => {
                 self.begin(worker, register, Doing::Get { register })
             }
+            Record::Total { worker, group } => self.begin_total::<F>(worker, group),
             Record::Collect { worker } => {
                 self.begin(worker, 0, flush::start::<F>())?;
                 if O::ON {
@@ -229,6 +248,33 @@ impl Store {
         self.begin(worker, register, Doing::PutPublish { register, value })
     }
 
+    /// Begins a total: 17 stands where 4 does.
+    fn begin_total<F: Fault>(&mut self, worker: u8, group: u16) -> Result<(), Refusal> {
+        let state = self.workers.get(usize::from(worker)).ok_or(Refusal::Worker)?;
+        let Some(place) = self.groups.first::<F>(group) else {
+            return Err(match state.doing {
+                Doing::Idle if F::GROUP_AFTER_SNAPSHOT && state.announced.is_none() => {
+                    Refusal::NotAnnounced
+                }
+                Doing::Idle => Refusal::Group,
+                _ if F::GROUP_AFTER_BUSY || F::GROUP_AFTER_SNAPSHOT => Refusal::Busy,
+                _ => Refusal::Group,
+            });
+        };
+        self.begin(worker, 0, Doing::TotalStart { place, sum: 0 })?;
+        if F::LARGE_AT_BEGIN && self.sums_above(group, MAX_VALUE) {
+            self.workers[usize::from(worker)].doing = Doing::Idle;
+            return Err(Refusal::Summand);
+        }
+        Ok(())
+    }
+
+    /// Has a register of the group a newest value above this? Only a fault asks.
+    fn sums_above(&self, group: u16, value: u64) -> bool {
+        let newest = |register: u16| self.slots[usize::from(self.newest[usize::from(register)])];
+        self.groups.rows(group).iter().any(|row| newest(row.register).value > value)
+    }
+
     /// Begins an operation: 3, 4, 10, then 12 or 13, else the worker is busy with it.
     fn begin(&mut self, worker: u8, register: u16, doing: Doing) -> Result<(), Refusal> {
         let worker = self.worker_for(worker, register)?;
@@ -237,14 +283,16 @@ impl Store {
         }
         match (doing, worker.announced) {
             (Doing::OpenAnnounce, Some(_)) => return Err(Refusal::Announced),
-            (Doing::ReadStart { .. } | Doing::Close, None) => return Err(Refusal::NotAnnounced),
+            (Doing::ReadStart { .. } | Doing::Close | Doing::TotalStart { .. }, None) => {
+                return Err(Refusal::NotAnnounced)
+            }
             _ => {}
         }
         worker.doing = doing;
         Ok(())
     }
 
-    /// Takes one step of a worker: 3, 11, else the step, which may itself meet 14 or 15.
+    /// Takes one step of a worker: 3, 11, else the step, which may itself meet 14, 15 or 18.
     #[inline]
     fn step<F: Fault, O: Observer>(
         &mut self,
@@ -277,6 +325,10 @@ impl Store {
             Doing::ReadAt { slot, first } => self.read_at(w, slot, first, seen),
             Doing::Get { register } => self.get(register, seen),
             Doing::Close => self.close(w, seen),
+            Doing::TotalStart { place, sum } => self.total_start(place, sum, seen),
+            Doing::TotalAt { slot, first, place, sum } => {
+                self.total_at::<F, O>(w, (slot, first), place, sum, seen)
+            }
         };
         self.workers[w].doing = next;
         Ok(fault::shown::<F>(doing, answer, max_value))

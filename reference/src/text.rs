@@ -1,4 +1,5 @@
-//! Readable text for record files, and back: any file unpacks and packs to the same bytes.
+//! Readable text for record files and for lists, and back: any file unpacks and packs to the same
+//! bytes.
 //!
 //! One command a line; `#` begins a comment, blank lines are skipped:
 //!
@@ -11,15 +12,30 @@
 //! get WORKER REGISTER
 //! collect WORKER
 //! step WORKER [xCOUNT]
+//! total WORKER GROUP
 //! bytes HEX...
 //! ```
 //!
 //! `bytes` gives a record by its bytes, fewer than sixteen only as the last command. Unpacking writes
 //! it for a record that its bytes alone refuse, with 6, 1 or 2, and the reason as a comment. A put
 //! of any value is a `put`: whether it gets 16 or a refusal before that is the hub's question.
+//!
+//! A list has one row a line, with comments and blank lines as above:
+//!
+//! ```text
+//! GROUP + REGISTER
+//! GROUP - REGISTER
+//! bytes HEX...
+//! ```
+//!
+//! `bytes` gives a row by its bytes, fewer than four only as the last row. Unpacking writes it for a
+//! row whose length or sign is none, and says in a comment why a row makes a setup get 5.
 
 use crate::answer::Refusal;
+use crate::fault::Right;
+use crate::list::{self, Row, Tests, Unfit};
 use crate::record::{Record, LENGTH};
+use crate::store::MAX_REGISTERS;
 use std::fmt::{self, Write};
 
 /// Most repetitions that one line may ask for.
@@ -43,6 +59,21 @@ impl std::error::Error for PackError {}
 
 /// Turns text into a record file.
 pub fn pack(text: &[u8]) -> Result<Vec<u8>, PackError> {
+    pack_lines(text, LENGTH, "commands", append_command)
+}
+
+/// Turns text into a list.
+pub fn pack_list(text: &[u8]) -> Result<Vec<u8>, PackError> {
+    pack_lines(text, list::LENGTH, "rows", append_row)
+}
+
+/// Appends each line's bytes, which are so many but for the last line that has any.
+fn pack_lines(
+    text: &[u8],
+    length: usize,
+    what: &str,
+    append: fn(&mut Vec<u8>, &[&str]) -> Result<(), String>,
+) -> Result<Vec<u8>, PackError> {
     let mut file = Vec::new();
     let mut short_line = None;
     for (index, line) in text.split(|&byte| byte == b'\n').enumerate() {
@@ -57,11 +88,11 @@ pub fn pack(text: &[u8]) -> Result<Vec<u8>, PackError> {
         if let Some(short) = short_line {
             return Err(PackError {
                 line: short,
-                reason: "fewer than 16 bytes, but more commands follow".to_string(),
+                reason: format!("fewer than {length} bytes, but more {what} follow"),
             });
         }
-        append_command(&mut file, &words).map_err(error)?;
-        if file.len() % LENGTH != 0 {
+        append(&mut file, &words).map_err(error)?;
+        if file.len() % length != 0 {
             short_line = Some(line_number);
         }
     }
@@ -99,8 +130,11 @@ fn append_command(file: &mut Vec<u8>, words: &[&str]) -> Result<(), String> {
             repeat = repetition(times)?;
             Record::Step { worker: number(worker, "worker")? }
         }
+        ["total", worker, group] => {
+            Record::Total { worker: number(worker, "worker")?, group: number(group, "group")? }
+        }
         ["bytes", ref hex @ ..] => {
-            file.extend(hex_bytes(hex)?);
+            file.extend(hex_bytes(hex, LENGTH, "record")?);
             return Ok(());
         }
         [name, ..] => return Err(usage(name)),
@@ -108,6 +142,23 @@ fn append_command(file: &mut Vec<u8>, words: &[&str]) -> Result<(), String> {
     };
     let bytes = record.encode();
     (0..repeat).for_each(|_| file.extend_from_slice(&bytes));
+    Ok(())
+}
+
+/// Appends one row's bytes.
+fn append_row(list: &mut Vec<u8>, words: &[&str]) -> Result<(), String> {
+    match *words {
+        [group, sign @ ("+" | "-"), register] => {
+            let row = Row {
+                group: number(group, "group")?,
+                minus: sign == "-",
+                register: number(register, "register")?,
+            };
+            list.extend(row.encode());
+        }
+        ["bytes", ref hex @ ..] => list.extend(hex_bytes(hex, list::LENGTH, "row")?),
+        _ => return Err("not of the form: GROUP + REGISTER or GROUP - REGISTER".to_string()),
+    }
     Ok(())
 }
 
@@ -134,9 +185,9 @@ fn repetition(word: &str) -> Result<usize, String> {
         .ok_or_else(|| format!("repetition {word:?} is not x1 to x{MAX_REPEAT}"))
 }
 
-/// One to sixteen bytes, each two hexadecimal digits; spaces between bytes are free.
-fn hex_bytes(words: &[&str]) -> Result<Vec<u8>, String> {
-    let mut bytes = Vec::with_capacity(LENGTH);
+/// One byte to so many, each two hexadecimal digits; spaces between bytes are free.
+fn hex_bytes(words: &[&str], length: usize, what: &str) -> Result<Vec<u8>, String> {
+    let mut bytes = Vec::with_capacity(length);
     for word in words {
         let digits = word.chars().map(|c| c.to_digit(16).map(|digit| digit as u8));
         let digits: Option<Vec<u8>> = digits.collect();
@@ -147,10 +198,10 @@ fn hex_bytes(words: &[&str]) -> Result<Vec<u8>, String> {
             _ => return Err(format!("{word:?} is not pairs of hexadecimal digits")),
         }
     }
-    if (1..=LENGTH).contains(&bytes.len()) {
+    if (1..=length).contains(&bytes.len()) {
         Ok(bytes)
     } else {
-        Err(format!("{} bytes where a record has 1 to 16", bytes.len()))
+        Err(format!("{} bytes where a {what} has 1 to {length}", bytes.len()))
     }
 }
 
@@ -164,10 +215,11 @@ fn usage(name: &str) -> String {
         "get" => "get WORKER REGISTER",
         "collect" => "collect WORKER",
         "step" => "step WORKER [xCOUNT]",
+        "total" => "total WORKER GROUP",
         _ => {
             return format!(
                 "unknown command {name:?}, not one of setup, put, open, read, close, get, \
-                collect, step, bytes"
+                collect, step, total, bytes"
             )
         }
     };
@@ -212,16 +264,51 @@ fn write_command(text: &mut String, record: Record) -> fmt::Result {
         Record::Get { worker, register } => writeln!(text, "get {worker} {register}"),
         Record::Collect { worker } => writeln!(text, "collect {worker}"),
         Record::Step { worker } => writeln!(text, "step {worker}"),
+        Record::Total { worker, group } => writeln!(text, "total {worker} {group}"),
     }
 }
 
 fn write_bytes(text: &mut String, bytes: &[u8], refusal: Refusal) -> fmt::Result {
-    write!(text, "bytes")?;
-    bytes.iter().try_for_each(|byte| write!(text, " {byte:02x}"))?;
+    write_hex(text, bytes)?;
     let reason = match refusal {
         Refusal::Length => "fewer than 16 bytes",
-        Refusal::Operation => "operation above 7",
+        Refusal::Operation => "operation above 8",
         _ => "an unused byte is not zero",
     };
     writeln!(text, "  # refused with {}: {reason}", refusal.number())
+}
+
+fn write_hex(text: &mut String, bytes: &[u8]) -> fmt::Result {
+    write!(text, "bytes")?;
+    bytes.iter().try_for_each(|byte| write!(text, " {byte:02x}"))
+}
+
+/// Turns a list into text. What makes it none for every V stands in comments.
+pub fn unpack_list(list: &[u8]) -> String {
+    let mut text = String::new();
+    let mut tests = Tests::default();
+    for bytes in list.chunks(list::LENGTH) {
+        let row = Row::decode::<Right>(bytes);
+        let fits = row.and_then(|row| tests.row::<Right>(row, MAX_REGISTERS));
+        write_row(&mut text, bytes, row, fits.err()).expect("writing to a string");
+    }
+    text
+}
+
+fn write_row(
+    text: &mut String,
+    bytes: &[u8],
+    row: Result<Row, Unfit>,
+    unfit: Option<Unfit>,
+) -> fmt::Result {
+    match row {
+        Ok(Row { group, minus, register }) => {
+            write!(text, "{group} {} {register}", if minus { '-' } else { '+' })?;
+        }
+        Err(_) => write_hex(text, bytes)?,
+    }
+    match unfit {
+        Some(reason) => writeln!(text, "  # refused with 5: {reason}"),
+        None => writeln!(text),
+    }
 }

@@ -237,7 +237,7 @@ impl<'a> Timeline<'a> {
         operation: &Operation,
         next: Option<usize>,
     ) -> fmt::Result {
-        let kind = kind(operation.action);
+        let kind = classes(operation.action);
         let (x, y) = (self.left(operation.begin), bar(operation.worker));
         let width = |end| self.left(end + 1) - x - GAP;
         match operation.outcome {
@@ -315,6 +315,15 @@ fn kind(action: Action) -> &'static str {
         Action::Close => "close",
         Action::Get { .. } => "get",
         Action::Collect => "collect",
+        Action::Total { .. } => "total",
+    }
+}
+
+/// The classes of its bar: a total is drawn as the reads that it consists of.
+fn classes(action: Action) -> &'static str {
+    match action {
+        Action::Total { .. } => "read total",
+        action => kind(action),
     }
 }
 
@@ -322,6 +331,7 @@ fn kind(action: Action) -> &'static str {
 fn label(operation: &Operation) -> String {
     let kind = kind(operation.action);
     match operation.action {
+        Action::Total { group } => format!("{kind} g{group}"),
         Action::Put { register, value } => format!("{kind} r{register} = {value}"),
         Action::Read { register } | Action::Get { register } => format!("{kind} r{register}"),
         Action::Open | Action::Close | Action::Collect => kind.to_string(),
@@ -332,15 +342,15 @@ fn label(operation: &Operation) -> String {
 /// registers show.
 fn answer(operation: &Operation) -> (&'static str, String) {
     match operation.answer() {
-        Some(Answer::Value(value)) if operation.shown == Some(value) => {
-            ("answer", value.to_string())
-        }
-        Some(Answer::Value(value)) => {
-            ("answer wrong", format!("{value} \u{2260} {}", operation.shown_words()))
-        }
-        Some(answer @ Answer::No(_)) => ("answer wrong", answer.to_string()),
         None | Some(Answer::Done) => ("answer", String::new()),
-        Some(answer) => ("answer", answer.to_string()),
+        Some(answer @ Answer::No(_)) => ("answer wrong", answer.to_string()),
+        Some(answer) => match answer.shown() {
+            None => ("answer", answer.to_string()),
+            Some(value) if operation.shown == Some(value) => ("answer", value.to_string()),
+            Some(value) => {
+                ("answer wrong", format!("{value} \u{2260} {}", operation.shown_words()))
+            }
+        },
     }
 }
 

@@ -3,6 +3,8 @@
 
 use crate::generate::Random;
 use crate::hub::Hub;
+use crate::list::{GROUPS, MAX_ROWS};
+use crate::lists::Habit;
 use crate::record::{Record, LENGTH};
 use crate::store::{Doing, Store, MAX_REGISTERS, MAX_SLOTS, MAX_WORKERS};
 use std::collections::VecDeque;
@@ -27,8 +29,12 @@ pub enum Workload {
     /// the queue stays full: nine pools wait where a flush takes two, and it merges and splits 160
     /// ranges, nearly all needed. `going` 88, `ok` 6, `done` 5.
     Collects,
+    /// Twelve workers total groups of the longest list, 32 of 32 rows, each under a snapshot that it
+    /// renews after three totals on average, while four put. Nearly three in four records are steps
+    /// of totals; for ten rows they pass eight newer versions. `going` 83, `ok` 6, `done` 5, `freed` 5.
+    Totals,
     /// Uniformly random bytes after the setup of the largest hub. Practically every record has an
-    /// operation above 7 or an unused byte that is not zero: `no` 100.
+    /// operation above 8 or an unused byte that is not zero: `no` 100.
     Uniform,
     /// The script of `Small` with another N in its setup. The slot given back last is taken first,
     /// so the same slots are in use and the log is the same for every N.
@@ -61,12 +67,13 @@ pub enum Topic {
 }
 
 impl Workload {
-    pub const ALL: [Workload; 27] = [
+    pub const ALL: [Workload; 28] = [
         Workload::Small,
         Workload::Large,
         Workload::Puts,
         Workload::Reads,
         Workload::Collects,
+        Workload::Totals,
         Workload::Uniform,
         Workload::Growth { slots: 16 },
         Workload::Growth { slots: 64 },
@@ -98,6 +105,7 @@ impl Workload {
             Workload::Puts => "puts".into(),
             Workload::Reads => "reads".into(),
             Workload::Collects => "collects".into(),
+            Workload::Totals => "totals".into(),
             Workload::Uniform => "uniform".into(),
             Workload::Growth { slots } => format!("growth-{slots}"),
             Workload::Plain { workers } => format!("plain-{workers}"),
@@ -144,7 +152,8 @@ impl Workload {
                 Shape { registers: MAX_REGISTERS, slots: MAX_SLOTS, roles }
             }
             Workload::Puts => {
-                let weights = Weights { put: 94, open: 2, read: 2, close: 1, get: 2, collect: 0 };
+                let weights =
+                    Weights { put: 94, open: 2, read: 2, close: 1, get: 2, ..Weights::NONE };
                 Shape { registers: 16, slots: 256, roles: vec![Role::alike(2, weights)] }
             }
             Workload::Reads => {
@@ -163,6 +172,11 @@ impl Workload {
                     Role { workers: 8, turns: 1, weights: hold },
                     Role { workers: 6, turns: 3, weights: PUT },
                 ];
+                Shape { registers: MAX_REGISTERS, slots: MAX_SLOTS, roles }
+            }
+            Workload::Totals => {
+                let total = Weights { open: 1, total: 3, close: 1, ..Weights::NONE };
+                let roles = vec![Role::alike(12, total), Role::alike(4, PUT)];
                 Shape { registers: MAX_REGISTERS, slots: MAX_SLOTS, roles }
             }
             Workload::Plain { workers } => {
@@ -187,10 +201,20 @@ impl Workload {
         }
     }
 
+    /// The list that comes with the setup: the longest there is for `Totals`, else empty.
+    pub fn list(self, seed: u64) -> Vec<u8> {
+        if self != Workload::Totals {
+            return Vec::new();
+        }
+        let (groups, rows) = (GROUPS as u64, MAX_ROWS as u64);
+        let habit = Habit { missing: 0, unfit: 0, groups: (groups, groups), rows: (rows, rows) };
+        habit.list(MAX_REGISTERS, &mut Random::new(seed))
+    }
+
     /// The records of this workload, without end.
     pub fn records(self, seed: u64) -> Records {
         let shape = self.shape();
-        let mut records = Records::new(&shape, seed);
+        let mut records = Records::new(&shape, &self.list(seed), seed);
         match self {
             Workload::Uniform => records.uniform = true,
             Workload::Growth { slots } => {
@@ -224,15 +248,18 @@ pub struct Weights {
     pub close: u64,
     pub get: u64,
     pub collect: u64,
+    pub total: u64,
 }
 
 impl Weights {
-    pub const NONE: Weights = Weights { put: 0, open: 0, read: 0, close: 0, get: 0, collect: 0 };
+    pub const NONE: Weights =
+        Weights { put: 0, open: 0, read: 0, close: 0, get: 0, collect: 0, total: 0 };
 }
 
 const PUT: Weights = Weights { put: 1, ..Weights::NONE };
 
-const MIXED: Weights = Weights { put: 40, open: 10, read: 30, close: 3, get: 15, collect: 2 };
+const MIXED: Weights =
+    Weights { put: 40, open: 10, read: 30, close: 3, get: 15, collect: 2, total: 0 };
 
 /// Workers with the same habits.
 #[derive(Clone, Copy, Debug)]
@@ -288,9 +315,10 @@ pub struct Records {
 }
 
 impl Records {
-    pub fn new(shape: &Shape, seed: u64) -> Records {
+    /// The list comes with the setup.
+    pub fn new(shape: &Shape, list: &[u8], seed: u64) -> Records {
         let mut hub = Hub::new();
-        hub.take_record(shape.setup());
+        hub.take_record(shape.setup(), list);
         let mut turns = Vec::new();
         let mut weights = Vec::new();
         for role in &shape.roles {
@@ -314,20 +342,20 @@ impl Records {
         }
         let worker = self.random.pick(&self.turns);
         let record = if self.idle(worker) { self.begin(worker) } else { Record::Step { worker } };
-        self.hub.take_record(record);
+        self.hub.take_record(record, &[]);
         record
     }
 
     /// Puts a record of the caller's own between the others.
     pub fn insert(&mut self, record: Record) {
-        self.hub.take_record(record);
+        self.hub.take_record(record, &[]);
     }
 
     /// Puts one of a worker's operations ahead, from its begin to its last step.
     fn whole(&mut self, begin: Record, worker: u8) {
         let mut record = begin;
         loop {
-            self.hub.take_record(record);
+            self.hub.take_record(record, &[]);
             self.ahead.push_back(record);
             if self.idle(worker) {
                 return;
@@ -351,13 +379,14 @@ impl Records {
     /// The begin of an operation that the worker's state allows; a collect in place of a put that
     /// would find no free slot.
     fn begin(&mut self, worker: u8) -> Record {
-        let Weights { put, open, read, close, get, collect } = self.weights[usize::from(worker)];
-        let (open, read, close) = match self.store().workers[usize::from(worker)].announced {
-            Some(_) => (0, read, close),
-            None => (open, 0, 0),
+        let weights = self.weights[usize::from(worker)];
+        let Weights { put, open, read, close, get, collect, total } = weights;
+        let (open, read, close, total) = match self.store().workers[usize::from(worker)].announced {
+            Some(_) => (0, read, close, total),
+            None => (open, 0, 0, 0),
         };
         let register = self.random.below(self.store().newest.len() as u64) as u16;
-        match self.random.weighted(&[put, open, read, close, get, collect]) {
+        match self.random.weighted(&[put, open, read, close, get, collect, total]) {
             0 if self.slot_left() => {
                 Record::Put { worker, register, value: self.random.between(1, 999_999) }
             }
@@ -365,6 +394,7 @@ impl Records {
             2 => Record::Read { worker, register },
             3 => Record::Close { worker },
             4 => Record::Get { worker, register },
+            6 => Record::Total { worker, group: self.random.below(GROUPS as u64) as u16 },
             _ => Record::Collect { worker },
         }
     }

@@ -36,7 +36,7 @@ fn setups_in_and_outside_the_ranges() {
 #[test]
 fn a_row_too_short_for_its_slots_gives_5() {
     let mut hub = Hub::<Right>::with_row(3);
-    let mut take = |script: &str| hub.take(&common::records(script));
+    let mut take = |script: &str| hub.take(&common::records(script), &[]);
     assert_eq!(take("setup 1 1 4 1"), no(5));
     assert_eq!(take("step 0"), no(8));
     assert_eq!(take("setup 1 1 3 1"), Answer::Ok);

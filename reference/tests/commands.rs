@@ -2,7 +2,7 @@
 
 mod common;
 
-use common::{records, sample};
+use common::{list, records, sample};
 use std::fs;
 use std::io::{Read, Write};
 use std::path::PathBuf;
@@ -61,7 +61,6 @@ fn hublog_counts_what_it_reached() {
     let counts = text(&output.stderr);
     assert!(counts.contains("           2  no 11\n"), "{counts}");
     assert!(counts.contains("           0  no 14\n"), "{counts}");
-    assert!(!run(HUBLOG, &["--other"], &[]).status.success());
 }
 
 #[test]
@@ -109,6 +108,136 @@ fn the_first_sample_has_its_log() {
     assert_eq!(text(&run(HUBLOG, &[], &packed.stdout).stdout), sample("first.log"));
 }
 
+/// A stairwell's figures, with the list in its readable form.
+#[test]
+fn the_sample_of_totals_has_its_log() {
+    let packed = run(RECORDS, &["pack"], sample("stairwell.txt").as_bytes());
+    let rows = run(RECORDS, &["pack-list"], sample("stairwell.list").as_bytes());
+    assert!(packed.status.success() && rows.status.success(), "{}", text(&rows.stderr));
+    let rows = file("stairwell", &rows.stdout);
+    let log = run(HUBLOG, &[rows.to_str().unwrap()], &packed.stdout).stdout;
+    assert_eq!(text(&log), sample("stairwell.log"));
+    for words in [" value -500\n", " value 990\n", " value -595\n", " no 17\n", " no 13\n"] {
+        assert!(text(&log).contains(words), "{words:?}");
+    }
+}
+
+#[test]
+fn records_packs_and_unpacks_lists() {
+    let rows = "0 + 3\n0 - 4\n31 + 0\n";
+    let packed = run(RECORDS, &["pack-list"], format!("# a list\n\n{rows}").as_bytes());
+    assert!(packed.status.success());
+    assert_eq!(packed.stdout, [0, 0, 3, 0, 0, 1, 4, 0, 31, 0, 0, 0]);
+    assert_eq!(text(&run(RECORDS, &["unpack-list"], &packed.stdout).stdout), rows);
+    let path = file("packed-list", &packed.stdout);
+    let unpacked = run(RECORDS, &["unpack-list", path.to_str().unwrap()], &[]);
+    assert_eq!(text(&unpacked.stdout), rows);
+    let output = run(RECORDS, &["pack-list"], b"0 + 3\n0 3\n");
+    assert_eq!((output.status.code(), &output.stdout[..]), (Some(1), &b""[..]));
+    let error =
+        "records: standard input: line 2: not of the form: GROUP + REGISTER or GROUP - REGISTER\n";
+    assert_eq!(text(&output.stderr), error);
+}
+
+/// A total of group 0 under a snapshot, in a hub of one register.
+const SUMMED: &str =
+    "setup 1 1 4 1\n put 0 0 7\n step 0 x7\n open 0\n step 0 x2\n total 0 0\n step 0 x2";
+
+/// What is logged for that with these arguments: its setup's line and its last line.
+fn summed(arguments: &[&str]) -> (String, String) {
+    let output = run(HUBLOG, arguments, &records(SUMMED));
+    assert!(output.status.success() && output.stderr.is_empty(), "{}", text(&output.stderr));
+    let lines: Vec<&str> = text(&output.stdout).lines().collect();
+    assert_eq!(lines.len(), 15);
+    (lines[0].to_string(), lines[14].to_string())
+}
+
+#[test]
+fn hublog_takes_the_list_from_the_file_of_its_first_argument() {
+    let named = |name: &str, contents: &[u8]| file(name, contents).to_str().unwrap().to_string();
+    let told = |setup: &str, last: &str| (setup.to_string(), last.to_string());
+    let one = named("one-row", &list("0 - 0"));
+    assert_eq!(summed(&[&one]), told("0 ok", "14 value -7"));
+    // Later arguments are not looked at.
+    assert_eq!(summed(&[&one, "no/such/file"]), told("0 ok", "14 value -7"));
+    // No argument, no such file, an empty file: no list.
+    let empty = named("empty", b"");
+    for arguments in [&[][..], &["no/such/file"], &["--other"], &[""], &[&empty]] {
+        assert_eq!(summed(arguments), told("0 ok", "14 no 11"), "{arguments:?}");
+    }
+    let coverage = run(HUBLOG, &["--coverage", &one], &records(SUMMED));
+    assert!(text(&coverage.stdout).ends_with("14 value -7\n"));
+    assert!(text(&coverage.stderr).contains("           1  a total of one row begins\n"));
+}
+
+/// The longest list is one of 4096 bytes; a longer file is none, however long, and is not read whole.
+#[test]
+fn hublog_refuses_setups_with_a_long_list() {
+    let longest: String = (0..32).map(|group| format!("{group} - 0\n").repeat(32)).collect();
+    let longest = list(&longest);
+    assert_eq!(longest.len(), 4096);
+    let path = file("longest", &longest);
+    let output = run(
+        HUBLOG,
+        &[path.to_str().unwrap()],
+        &records(&SUMMED.replace("step 0 x2", "step 0 x64")),
+    );
+    assert!(text(&output.stdout).lines().any(|line| line.ends_with(" value -224")));
+    for length in [4097, 4100, 8192, 5_000_000] {
+        let path = file("long", &longest.iter().cycle().take(length).copied().collect::<Vec<_>>());
+        let told = summed(&[path.to_str().unwrap()]);
+        assert_eq!(told, ("0 no 5".to_string(), "14 no 8".to_string()), "{length} bytes");
+    }
+    // A file without an end.
+    assert_eq!(summed(&["/dev/zero"]), ("0 no 5".to_string(), "14 no 8".to_string()));
+}
+
+#[test]
+fn hublog_says_where_it_cannot_read_the_list() {
+    let directory = env!("CARGO_TARGET_TMPDIR");
+    // A directory, a name below a file, a name of more bytes than a name may have.
+    let below = format!("{}/list", file("plain", b"").to_str().unwrap());
+    for name in [directory, &below, &"a".repeat(5000)] {
+        let output = run(HUBLOG, &[name], &records(SUMMED));
+        assert_eq!((output.status.code(), &output.stdout[..]), (Some(1), &b""[..]), "{name}");
+    }
+    let output = run(HUBLOG, &[directory], &records(SUMMED));
+    let error = text(&output.stderr);
+    assert!(error.starts_with(&format!("reference-hublog: cannot read {directory}: ")), "{error}");
+    // A file without permission, but for somebody who may read every file.
+    use std::os::unix::fs::PermissionsExt;
+    let closed = file("closed", &list("0 + 0"));
+    fs::set_permissions(&closed, fs::Permissions::from_mode(0o000)).unwrap();
+    if fs::File::open(&closed).is_err() {
+        let output = run(HUBLOG, &[closed.to_str().unwrap()], &records(SUMMED));
+        assert_eq!((output.status.code(), &output.stdout[..]), (Some(1), &b""[..]));
+    }
+    fs::remove_file(closed).unwrap();
+}
+
+#[test]
+fn order_takes_the_list() {
+    let log =
+        run(HUBLOG, &[file("order-rows", &list("0 - 0")).to_str().unwrap()], &records(SUMMED));
+    let (script, log) = (file("total-records", &records(SUMMED)), file("total-log", &log.stdout));
+    let rows = file("order-rows", &list("0 - 0"));
+    let [script, log, rows] = [&script, &log, &rows].map(|path| path.to_str().unwrap());
+    let listing = run(ORDER, &[script, log, rows], &[]);
+    assert!(text(&listing.stdout).contains("total of group 0 "), "{}", text(&listing.stderr));
+    let svg = run(ORDER, &["--svg", script, log, rows], &[]);
+    assert!(text(&svg.stdout).contains(">total g0</text>"), "{}", text(&svg.stderr));
+    let checked = run(CHECK_ORDER, &[script, log, rows], &[]);
+    assert!(checked.status.success(), "{}", text(&checked.stderr));
+    // Without it the total is of a group that has no rows.
+    for (program, name) in [(ORDER, "order"), (CHECK_ORDER, "check-order")] {
+        let output = run(program, &[script, log], &[]);
+        assert_eq!(output.status.code(), Some(1));
+        assert!(text(&output.stderr).contains("group 0 has no rows"), "{}", text(&output.stderr));
+        let output = run(program, &[script, log, "no/such/list"], &[]);
+        assert!(text(&output.stderr).starts_with(&format!("{name}: no/such/list: ")));
+    }
+}
+
 #[test]
 fn records_names_file_line_and_reason() {
     let script = b"open 0\nopen\n";
@@ -123,7 +252,7 @@ fn records_names_file_line_and_reason() {
         let error = format!("records: {name}: line 2: not of the form: open WORKER\n");
         assert_eq!(text(&output.stderr), error);
     }
-    for command in ["pack", "unpack"] {
+    for command in ["pack", "unpack", "pack-list", "unpack-list"] {
         let output = run(RECORDS, &[command, "no/such/file"], &[]);
         assert_eq!(output.status.code(), Some(1));
         assert!(text(&output.stderr).starts_with("records: no/such/file: "));
@@ -131,7 +260,8 @@ fn records_names_file_line_and_reason() {
     for arguments in [&[][..], &["press"], &["pack", path, path]] {
         let output = run(RECORDS, arguments, &[]);
         assert_eq!(output.status.code(), Some(1));
-        assert_eq!(text(&output.stderr), "records: usage: records pack|unpack [FILE]\n");
+        let usage = "records: usage: records pack|unpack|pack-list|unpack-list [FILE]\n";
+        assert_eq!(text(&output.stderr), usage);
     }
 }
 
@@ -145,6 +275,17 @@ fn generate_is_the_same_for_the_same_seed() {
     assert_eq!(first.stdout, again.stdout);
     assert_ne!(first.stdout, other.stdout);
     assert_eq!(run(GENERATE, &["none", "5", "400"], &[]).status.code(), Some(1));
+    // Its list goes to a file.
+    let rows = file("generated-list", b"");
+    let arguments = ["totals", "5", "400", rows.to_str().unwrap()];
+    let script = run(GENERATE, &arguments, &[]);
+    assert_eq!(script.stdout, run(GENERATE, &arguments[..3], &[]).stdout);
+    let list = fs::read(&rows).unwrap();
+    assert!(!list.is_empty() && list.len() % 4 == 0, "{list:?}");
+    let log = run(HUBLOG, &[rows.to_str().unwrap()], &script.stdout).stdout;
+    assert!(!text(&log).contains(" no 5\n") && text(&log).contains(" value -"));
+    assert_eq!(run(GENERATE, &["totals", "5", "4", "x", "y"], &[]).status.code(), Some(1));
+    assert_eq!(run(GENERATE, &["totals", "5", "4", "no/such/d"], &[]).status.code(), Some(1));
 }
 
 #[test]

@@ -1,32 +1,42 @@
-//! The seeded random suite reaches every answer, every refusal of a log, every branch and hubs of
-//! all sizes.
+//! The seeded random suite reaches every answer, every refusal of a log, every branch, hubs of all
+//! sizes and lists of all kinds.
 
 mod common;
 
 use reference::coverage::{Branch, Coverage};
-use reference::generate::{script, Kind};
-use reference::{log, Hub};
+use reference::fault::Right;
+use reference::generate::{script, script_across, Kind};
 
 #[test]
 fn the_random_suite_reaches_everything() {
     let mut total = Coverage::default();
     for (kind, _) in Kind::ALL {
-        for seed in 0..100 {
-            let file = script(kind, seed, 2000);
-            let (answers, coverage) = common::covered(&file);
+        for seed in 0..90 {
+            // Every fifth of them comes over from before A1.
+            let before = if seed % 5 == 4 { 400 } else { 0 };
+            let script = script_across(kind, seed, 2000, before);
+            let (answers, coverage) = common::covered(&script, before);
             // Watching changes nothing.
-            assert_eq!(answers, log::answers(&mut Hub::new(), &file));
+            assert_eq!(answers, common::across::<Right>(&script, before));
             total.add(&coverage);
         }
     }
     println!("{total}");
     assert_eq!(total.missing(), Vec::<String>::new());
-    // Before setup there are few records.
-    for branch in Branch::OF_LIMIT {
-        let least = if branch == Branch::LargeNotSetUp { 40 } else { 1000 };
-        let met = total.branches[branch as usize];
-        assert!(met >= least, "{branch:?} met {met} times");
-    }
+    let least = |branches: &[Branch], least: u64| {
+        for &branch in branches {
+            let met = total.branches[branch as usize];
+            assert!(met >= least, "{branch:?} met {met} times");
+        }
+    };
+    least(&Branch::OF_LIMIT, 1000);
+    least(&Branch::OF_TOTAL, 40);
+    least(&Branch::OF_SUMMAND, 200);
+    least(&Branch::OF_LIST, 1000);
+    // Totals that ended: with an answer on either side of 0, with 18, and refused with 17 or by a list.
+    let refusals = |number: usize| total.refusals[number];
+    assert!(total.answers[6] > 4000 && refusals(17) > 4000 && refusals(18) > 800);
+    assert!(total.lists.iter().all(|&met| met > 30), "{:?}", total.lists);
 }
 
 /// Hubs of middle sizes are used, not only set up: their slots run out, and are freed and taken again.
@@ -34,7 +44,7 @@ fn the_random_suite_reaches_everything() {
 fn hubs_of_middle_sizes_are_used() {
     let (mut refused, mut freed) = (0, 0);
     for seed in 0..100 {
-        let (_, coverage) = common::covered(&script(Kind::Full, seed, 1000));
+        let (_, coverage) = common::covered(&script(Kind::Full, seed, 1000), 0);
         let named = |name: &str| coverage.counts().iter().any(|(other, n)| other == name && *n > 0);
         if named("V 17 to 255 with N 137 to 2047") {
             refused += usize::from(coverage.branches[Branch::PutRefused as usize] > 0);
@@ -51,7 +61,7 @@ fn counts_have_a_name_each() {
     names.sort();
     names.dedup();
     assert_eq!(names.len(), counts.len());
-    // Six answers, refusals 1 to 16 but 7, the branches and the sizes.
+    // Seven answers, refusals 1 to 18 but 7, the branches, the sizes and the lists.
     assert!(names.contains(&&"no 6".to_string()) && !names.contains(&&"no 7".to_string()));
     assert_eq!(Coverage::default().missing().len(), counts.len());
 }

@@ -3,8 +3,8 @@
 
 mod common;
 
-use common::{examined, records};
-use reference::order::{self, Claim, Order, Outcome, Violation};
+use common::{examined, examined_with, records};
+use reference::order::{self, Action, Claim, Order, Outcome, Violation};
 use reference::{log, Answer, Hub};
 
 /// A script with some of the hub's answers replaced is refused at this record, for this.
@@ -116,12 +116,12 @@ fn the_last_clock_is_not_announced() {
 #[test]
 fn there_are_as_many_answers_as_records() {
     let file = records("setup 1 1 2 1\n get 0 0\n step 0\n bytes 07");
-    let mut answers = log::answers(&mut Hub::new(), &file);
-    assert!(order::check(&file, &answers).is_ok());
-    let missing = order::check(&file, &answers[..3]).unwrap_err();
+    let mut answers = log::answers(&mut Hub::new(), &file, &[]);
+    assert!(order::check(&file, &[], &answers).is_ok());
+    let missing = order::check(&file, &[], &answers[..3]).unwrap_err();
     assert_eq!((missing.record, missing.claim), (3, Claim::Fit));
     answers.push(answers[3]);
-    let extra = order::check(&file, &answers).unwrap_err();
+    let extra = order::check(&file, &[], &answers).unwrap_err();
     assert_eq!((extra.record, extra.claim), (4, Claim::Fit));
 }
 
@@ -148,12 +148,13 @@ fn only_workers_and_registers_that_exist_begin() {
 }
 
 /// Every answer that a step may have.
-const ANSWERS: [&str; 8] = ["ok", "going", "done", "freed 0", "at 1", "value 0", "no 14", "no 15"];
+const ANSWERS: [&str; 10] =
+    ["ok", "going", "done", "freed 0", "at 1", "value 0", "value -1", "no 14", "no 15", "no 18"];
 
 #[test]
 fn each_step_has_its_answers() {
     // What was done before the step of worker 0, and which answers the step may have.
-    let cases: [(&str, &[&str]); 12] = [
+    let cases: [(&str, &[&str]); 14] = [
         ("", &[]),
         ("put 0 0 7", &["going", "no 14"]),
         ("put 0 0 7\n step 0", &["going"]),
@@ -166,26 +167,108 @@ fn each_step_has_its_answers() {
         ("open 0\n step 0 x2\n read 0 0\n step 0", &["going", "value 0"]),
         ("open 0\n step 0 x2\n close 0", &["done"]),
         ("get 0 0", &["value 0"]),
+        ("open 0\n step 0 x2\n total 0 0", &["going"]),
+        ("open 0\n step 0 x2\n total 0 0\n step 0", &["going", "value 0", "no 18"]),
     ];
     for (before, allowed) in cases {
         let script = format!("setup 2 1 4 1\n {before}\n step 0");
         let record = records(&script).len() / 16 - 1;
         for words in ANSWERS {
-            match examined(&script, &[(record, words)]).1 {
+            match examined_with("0 + 0", &script, &[(record, words)]).1 {
                 None => assert!(allowed.contains(&words), "{before}: {words} is accepted"),
                 Some(found) => {
                     assert!(!allowed.contains(&words), "{before}: {words}: {found}");
-                    assert_eq!((found.record, found.claim), (record, Claim::Fit), "{words}");
+                    // A total may end so, and shows something else.
+                    let of_total = before.ends_with("total 0 0\n step 0") && words == "value -1";
+                    let claim = if of_total { Claim::Value } else { Claim::Fit };
+                    assert_eq!((found.record, found.claim), (record, claim), "{before}: {words}");
                 }
             }
         }
         // A worker that has an operation takes its step: nothing on reading is left to refuse it.
-        for number in (1..17).filter(|number| !(14..16).contains(number) && !before.is_empty()) {
-            let violation =
-                refused_at(record, Claim::Fit, &script, &[(record, &format!("no {number}"))]);
+        for number in (1..19).filter(|n| ![14, 15, 18].contains(n) && !before.is_empty()) {
+            let replaced = [(record, &format!("no {number}")[..])];
+            let violation = examined_with("0 + 0", &script, &replaced).1.expect("a violation");
+            assert_eq!((violation.record, violation.claim), (record, Claim::Fit));
             assert!(violation.sentence.contains("cannot answer `no "), "{violation}");
         }
     }
+}
+
+/// Registers 0 and 1 with 5 and 3, worker 1's snapshot of them, and its total of group 0 from record 15
+/// on, which ends at record 19.
+const TOTAL: &str =
+    "setup 2 2 9 1\n put 0 0 5\n step 0 x3\n put 0 1 3\n step 0 x8\n open 1\n step 1 x2
+    total 1 0\n step 1 x4";
+const ROWS: &str = "0 + 0\n 0 - 1\n 1 + 1";
+
+#[test]
+fn a_total_shows_the_sum_over_the_copy() {
+    let begin = records(TOTAL).len() / 16 - 5;
+    let answers = |words| [(begin + 4, words)];
+    let (order, violation) = examined_with(ROWS, TOTAL, &[]);
+    let total = order.operations.last().unwrap();
+    assert_eq!((total.begin, total.effect, total.shown), (begin, Some(begin + 4), Some(2)));
+    assert_eq!((order.sequence.len(), violation), (4, None));
+    // Without the last row, with signs exchanged, of all groups, and `value -2` for 2.
+    for words in ["value 5", "value -2", "value 8", "value 0", "value 3"] {
+        let violation = examined_with(ROWS, TOTAL, &answers(words)).1.expect("a violation");
+        assert_eq!((violation.record, violation.claim), (begin + 4, Claim::Value), "{words}");
+        assert!(violation.sentence.ends_with("where 2 is shown"), "{violation}");
+    }
+    // One that met 18 is left out, and shows nothing; so is one that is unfinished.
+    for words in ["no 18", "going"] {
+        let (order, violation) = examined_with(ROWS, TOTAL, &answers(words));
+        assert_eq!((order.sequence.len(), violation), (3, None), "{words}");
+        assert_eq!(order.operations.last().unwrap().effect, None);
+    }
+}
+
+#[test]
+fn a_total_without_a_snapshot_shows_nothing() {
+    let script = "setup 1 1 2 1\n total 0 0\n step 0 x2";
+    let answers = [(1, "ok"), (2, "going"), (3, "value 0")];
+    let violation = examined_with(ROWS.split_once('\n').unwrap().0, script, &answers).1;
+    let violation = violation.expect("a violation");
+    assert_eq!((violation.record, violation.claim), (3, Claim::Value));
+    assert!(violation.sentence.contains("where nothing is shown"), "{violation}");
+}
+
+#[test]
+fn only_lists_and_groups_that_exist_begin() {
+    let set_up = "setup 1 2 2 1";
+    for rows in ["0 + 2", "1 + 0\n 0 + 0", "32 + 0", "bytes 00 02 00 00", "bytes 00"] {
+        let violation = examined_with(rows, set_up, &[(0, "ok")]).1.expect("a violation");
+        assert_eq!((violation.record, violation.claim), (0, Claim::Fit), "{rows}");
+        // Refused, it is as any record that is refused on reading.
+        assert_eq!(examined_with(rows, set_up, &[]).1, None);
+    }
+    for group in [2, 31, 32, 256, 65535] {
+        let script = format!("setup 1 2 2 1\n open 0\n step 0 x2\n total 0 {group}");
+        let violation = examined_with(ROWS, &script, &[(4, "ok")]).1.expect("a violation");
+        assert_eq!((violation.record, violation.claim), (4, Claim::Fit), "{group}");
+        assert_eq!(examined_with(ROWS, &script, &[]).1, None);
+    }
+    // 18 is no answer to a begin.
+    let begun = "setup 1 2 2 1\n open 0\n step 0 x2\n total 0 0";
+    let violation = examined_with(ROWS, begun, &[(4, "no 18")]).1.expect("a violation");
+    assert_eq!((violation.record, violation.claim), (4, Claim::Fit));
+}
+
+/// A put that is stamped by a total has its effect at the first step of that row, which the checker
+/// finds by following the total, also off a version that is freed under it.
+#[test]
+fn a_total_stamps_row_by_row() {
+    let script =
+        "setup 2 2 6 1\n put 0 0 5\n step 0 x3\n open 1\n step 1 x2\n put 0 0 6\n step 0 x8
+        total 1 0\n step 1\n put 0 0 7\n step 0 x3\n collect 0\n step 0 x6\n collect 0\n step 0 x6
+        put 0 1 9\n step 0\n step 1 x2\n get 0 0\n step 1";
+    let (order, violation) = examined_with("0 + 0\n 0 + 1", script, &[]);
+    assert_eq!((violation, order.freed), (None, 2));
+    let put = order.operations.iter().rfind(|o| matches!(o.action, Action::Put { .. })).unwrap();
+    // Its first step, the total's (2) on the version that it was moved to, and (1) of its second row.
+    let first = put.begin + 1;
+    assert_eq!((put.effect, put.outcome), (Some(first + 2), Outcome::Unfinished));
 }
 
 #[test]
@@ -206,7 +289,7 @@ fn all_outcomes() -> Order {
     let file = records(
         "setup 2 1 2 1\n put 0 0 7\n step 0 x3\n get 1 0\n step 1\n put 0 0 8\n step 0\n open 0",
     );
-    order::check(&file, &log::answers(&mut Hub::new(), &file)).expect("in order")
+    order::check(&file, &[], &log::answers(&mut Hub::new(), &file, &[])).expect("in order")
 }
 
 /// What breaks an order with another sequence.

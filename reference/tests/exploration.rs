@@ -4,16 +4,13 @@
 //! change them. The larger ones are ignored by default: `cargo test --release -- --ignored`.
 
 use reference::explore::{explore, Explored, Size};
-use reference::fault::{
-    CoveringLow, Fault, GetHides, HighInside, LimitRefused, NewerThanOldest, NextAccepted,
-    ReadHides, Right, TimesFirst, ValueAfterBusy, ValueAtStep, ValueIdles,
-};
+use reference::fault::*;
 use reference::store::MAX_VALUE;
 
 /// A hub whose clock is set up so many below its last value.
 fn size(workers: u8, registers: u16, slots: u16, below: u32, values: &'static [u64]) -> Size {
     let clock = u32::MAX - below;
-    Size { workers, registers, slots, clock, values, max_values: &[MAX_VALUE] }
+    Size { workers, registers, slots, clock, list: &[], values, max_values: &[MAX_VALUE] }
 }
 
 fn states(size: Size) -> usize {
@@ -122,4 +119,68 @@ fn near_misses_of_a1_are_found() {
     assert!(found::<ValueAtStep>(small).ends_with("14 is not exact: No(Value)"));
     assert!(found::<GetHides>(small).starts_with("a get: Value(999999999999), not"));
     assert!(found::<ReadHides>(small).starts_with("a read: 999999999999, not"));
+}
+
+/// With a list: every total of its groups, and of one that has no rows.
+fn with_list(size: Size, list: &'static [u8]) -> Size {
+    Size { list, ..size }
+}
+
+/// One register that is subtracted; one twice, added and subtracted; two registers; two groups.
+const MINUS: &[u8] = &[0, 1, 0, 0];
+const TWICE: &[u8] = &[0, 0, 0, 0, 0, 1, 0, 0];
+const TWO: &[u8] = &[0, 0, 0, 0, 0, 1, 1, 0];
+const GROUPS: &[u8] = &[0, 0, 0, 0, 1, 1, 0, 0];
+
+#[test]
+fn totals_of_one_worker() {
+    assert_eq!(states(with_list(size(1, 1, 2, 1, &[1, 2]), TWICE)), 1106);
+    assert_eq!(states(with_list(size(1, 1, 3, 2, &[1, 2]), TWICE)), 19_493);
+    assert_eq!(states(with_list(size(1, 2, 4, 1, &[1]), TWO)), 22_687);
+}
+
+#[test]
+fn totals_of_two_workers() {
+    assert_eq!(states(with_list(size(2, 1, 2, 2, &[1]), TWICE)), 104_782);
+}
+
+/// Versions are freed under them.
+#[test]
+fn totals_with_three_slots() {
+    assert_eq!(states(with_list(size(2, 1, 3, 1, &[1]), MINUS)), 310_685);
+}
+
+#[test]
+fn totals_of_values_from_before_a1() {
+    assert_eq!(states(across(with_list(size(1, 1, 3, 2, AT_LIMIT), TWICE))), 18_901);
+}
+
+#[test]
+#[ignore = "a few seconds"]
+fn totals_of_two_registers() {
+    assert_eq!(states(with_list(size(2, 2, 3, 1, &[1]), TWO)), 231_088);
+}
+
+#[test]
+fn near_misses_of_a2_are_found() {
+    fn found<F: Fault + Clone>(size: Size) -> String {
+        let reason = explore::<F>(size, false).unwrap_err();
+        reason.lines().next().unwrap_or_default().to_string()
+    }
+    let small = |list| with_list(size(1, 1, 3, 2, &[1, 2]), list);
+    let sums = [
+        found::<SumWithoutLast>(small(TWICE)),
+        found::<SignsExchanged>(small(MINUS)),
+        found::<TotalNewest>(small(MINUS)),
+        found::<TwiceOnce>(small(TWICE)),
+        found::<NextGroupToo>(small(GROUPS)),
+        found::<LimitNotSummed>(across(with_list(size(1, 1, 2, 1, AT_LIMIT), MINUS))),
+    ];
+    for reason in &sums {
+        assert!(reason.starts_with("a total: "), "{sums:?}");
+    }
+    let begin = found::<LargeAtBegin>(across(with_list(size(1, 1, 2, 1, AT_LIMIT), MINUS)));
+    assert!(begin.ends_with("No(Summand), not Ok"), "{begin}");
+    assert!(found::<GroupAfterBusy>(small(MINUS)).ends_with("No(Busy), not No(Group)"));
+    assert!(found::<GroupAfterSnapshot>(small(MINUS)).ends_with("not No(Group)"));
 }

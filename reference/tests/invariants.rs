@@ -2,7 +2,7 @@
 
 mod common;
 
-use reference::generate::{script_across, Kind};
+use reference::generate::{script_across, Kind, Script};
 use reference::invariant::{self, Ghost};
 use reference::record::LENGTH;
 use reference::{Answer, Hub, Record};
@@ -12,10 +12,11 @@ use reference::{Answer, Hub, Record};
 fn run(kind: Kind, seed: u64, count: usize, before: usize) -> Result<(), String> {
     let mut hub = Hub::new();
     let mut ghost = None;
-    for (number, bytes) in script_across(kind, seed, count, before).chunks(LENGTH).enumerate() {
+    let Script { records, list } = script_across(kind, seed, count, before);
+    for (number, bytes) in records.chunks(LENGTH).enumerate() {
         common::set_rule(&mut hub, number, before);
         let earlier = hub.store().cloned();
-        let answer = hub.take(bytes);
+        let answer = hub.take(bytes, &list);
         let Some(after) = hub.store() else { continue };
         let (Some(earlier), Some(ghost)) = (&earlier, &mut ghost) else {
             ghost = Some(Ghost::start(after));
@@ -39,7 +40,7 @@ fn random_scripts_keep_the_invariant() {
         let (seeds, count) = match kind {
             Kind::Large => (3, 8000),
             Kind::Sizes => (10, 1000),
-            _ => (30, 1000),
+            _ => (27, 1000),
         };
         for seed in 0..seeds {
             // Every third of them comes over from before A1.

@@ -5,7 +5,7 @@ mod common;
 
 use common::{across, last, no, records, run, set_rule, words};
 use reference::fault::Right;
-use reference::generate::{script_across, Kind};
+use reference::generate::{script_across, Kind, Script};
 use reference::order;
 use reference::record::LENGTH;
 use reference::store::{Doing, Store, MAX_VALUE};
@@ -54,11 +54,11 @@ fn puts_above_the_limit_are_refused() {
 /// 16 is about puts: no other record has a value.
 #[test]
 fn other_records_have_no_value() {
-    for operation in [0, 2, 3, 4, 5, 6, 7] {
+    for operation in [0, 2, 3, 4, 5, 6, 7, 8] {
         let mut bytes = [0xff; LENGTH];
         bytes[..8].copy_from_slice(&[operation, 0, 0, 0, 0, 0, 0, 0]);
         let mut hub = common::hub_after("setup 1 1 1 1");
-        assert_eq!(hub.take(&bytes), no(2), "operation {operation}");
+        assert_eq!(hub.take(&bytes, &[]), no(2), "operation {operation}");
     }
 }
 
@@ -66,9 +66,9 @@ fn other_records_have_no_value() {
 fn words_across(before: &str, after: &str) -> Vec<String> {
     let (before, after) = (records(before), records(after));
     let number = before.len() / LENGTH;
-    let file = [before, after].concat();
-    let answers = across::<Right>(&file, number);
-    order::check(&file, &answers).expect("in order");
+    let script = Script::plain([before, after].concat());
+    let answers = across::<Right>(&script, number);
+    order::check(&script.records, &[], &answers).expect("in order");
     words(&answers[number..])
 }
 
@@ -185,19 +185,19 @@ impl Met {
         }
     }
 
-    /// Takes a file whose first `before` records come before A1.
-    fn follow(&mut self, file: &[u8], before: usize) -> Vec<Answer> {
+    /// Takes a script whose first `before` records come before A1.
+    fn follow(&mut self, script: &Script, before: usize) -> Vec<Answer> {
         let mut hub = Hub::new();
         let take = |(number, bytes)| {
             set_rule(&mut hub, number, before);
             let store = hub.store().filter(|_| number >= before).cloned();
-            let answer = hub.take(bytes);
+            let answer = hub.take(bytes, &script.list);
             if let (Some(store), Ok(record)) = (store, Record::decode(bytes)) {
                 self.see(&store, record, answer);
             }
             answer
         };
-        file.chunks(LENGTH).enumerate().map(take).collect()
+        script.records.chunks(LENGTH).enumerate().map(take).collect()
     }
 }
 
@@ -206,9 +206,9 @@ fn random_scripts_come_over_from_before() {
     let mut met = Met::default();
     for (kind, name) in Kind::ALL {
         for seed in 0..60 {
-            let file = script_across(kind, 7000 + seed, 600, 300);
-            let answers = met.follow(&file, 300);
-            if let Err(violation) = order::check(&file, &answers) {
+            let script = script_across(kind, 7000 + seed, 600, 300);
+            let answers = met.follow(&script, 300);
+            if let Err(violation) = order::check(&script.records, &script.list, &answers) {
                 panic!("{name} {seed}: {violation}");
             }
         }

@@ -2,8 +2,11 @@
 
 mod common;
 
-use common::{examined, sample};
+use common::{across, examined, examined_with, list, records, sample};
+use reference::fault::Right;
+use reference::generate::Script;
 use reference::listing::Listing;
+use reference::order;
 use reference::store::MAX_VALUE;
 
 /// The text for a script, with some of the hub's answers replaced.
@@ -112,4 +115,47 @@ fn a_slot_freed_twice_ends_the_order() {
     let listing = listing(script, &[(record + 1, "freed 0")]);
     let verdict = format!("\nNot accepted, and followed no further: record {}: slot 0", record + 1);
     assert!(listing.contains(&verdict), "{listing}");
+}
+
+/// Its rows in the order, and the registers of its group below.
+#[test]
+fn totals_are_listed_with_their_registers() {
+    let rows = "3 + 0\n 3 - 1\n 3 - 1\n 4 - 0\n 5 + 1";
+    let script =
+        "setup 1 2 4 1\n put 0 1 7\n step 0 x9\n open 0\n step 0 x2\n total 0 3\n step 0 x6
+        total 0 4\n step 0";
+    let (order, violation) = examined_with(rows, script, &[]);
+    let listing = Listing::new(&order, violation.as_ref()).to_string();
+    let placed = self::rows(&listing, "place operation");
+    assert_eq!(placed[2..], ["3 total of group 3 0 14 20 20 value -14 -14"], "{listing}");
+    assert_eq!(
+        self::rows(&listing, "operation worker"),
+        ["total of group 4 0 21 - unfinished and without effect: counts as not begun"]
+    );
+    assert!(
+        listing.contains("\nTotals:\n\n  group  sum\n      3  r0 - r1 - r1\n      4  -r0\n\n"),
+        "{listing}"
+    );
+    assert!(listing.contains("every finished get, read and total answered"), "{listing}");
+    assert!(listing.contains("a get, a read or a total finds"), "{listing}");
+    // A wrong sum is told as a wrong value is.
+    let (order, violation) = examined_with(rows, script, &[(20, "value 14")]);
+    let listing = Listing::new(&order, violation.as_ref()).to_string();
+    let verdict = "Not accepted: record 20: worker 0's total of group 3, begun by record 14, \
+        answers `value 14` where -14 is shown\n";
+    assert!(listing.ends_with(verdict), "{listing}");
+}
+
+#[test]
+fn a_total_refused_with_18_is_listed() {
+    let before = records("setup 1 1 4 1\n put 0 0 1000000000000\n step 0 x7\n open 0\n step 0 x2");
+    let number = before.len() / 16;
+    let records = [before, records("total 0 0\n step 0 x2")].concat();
+    let script = Script { records, list: list("0 + 0") };
+    let answers = across::<Right>(&script, number);
+    let order = order::check(&script.records, &script.list, &answers).expect("in order");
+    let listing = Listing::new(&order, None).to_string();
+    let why =
+        "total of group 0 0 12 14 refused with 18: a value to be summed is above 999999999999";
+    assert_eq!(rows(&listing, "operation worker"), [why], "{listing}");
 }

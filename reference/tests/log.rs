@@ -19,7 +19,7 @@ const EXAMPLE: &str = "
 
 fn log_of(file: &[u8]) -> String {
     let mut output = Vec::new();
-    log::run(&mut Hub::new(), &mut &file[..], &mut output, |_, _| {}).unwrap();
+    log::run(&mut Hub::new(), &[], &mut &file[..], &mut output, |_, _| {}).unwrap();
     String::from_utf8(output).unwrap()
 }
 
@@ -49,11 +49,11 @@ impl Read for Pieces<'_> {
 #[test]
 fn pieces_of_any_size_give_one_log() {
     for seed in 0..20 {
-        let file = script(Kind::Tails, seed, 12_000);
+        let script = script(Kind::Tails, seed, 12_000);
         let mut output = Vec::new();
-        let mut pieces = Pieces(&file, Random::new(seed));
-        log::run(&mut Hub::new(), &mut pieces, &mut output, |_, _| {}).unwrap();
-        assert_eq!(output, log::log_text(&log::answers(&mut Hub::new(), &file)));
+        let mut pieces = Pieces(&script.records, Random::new(seed));
+        log::run(&mut Hub::new(), &script.list, &mut pieces, &mut output, |_, _| {}).unwrap();
+        assert_eq!(output, log::log_text(&script.answers()));
     }
 }
 
@@ -75,7 +75,7 @@ fn a_read_that_fails_makes_no_record_of_a_rest() {
     for length in 0..=file.len() {
         let mut output = Vec::new();
         let mut input = Broken(&file[..length]);
-        let result = log::run(&mut Hub::new(), &mut input, &mut output, |_, _| {});
+        let result = log::run(&mut Hub::new(), &[], &mut input, &mut output, |_, _| {});
         assert!(matches!(result, Err(Failure::Read(_))), "{length}");
         assert_eq!(String::from_utf8(output).unwrap(), ["", "0 ok\n", "0 ok\n1 ok\n"][length / 16]);
     }
@@ -111,9 +111,10 @@ fn words_both_ways() {
     answers.extend([0, 1, 9, 10, 2047].map(Answer::Freed));
     answers.extend([1, 5, 4294967294].map(Answer::At));
     answers.extend([0, 7, 1 << 63, u64::MAX].map(Answer::Value));
+    answers.extend([1, 5, 31_999_999_999_968].map(Answer::Minus));
     answers.extend(Refusal::ALL.map(Answer::No));
     let text = String::from_utf8(log::log_text(&answers)).unwrap();
-    assert!(text.contains("14 value 18446744073709551615\n"));
+    assert!(text.contains("14 value 18446744073709551615\n15 value -1\n16 value -5\n"));
     let lines = answers.iter().enumerate();
     assert_eq!(text, lines.map(|(n, answer)| format!("{n} {answer}\n")).collect::<String>());
     assert_eq!(log::parse_log(&text), Ok(answers));
@@ -128,7 +129,17 @@ fn what_is_no_log() {
         "0 ok \n",
         "0 freed\n",
         "0 freed 01\n",
-        "0 no 17\n",
+        "0 no 19\n",
+        "0 value\n",
+        "0 value -\n",
+        "0 value -0\n",
+        "0 value -05\n",
+        "0 value - 5\n",
+        "0 value --5\n",
+        "0 value +5\n",
+        "0 at -5\n",
+        "0 freed -1\n",
+        "0 no -1\n",
         "ok\n",
     ] {
         assert!(log::parse_log(text).is_err(), "{text:?}");

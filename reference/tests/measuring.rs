@@ -42,6 +42,7 @@ fn bench_prints_its_tables() {
     let printed = text(&output.stdout);
     for line in [
         "small (P 2, V 4, N 16)",
+        "totals (P 16, V 256, N 2048)",
         "uniform (P 16, V 256, N 2048)",
         "growth-2048",
         "plain-16",
@@ -53,6 +54,10 @@ fn bench_prints_its_tables() {
     }
     assert!(printed.contains("5000 records a file, seed 1, 2 rounds."), "{printed}");
     assert_eq!(fs::metadata(files.join("reads")).unwrap().len(), 16 * 5000);
+    assert_eq!(fs::metadata(files.join("totals.list")).unwrap().len(), 4 * 1024);
+    // With the list no total is refused.
+    let totals = printed.lines().filter(|line| line.starts_with("| totals ")).last().unwrap();
+    assert!(totals.ends_with("   0.0 |"), "{printed}");
 }
 
 #[test]
@@ -86,13 +91,17 @@ fn bench_counts_instructions() {
         let arguments = [&paths[..], &options[..]].concat();
         Command::new(BENCH).args(arguments).env("PATH", &programs).output().unwrap()
     };
-    valgrind(&programs, "echo '==7== Collected : 250000' >&2");
+    // Only `totals` comes with an argument, its list.
+    let number = "case $4 in '') echo 250000;; */totals.list) echo 350000;; esac";
+    valgrind(&programs, &format!("echo \"==7== Collected : $({number})\" >&2"));
     let output = count();
     assert!(output.status.success(), "{}", text(&output.stderr));
     let printed = text(&output.stdout);
-    let counted = |line: &&str| line.contains(" 250 ") && line.contains(" 1.00 ");
-    let lines = printed.lines().filter(counted).count();
-    assert_eq!(lines, Workload::ALL.len(), "{printed}");
+    let counted = |number: &str| {
+        let line = |line: &&str| line.contains(number) && line.contains(" 1.00 ");
+        printed.lines().filter(line).count()
+    };
+    assert_eq!((counted(" 250 "), counted(" 350 ")), (Workload::ALL.len() - 1, 1), "{printed}");
     valgrind(&programs, "exit 1");
     assert!(text(&count().stderr).contains("valgrind fails on"));
     fs::remove_file(programs.join("valgrind")).unwrap();

@@ -1,12 +1,13 @@
 //! Document 01's four ways to get it nearly right: each is caught by comparing logs with the
 //! right hub, and the third and fourth by the order checker, which sees only records and log. Then
-//! the near misses of A1: each by a short script, by random ones, and some by the order checker.
+//! the near misses of A1 and of A2: each by a short script, by random ones, and some by the order
+//! checker.
 
 mod common;
 
-use common::{across, records, words};
+use common::{across, list, records, words};
 use reference::fault::*;
-use reference::generate::{script, script_across, Kind};
+use reference::generate::{script, script_across, Kind, Script};
 use reference::order::{self, Claim};
 use reference::record::LENGTH;
 
@@ -22,7 +23,7 @@ const KINDS: [Kind; 7] = [
     Kind::Stalled,
 ];
 
-fn scripts() -> impl Iterator<Item = Vec<u8>> {
+fn scripts() -> impl Iterator<Item = Script> {
     KINDS.iter().flat_map(|&kind| (0..SEEDS).map(move |seed| script(kind, seed, RECORDS)))
 }
 
@@ -33,15 +34,16 @@ fn caught<F: Fault>() -> (usize, Vec<Claim>) {
 
 /// The same for scripts whose first `before` records come before A1.
 fn caught_in<F: Fault>(
-    scripts: impl Iterator<Item = Vec<u8>>,
+    scripts: impl Iterator<Item = Script>,
     before: usize,
 ) -> (usize, Vec<Claim>) {
     let mut differing = 0;
     let mut claims = Vec::new();
-    for file in scripts {
-        let log = across::<F>(&file, before);
-        differing += usize::from(log != across::<Right>(&file, before));
-        claims.extend(order::check(&file, &log).err().map(|violation| violation.claim));
+    for script in scripts {
+        let log = across::<F>(&script, before);
+        differing += usize::from(log != across::<Right>(&script, before));
+        let found = order::check(&script.records, &script.list, &log).err();
+        claims.extend(found.map(|violation| violation.claim));
     }
     (differing, claims)
 }
@@ -104,11 +106,16 @@ fn caught_by_limit<F: Fault>() -> (usize, usize, Vec<Claim>) {
 
 /// The last answers of the right hub and of the fault to two texts, the first from before A1.
 fn told<F: Fault>(before: &str, after: &str) -> [String; 2] {
+    told_with::<F>(Vec::new(), before, after)
+}
+
+/// The same with a list.
+fn told_with<F: Fault>(list: Vec<u8>, before: &str, after: &str) -> [String; 2] {
     let (before, after) = (records(before), records(after));
     let number = before.len() / LENGTH;
-    let file = [before, after].concat();
+    let script = Script { records: [before, after].concat(), list };
     let last = |answers: &[_]| words(answers).pop().expect("a record");
-    [last(&across::<Right>(&file, number)), last(&across::<F>(&file, number))]
+    [last(&across::<Right>(&script, number)), last(&across::<F>(&script, number))]
 }
 
 #[test]
@@ -174,4 +181,134 @@ fn random_scripts_for_near_misses_with_values_from_before_a1() {
         claims.len() > 30 && claims.iter().all(|&claim| claim == Claim::Fit),
         "a step answered 8"
     );
+}
+
+/// Two registers with 100 and 20, and worker 1's snapshot of them.
+const READINGS: &str = "setup 2 2 9 1\n put 0 0 100\n step 0 x3\n put 0 1 20\n step 0 x8
+    open 1\n step 1 x2";
+
+/// The last answers of the right hub and of the fault after the readings, with this list.
+fn summed<F: Fault>(rows: &str, script: &str) -> [String; 2] {
+    told_with::<F>(list(rows), "", &format!("{READINGS}\n {script}"))
+}
+
+#[test]
+fn a_short_script_for_each_near_miss_of_a_total() {
+    let two = "0 + 0\n 0 - 1\n 1 + 1";
+    let total = "total 1 0\n step 1 x4";
+    assert_eq!(summed::<SumWithoutLast>(two, total), ["value 80", "value 100"]);
+    assert_eq!(summed::<SignsExchanged>(two, total), ["value 80", "value -80"]);
+    assert_eq!(summed::<NextGroupToo>(two, total), ["value 80", "going"]);
+    assert_eq!(summed::<NextGroupToo>(two, "total 1 0\n step 1 x6"), ["no 11", "value 100"]);
+    assert_eq!(summed::<TwiceOnce>("0 + 1\n 0 + 1", total), ["value 40", "value 20"]);
+    let newer = "put 0 0 7\n step 0 x3\n total 1 0\n step 1 x5";
+    assert_eq!(summed::<TotalNewest>(two, newer), ["value 80", "no 11"]);
+    let newer = newer.replace("x5", "x4");
+    assert_eq!(summed::<TotalNewest>(two, &newer), ["going", "value -13"]);
+    // The script of `a_total_moves_off_a_freed_version` in the tests of totals.
+    let freed = "setup 2 2 5 1\n put 0 0 5\n step 0 x3\n open 1\n step 1 x2\n put 0 0 6\n step 0 x8
+        total 1 0\n step 1\n put 0 0 7\n step 0 x3\n collect 0\n step 0 x6\n collect 0\n step 0 x6
+        put 0 1 1000\n step 0 x3\n step 1";
+    let left = told_with::<LeaveTotal>(list("0 + 0"), "", freed);
+    assert_eq!(left, ["value 5", "going"]);
+    let left = told_with::<LeaveTotal>(list("0 + 0"), "", &format!("{freed}\n step 1"));
+    assert_eq!(left, ["no 11", "value 0"]);
+}
+
+#[test]
+fn a_short_script_for_each_near_miss_of_17_and_18() {
+    let rows = "0 + 0\n 2 + 0";
+    assert_eq!(summed::<GroupByte>(rows, "total 1 256"), ["no 17", "ok"]);
+    assert_eq!(summed::<GroupByte>(rows, "total 1 257"), ["no 17", "no 17"]);
+    assert_eq!(summed::<GroupAfterBusy>(rows, "get 0 0\n total 0 1"), ["no 17", "no 10"]);
+    assert_eq!(summed::<GroupAfterBusy>(rows, "total 0 1"), ["no 17", "no 17"]);
+    assert_eq!(summed::<GroupAfterSnapshot>(rows, "total 0 1"), ["no 17", "no 13"]);
+    assert_eq!(summed::<GroupAfterSnapshot>(rows, "total 1 1"), ["no 17", "no 17"]);
+    let limit = "setup 2 1 4 1\n put 0 0 999999999999\n step 0 x3\n open 1\n step 1 x2";
+    let total = "total 1 0\n step 1 x2";
+    let told = told_with::<LimitNotSummed>(list("0 + 0"), limit, total);
+    assert_eq!(told, ["value 999999999999", "no 18"]);
+    // The large value is newer than the snapshot.
+    let before = format!("{READINGS}\n put 0 0 1000000000000\n step 0 x3");
+    assert_eq!(told_with::<LargeAtBegin>(list(rows), &before, "total 1 0"), ["ok", "no 18"]);
+    let told = told_with::<LargeAtBegin>(list(rows), &before, "total 1 0\n step 1 x3");
+    assert_eq!(told, ["value 100", "no 11"]);
+}
+
+#[test]
+fn a_short_list_for_each_near_miss_of_a_list() {
+    fn set_up<F: Fault>(list: Vec<u8>) -> [String; 2] {
+        told_with::<F>(list, "", "setup 1 2 2 1")
+    }
+    assert_eq!(set_up::<FallingGroup>(list("1 + 0\n 0 + 0")), ["no 5", "ok"]);
+    assert_eq!(set_up::<Row33>(list(&"0 + 0\n".repeat(33))), ["no 5", "ok"]);
+    assert_eq!(set_up::<Row33>(list(&"0 + 0\n".repeat(34))), ["no 5", "no 5"]);
+    assert_eq!(set_up::<RegisterV>(list("0 + 2")), ["no 5", "ok"]);
+    assert_eq!(set_up::<RegisterV>(list("0 + 3")), ["no 5", "no 5"]);
+    assert_eq!(set_up::<SignTwo>(vec![0, 2, 0, 0]), ["no 5", "ok"]);
+    assert_eq!(set_up::<SignTwo>(vec![0, 3, 0, 0]), ["no 5", "no 5"]);
+}
+
+/// Scripts for the near misses of A2, half of them over from before A1.
+fn caught_by_totals<F: Fault>() -> (usize, Vec<Claim>) {
+    const TOTAL_KINDS: [Kind; 4] = [Kind::Mixed, Kind::Invalid, Kind::Totals, Kind::Lists];
+    let scripts = |before| {
+        let seeded =
+            move |kind| (0..30).map(move |seed| script_across(kind, 6000 + seed, 800, before));
+        TOTAL_KINDS.into_iter().flat_map(seeded)
+    };
+    let (throughout, mut claims) = caught_in::<F>(scripts(0), 0);
+    let (over, more) = caught_in::<F>(scripts(BEFORE), BEFORE);
+    claims.extend(more);
+    (throughout + over, claims)
+}
+
+/// Random scripts tell the near misses of totals, and the checker finds other values than are shown.
+#[test]
+fn random_scripts_for_each_near_miss_of_a_total() {
+    fn caught<F: Fault>(least: usize, least_values: usize) {
+        let (differing, claims) = caught_by_totals::<F>();
+        let values = claims.iter().filter(|&&claim| claim == Claim::Value).count();
+        assert!(differing > least && values > least_values, "{differing}, {values}");
+        // One that reads in other steps may stamp other versions, and free what is needed.
+        assert!(claims.len() - values < 10, "{claims:?}");
+    }
+    caught::<SumWithoutLast>(80, 80);
+    caught::<SignsExchanged>(80, 80);
+    caught::<TotalNewest>(80, 80);
+    caught::<TwiceOnce>(60, 60);
+    caught::<NextGroupToo>(20, 10);
+    caught::<LeaveTotal>(20, 5);
+}
+
+#[test]
+fn random_scripts_for_each_near_miss_of_17_and_18() {
+    // The begin is answered as a step is.
+    let (differing, claims) = caught_by_totals::<LargeAtBegin>();
+    assert!(differing > 50);
+    assert_eq!(claims, vec![Claim::Fit; differing]);
+    for caught in [
+        caught_by_totals::<LimitNotSummed>,
+        caught_by_totals::<GroupByte>,
+        caught_by_totals::<GroupAfterBusy>,
+        caught_by_totals::<GroupAfterSnapshot>,
+    ] {
+        let (differing, _) = caught();
+        assert!(differing > 15, "{differing}");
+    }
+}
+
+/// A setup that is accepted with a list that is none does not fit.
+#[test]
+fn random_lists_for_each_near_miss_of_a_list() {
+    fn caught<F: Fault>() {
+        let scripts = (0..800).map(|seed| script(Kind::Lists, 6000 + seed, 30));
+        let (differing, claims) = caught_in::<F>(scripts, 0);
+        assert!(differing > 10, "{differing}");
+        assert_eq!(claims, vec![Claim::Fit; differing]);
+    }
+    caught::<FallingGroup>();
+    caught::<Row33>();
+    caught::<RegisterV>();
+    caught::<SignTwo>();
 }

@@ -11,8 +11,8 @@ use reference::{Answer, Hub};
 /// Checks a script with the answers that the hub gives.
 fn check(script: &str) -> order::Order {
     let file = records(script);
-    let answers = log::answers(&mut Hub::new(), &file);
-    order::check(&file, &answers).expect("in order")
+    let answers = log::answers(&mut Hub::new(), &file, &[]);
+    order::check(&file, &[], &answers).expect("in order")
 }
 
 /// Checks a script with some of the hub's answers replaced.
@@ -24,10 +24,9 @@ fn check_with(script: &str, replaced: &[(usize, &str)]) -> Violation {
 fn random_scripts_of_all_kinds_are_in_order() {
     let mut operations = 0;
     for (kind, name) in Kind::ALL {
-        for seed in 0..250 {
-            let file = script(kind, seed, if kind == Kind::Large { 6000 } else { 1200 });
-            let answers = log::answers(&mut Hub::new(), &file);
-            match order::check(&file, &answers) {
+        for seed in 0..220 {
+            let script = script(kind, seed, if kind == Kind::Large { 6000 } else { 1200 });
+            match order::check(&script.records, &script.list, &script.answers()) {
                 Ok(order) => operations += order.sequence.len(),
                 Err(violation) => panic!("{name} {seed}: {violation}"),
             }
@@ -167,7 +166,7 @@ const FREE: &str = "setup 1 2 6 1
 #[test]
 fn freeing_what_a_snapshot_needs_is_found() {
     let file = records(FREE);
-    let answers = log::answers(&mut Hub::new(), &file);
+    let answers = log::answers(&mut Hub::new(), &file, &[]);
     let place = answers.iter().position(|&answer| answer == Answer::Freed(0)).unwrap();
     // Slot 1 is register 1's only version, slot 2 the version just covered.
     for (slot, claim) in [("freed 1", Claim::Fit), ("freed 5", Claim::Fit), ("freed 9", Claim::Fit)]
@@ -185,7 +184,7 @@ fn freeing_what_a_snapshot_needs_is_found() {
         step 0 x5
         step 0 x2";
     let file = records(script);
-    let answers = log::answers(&mut Hub::new(), &file);
+    let answers = log::answers(&mut Hub::new(), &file, &[]);
     let place = answers.iter().position(|&answer| answer == Answer::Freed(0)).unwrap();
     // Slot 0 has range 0 to 1, slot 1 has 1 to 2, which worker 1's time 1 needs.
     let violation = check_with(script, &[(place, "freed 1")]);
@@ -196,7 +195,7 @@ fn freeing_what_a_snapshot_needs_is_found() {
 #[test]
 fn freeing_twice_is_found() {
     let file = records(FREE);
-    let answers = log::answers(&mut Hub::new(), &file);
+    let answers = log::answers(&mut Hub::new(), &file, &[]);
     let place = answers.iter().position(|&answer| answer == Answer::Freed(0)).unwrap();
     let violation = check_with(FREE, &[(place + 1, "freed 0")]);
     assert_eq!((violation.record, violation.claim), (place + 1, Claim::FreedTwice));
@@ -219,9 +218,9 @@ fn answers_that_fit_no_record_are_found() {
         assert_eq!((violation.record, violation.claim), (record, Claim::Fit), "{record} {words}");
     }
     let file = records(script);
-    let answers = log::answers(&mut Hub::new(), &file);
-    assert_eq!(order::check(&file, &answers[1..]).unwrap_err().claim, Claim::Fit);
-    assert_eq!(order::check(&file[16..], &answers).unwrap_err().claim, Claim::Fit);
+    let answers = log::answers(&mut Hub::new(), &file, &[]);
+    assert_eq!(order::check(&file, &[], &answers[1..]).unwrap_err().claim, Claim::Fit);
+    assert_eq!(order::check(&file[16..], &[], &answers).unwrap_err().claim, Claim::Fit);
     // A second setup that is accepted, a step of an idle worker, a begin on a busy one.
     let script = "setup 1 1 2 1\n setup 1 1 2 1\n step 0\n get 0 0\n get 0 0";
     for (record, words) in [(1, "ok"), (2, "going"), (4, "ok")] {
@@ -233,14 +232,15 @@ fn answers_that_fit_no_record_are_found() {
 fn random_logs_never_make_the_checker_fail_otherwise() {
     // Answers of other scripts: mostly unfit, and always told as a violation or an order.
     for seed in 0..300 {
-        let file = script(Kind::Mixed, seed, 300);
-        let other = script(Kind::Batches, seed + 1, 300);
-        let answers = log::answers(&mut Hub::new(), &other);
-        let _ = order::check(&file, &answers);
-        let mut mixed = log::answers(&mut Hub::new(), &file);
+        let kind = if seed % 2 == 0 { Kind::Mixed } else { Kind::Totals };
+        let (script, other) = (script(kind, seed, 300), script(Kind::Batches, seed + 1, 300));
+        let answers = other.answers();
+        let check = |answers: &[_]| order::check(&script.records, &script.list, answers);
+        let _ = check(&answers);
+        let mut mixed = script.answers();
         for (place, answer) in mixed.iter_mut().enumerate().filter(|(place, _)| place % 37 == 36) {
             *answer = answers[place % answers.len()];
         }
-        let _ = order::check(&file, &mixed);
+        let _ = check(&mixed);
     }
 }

@@ -22,7 +22,7 @@ type Range = (usize, u64, u64);
 
 #[derive(Clone, Default)]
 struct Worker {
-    /// Operation number, register, value; none when idle.
+    /// Operation number, register or group, value; none when idle.
     operation: Option<(u8, usize, u64)>,
     /// Steps of it taken; in a flush, steps of the flush.
     steps: usize,
@@ -31,6 +31,9 @@ struct Worker {
     pool: Vec<Range>,
     covered: usize,
     standing: Option<usize>,
+    /// Of a total: rows that are summed, and their sum.
+    rows: usize,
+    sum: i128,
     merged: Vec<Range>,
     times: Vec<u64>,
     needless: VecDeque<usize>,
@@ -49,10 +52,28 @@ struct Plain {
     /// Next to be taken first.
     free: VecDeque<usize>,
     queue: VecDeque<Vec<Range>>,
+    /// By group: sign and register.
+    groups: Vec<Vec<(i128, usize)>>,
 }
 
 fn number(bytes: &[u8]) -> u64 {
     bytes.iter().rev().fold(0, |n, &byte| n * 256 + u64::from(byte))
+}
+
+/// The rows of each group, none where any row or the length is not of the form.
+fn groups(list: &[u8], v: usize) -> Option<Vec<Vec<(i128, usize)>>> {
+    let mut groups = vec![Vec::new(); 32];
+    let mut last = 0;
+    for row in list.chunks(4) {
+        let &[group, sign, _, _] = row else { return None };
+        let register = number(&row[2..]) as usize;
+        if group < last || group > 31 || sign > 1 || register >= v {
+            return None;
+        }
+        groups[usize::from(group)].push(([1, -1][usize::from(sign)], register));
+        last = group;
+    }
+    groups.iter().all(|rows| rows.len() <= 32).then_some(groups)
 }
 
 fn merge(first: &[Range], second: &[Range]) -> Vec<Range> {
@@ -62,11 +83,11 @@ fn merge(first: &[Range], second: &[Range]) -> Vec<Range> {
 }
 
 impl Plain {
-    fn take(&mut self, bytes: &[u8]) -> String {
-        self.answer(bytes).unwrap_or_else(|refusal| format!("no {refusal}"))
+    fn take(&mut self, bytes: &[u8], list: &[u8]) -> String {
+        self.answer(bytes, list).unwrap_or_else(|refusal| format!("no {refusal}"))
     }
 
-    fn answer(&mut self, bytes: &[u8]) -> Result<String, u8> {
+    fn answer(&mut self, bytes: &[u8], list: &[u8]) -> Result<String, u8> {
         if bytes.len() < 16 {
             return Err(6);
         }
@@ -74,7 +95,7 @@ impl Plain {
         let unused: Vec<usize> = match operation {
             0 => vec![6, 7, 12, 13, 14, 15],
             1 => (4..8).collect(),
-            3 | 5 => (4..16).collect(),
+            3 | 5 | 8 => (4..16).collect(),
             2 | 4 | 6 | 7 => (2..16).collect(),
             _ => return Err(1),
         };
@@ -85,14 +106,18 @@ impl Plain {
         let (w, register) = (usize::from(bytes[1]), number(&bytes[2..4]) as usize);
         match (operation, set_up) {
             (0, true) => return Err(9),
-            (0, false) => return self.set_up(w, register, bytes),
+            (0, false) => return self.set_up(w, register, bytes, list),
             (_, false) => return Err(8),
             _ => {}
         }
         if w >= self.workers.len() {
             return Err(3);
         }
-        if register >= self.lists.len() {
+        if operation == 8 {
+            if self.groups.get(register).is_none_or(Vec::is_empty) {
+                return Err(17);
+            }
+        } else if register >= self.lists.len() {
             return Err(4);
         }
         let value = number(&bytes[8..]);
@@ -109,22 +134,24 @@ impl Plain {
         match (worker.operation, operation, worker.time) {
             (Some(_), _, _) => Err(10),
             (_, 2, Some(_)) => Err(12),
-            (_, 3 | 4, None) => Err(13),
+            (_, 3 | 4 | 8, None) => Err(13),
             _ => {
                 worker.operation = Some((operation, register, value));
                 worker.steps = 0;
+                (worker.rows, worker.sum) = (0, 0);
                 worker.flushing = operation == 6;
                 Ok("ok".to_string())
             }
         }
     }
 
-    fn set_up(&mut self, p: usize, v: usize, bytes: &[u8]) -> Result<String, u8> {
+    fn set_up(&mut self, p: usize, v: usize, bytes: &[u8], list: &[u8]) -> Result<String, u8> {
         let (n, clock) = (number(&bytes[4..6]) as usize, number(&bytes[8..12]));
         let fits = (1..=16).contains(&p) && (1..=256).contains(&v) && (v..=2048).contains(&n);
         if !fits || clock < 1 {
             return Err(5);
         }
+        self.groups = groups(list, v).ok_or(5)?;
         self.workers = vec![Worker::default(); p];
         self.clock = clock;
         self.batch = [1, 2, 6, 8, 15, 18, 21, 24, 36, 40, 44, 48, 52, 56, 60, 64][p - 1];
@@ -218,12 +245,37 @@ impl Plain {
                 self.workers[w].time = None;
                 self.end(w, "done".to_string())
             }
+            (8, _) => self.total(w, register),
             _ => {
                 self.stamp(register);
                 let newest = *self.lists[register].last().unwrap();
                 self.end(w, format!("value {}", self.slots[newest].value))
             }
         }
+    }
+
+    fn total(&mut self, w: usize, group: usize) -> Result<String, u8> {
+        let going = Ok("going".to_string());
+        let (sign, register) = self.groups[group][self.workers[w].rows];
+        let Some(slot) = self.workers[w].standing else {
+            self.stamp(register);
+            self.workers[w].standing = self.lists[register].last().copied();
+            return going;
+        };
+        if self.slots[slot].low > self.workers[w].time.unwrap() {
+            self.workers[w].standing = Some(self.older(slot));
+            return going;
+        }
+        self.workers[w].standing = None;
+        if self.slots[slot].value > 999999999999 {
+            return self.end(w, "no 18".to_string());
+        }
+        self.workers[w].sum += sign * i128::from(self.slots[slot].value);
+        self.workers[w].rows += 1;
+        if self.workers[w].rows < self.groups[group].len() {
+            return going;
+        }
+        self.end(w, format!("value {}", self.workers[w].sum))
     }
 
     fn older(&self, slot: usize) -> usize {
@@ -286,18 +338,19 @@ impl Plain {
 #[test]
 fn both_hubs_give_one_log() {
     for (kind, name) in Kind::ALL {
-        let (seeds, count) = if kind == Kind::Large { (4, 30_000) } else { (150, 1500) };
+        let (seeds, count) = if kind == Kind::Large { (4, 30_000) } else { (132, 1500) };
         for seed in 0..seeds {
             // Every third of them comes over from before A1.
             let before = if seed % 3 == 2 { count / 3 } else { 0 };
-            let file = script_across(kind, 9000 + seed, count, before);
+            let script = script_across(kind, 9000 + seed, count, before);
             let mut plain = Plain::default();
             let take = |(number, bytes)| {
                 plain.before_a1 = number < before;
-                plain.take(bytes)
+                plain.take(bytes, &script.list)
             };
-            let expected: Vec<String> = file.chunks(16).enumerate().map(take).collect();
-            let answers = common::words(&common::across::<Right>(&file, before));
+            let records = script.records.chunks(16).enumerate();
+            let expected: Vec<String> = records.map(take).collect();
+            let answers = common::words(&common::across::<Right>(&script, before));
             let differs = answers.iter().zip(&expected).position(|(a, b)| a != b);
             if let Some(at) = differs {
                 panic!("{name} {seed}, record {at}: {} and {}", answers[at], expected[at]);

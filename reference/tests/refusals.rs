@@ -3,17 +3,18 @@
 mod common;
 
 use common::{last, no, records, run, words};
-use reference::generate::{script, Kind};
+use reference::generate::{script, Kind, Script};
 use reference::record::LENGTH;
 use reference::store::{Doing, Store};
 use reference::{Answer, Hub, Refusal};
 use std::collections::HashMap;
 
-/// The order of the refusals on reading: document 01's, with 16 after 4 and before 10.
-const ORDER: [u8; 13] = [6, 1, 2, 8, 9, 5, 3, 4, 16, 10, 11, 12, 13];
+/// The order of the refusals on reading: document 01's, with 17 in the place of 4, and 16 after 4 and
+/// before 10.
+const ORDER: [u8; 14] = [6, 1, 2, 8, 9, 5, 3, 4, 17, 16, 10, 11, 12, 13];
 
-/// The bytes that operations 0 to 7 use.
-const USED: [&[usize]; 8] = [
+/// The bytes that operations 0 to 8 use.
+const USED: [&[usize]; 9] = [
     &[0, 1, 2, 3, 4, 5, 8, 9, 10, 11],
     &[0, 1, 2, 3, 8, 9, 10, 11, 12, 13, 14, 15],
     &[0, 1],
@@ -22,16 +23,28 @@ const USED: [&[usize]; 8] = [
     &[0, 1, 2, 3],
     &[0, 1],
     &[0, 1],
+    &[0, 1, 2, 3],
 ];
 
+/// Is this a list for so many registers? The sentences of A2, one by one.
+fn is_list(list: &[u8], registers: u64) -> bool {
+    let rows: Vec<&[u8]> = list.chunks(4).collect();
+    let group = |row: &[u8]| u64::from(row[0]);
+    let register = |row: &[u8]| u64::from(row[2]) + 256 * u64::from(row[3]);
+    list.len() % 4 == 0
+        && rows.iter().all(|row| group(row) <= 31 && row[1] <= 1 && register(row) < registers)
+        && rows.windows(2).all(|pair| group(pair[0]) <= group(pair[1]))
+        && (0..32).all(|number| rows.iter().filter(|row| group(row) == number).count() <= 32)
+}
+
 /// Every refusal that a record deserves by itself, straight from the tables.
-fn deserved(bytes: &[u8], store: Option<&Store>) -> Vec<u8> {
+fn deserved(bytes: &[u8], list: &[u8], store: Option<&Store>) -> Vec<u8> {
     let mut numbers = Vec::new();
     if bytes.len() < LENGTH {
         return vec![6];
     }
     let operation = bytes[0];
-    if operation > 7 {
+    if operation > 8 {
         return vec![1];
     }
     let used = USED[usize::from(operation)];
@@ -49,7 +62,8 @@ fn deserved(bytes: &[u8], store: Option<&Store>) -> Vec<u8> {
             && (1..=256).contains(&registers)
             && registers <= slots
             && slots <= 2048
-            && clock >= 1;
+            && clock >= 1
+            && is_list(list, registers);
         if !fits {
             numbers.push(5);
         }
@@ -67,6 +81,10 @@ fn deserved(bytes: &[u8], store: Option<&Store>) -> Vec<u8> {
     if register_used && two(2) >= store.newest.len() as u64 {
         numbers.push(4);
     }
+    // Which rows the hub has kept is held to the list by the tests of totals.
+    if operation == 8 && store.groups.rows(two(2) as u16).is_empty() {
+        numbers.push(17);
+    }
     let Some(worker) = store.workers.get(usize::from(bytes[1])) else {
         numbers.push(3);
         return numbers;
@@ -74,12 +92,12 @@ fn deserved(bytes: &[u8], store: Option<&Store>) -> Vec<u8> {
     let (idle, time) = (worker.doing == Doing::Idle, worker.announced.is_some());
     match operation {
         7 if idle => numbers.push(11),
-        1..=6 if !idle => numbers.push(10),
+        1..=6 | 8 if !idle => numbers.push(10),
         _ => {}
     }
     match operation {
         2 if time => numbers.push(12),
-        3 | 4 if !time => numbers.push(13),
+        3 | 4 | 8 if !time => numbers.push(13),
         _ => {}
     }
     numbers
@@ -91,10 +109,11 @@ fn the_first_deserved_refusal_in_the_order() {
     for (kind, _) in Kind::ALL {
         for seed in 0..60 {
             let mut hub = Hub::new();
-            for bytes in script(kind, 1000 + seed, 400).chunks(LENGTH) {
-                let numbers = deserved(bytes, hub.store());
+            let Script { records, list } = script(kind, 1000 + seed, 400);
+            for bytes in records.chunks(LENGTH) {
+                let numbers = deserved(bytes, &list, hub.store());
                 let before = if numbers.is_empty() { None } else { hub.store().cloned() };
-                let answer = hub.take(bytes);
+                let answer = hub.take(bytes, &list);
                 let place = |number: &u8| ORDER.iter().position(|other| other == number);
                 match numbers.iter().min_by_key(|number| place(number)) {
                     Some(&first) => {
@@ -142,6 +161,11 @@ fn the_first_deserved_refusal_in_the_order() {
         ((4, 16), 200),
         ((16, 10), 500),
         ((16, 16), 1000),
+        ((2, 17), 100),
+        ((3, 17), 100),
+        ((17, 10), 400),
+        ((17, 13), 400),
+        ((17, 17), 600),
     ] {
         let met = pairs.get(&pair).copied().unwrap_or(0);
         assert!(met >= least, "{pair:?} met {met} times");
@@ -156,8 +180,8 @@ fn records_that_deserve_several() {
         // A rest is 6 whatever it holds, and before setup too.
         ("", "bytes ff ff ff", 6),
         (busy, "bytes ff ff", 6),
-        // Operation above 7, with bytes that any operation leaves unused, before setup.
-        ("", "bytes 08 ff ff ff ff ff ff ff ff ff ff ff ff ff ff ff", 1),
+        // Operation above 8, with bytes that any operation leaves unused, before setup.
+        ("", "bytes 09 ff ff ff ff ff ff ff ff ff ff ff ff ff ff ff", 1),
         // An unused byte before setup, in a second setup out of range, with a wrong worker.
         ("", "bytes 07 00 01 00 00 00 00 00 00 00 00 00 00 00 00 00", 2),
         (busy, "bytes 00 ff 00 00 00 00 01 00 00 00 00 00 00 00 00 00", 2),
@@ -183,7 +207,7 @@ fn records_that_deserve_several() {
         ("setup 1 1 1 1\n open 0\n step 0 x2", "open 0", 12),
         // A value above the limit: after all that the record and its fields deserve, before busy.
         ("", "bytes 01 00 00 00 00 00 00 00 ff ff ff ff ff ff ff", 6),
-        ("", "bytes 08 00 00 00 00 00 00 00 ff ff ff ff ff ff ff ff", 1),
+        ("", "bytes 09 00 00 00 00 00 00 00 ff ff ff ff ff ff ff ff", 1),
         (busy, "bytes 01 00 00 00 01 00 00 00 ff ff ff ff ff ff ff ff", 2),
         ("", "put 0 0 1000000000000", 8),
         (busy, "put 2 0 1000000000000", 3),
@@ -208,23 +232,23 @@ fn unused_bytes_one_by_one() {
             let mut bytes = [0; LENGTH];
             bytes[0] = operation as u8;
             bytes[place] = 0x80;
-            let refused = Hub::new().take(&bytes) == no(2);
+            let refused = Hub::new().take(&bytes, &[]) == no(2);
             assert_eq!(refused, !used.contains(&place), "operation {operation}, byte {place}");
         }
     }
 }
 
 #[test]
-fn operations_above_7() {
+fn operations_above_8() {
     for operation in 0..=255 {
         let mut bytes = [0; LENGTH];
         bytes[0] = operation;
         let expected = match operation {
             0 => no(5),
-            1..=7 => no(8),
+            1..=8 => no(8),
             _ => no(1),
         };
-        assert_eq!(Hub::new().take(&bytes), expected);
+        assert_eq!(Hub::new().take(&bytes, &[]), expected);
     }
 }
 
@@ -278,14 +302,14 @@ fn the_tables_numbers() {
         assert_eq!(Refusal::from_number(place as u64 + 1), Some(*refusal));
     }
     assert_eq!(Refusal::from_number(0), None);
-    assert_eq!(Refusal::from_number(17), None);
-    assert_eq!(words(&[no(15), no(16)]), ["no 15", "no 16"]);
+    assert_eq!(Refusal::from_number(19), None);
+    assert_eq!(words(&[no(15), no(16), no(17), no(18)]), ["no 15", "no 16", "no 17", "no 18"]);
 }
 
 #[test]
 fn a_snapshot_is_announced_from_opens_first_step() {
     // Between open's steps the worker is busy; after them it has a time.
     let file = records("setup 1 1 1 1\n open 0\n step 0\n open 0\n step 0\n open 0\n close 0");
-    let answers = reference::log::answers(&mut Hub::new(), &file);
+    let answers = reference::log::answers(&mut Hub::new(), &file, &[]);
     assert_eq!(words(&answers), ["ok", "ok", "going", "no 10", "at 1", "no 12", "ok"]);
 }

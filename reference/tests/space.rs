@@ -3,7 +3,7 @@
 
 use reference::census::{bound, Census, Counts};
 use reference::fault::NewerThanOldest;
-use reference::generate::{script, Kind};
+use reference::generate::{script, Kind, Script};
 use reference::space::{self, held, Run};
 use reference::store::{Slot, Store, MAX_SLOTS};
 use reference::workload::Records;
@@ -29,15 +29,23 @@ fn plain(store: &Store, highs: &[u32]) -> Counts {
 #[test]
 fn the_census_counts_what_the_sentences_say() {
     let mut most = Counts::default();
-    for kind in [Kind::Mixed, Kind::Snapshots, Kind::Stalled, Kind::Reads, Kind::Large, Kind::Slots]
-    {
+    for kind in [
+        Kind::Mixed,
+        Kind::Snapshots,
+        Kind::Stalled,
+        Kind::Reads,
+        Kind::Large,
+        Kind::Slots,
+        Kind::Totals,
+    ] {
         for seed in 0..20 {
             let mut hub = Hub::new();
             let mut census = None;
             let mut highs = Vec::new();
-            for bytes in script(kind, seed, 2_000).chunks(16) {
+            let Script { records, list } = script(kind, seed, 2_000);
+            for bytes in records.chunks(16) {
                 let before: Vec<Slot> = hub.store().map_or(Vec::new(), |store| store.slots.clone());
-                hub.take(bytes);
+                hub.take(bytes, &list);
                 let Some(store) = hub.store() else { continue };
                 let census = census.get_or_insert_with(|| Census::new(store));
                 for (before, after) in before.iter().zip(&store.slots) {
@@ -68,11 +76,11 @@ fn bounds() {
 fn the_old_rule_breaks_the_bound() {
     let run = Run { workers: 2, registers: 64, life: 1000 };
     let mut hub = Hub::<NewerThanOldest>::with_row(usize::from(MAX_SLOTS));
-    let mut records = Records::new(&run.shape(), 1);
-    records.next().map(|setup| hub.take(&setup));
+    let mut records = Records::new(&run.shape(), &[], 1);
+    records.next().map(|setup| hub.take(&setup, &[]));
     let mut census = Census::new(hub.store().unwrap());
     let broken = records.take(100_000).any(|bytes| {
-        hub.take(&bytes);
+        hub.take(&bytes, &[]);
         let counts = census.follow(hub.store().unwrap());
         counts.kept > bound(2, census.most_needed)
     });

@@ -1,11 +1,12 @@
-//! The text tool: round trips for any bytes, the form of each command, errors with their lines.
+//! The text tool: round trips for any bytes, the form of each command and of a list's rows, errors with
+//! their lines.
 
 mod common;
 
-use common::records;
+use common::{list, records};
 use reference::generate::{script, Kind, Random};
 use reference::record::LENGTH;
-use reference::text::{pack, unpack, MAX_REPEAT};
+use reference::text::{pack, pack_list, unpack, unpack_list, MAX_REPEAT};
 use reference::{Record, Refusal};
 
 fn round_trip(file: &[u8]) {
@@ -21,7 +22,7 @@ fn any_bytes_come_back() {
         round_trip(&file);
         // Mostly zero bytes and small numbers: many of these are well-formed records.
         let sparse =
-            |random: &mut Random| if random.chance(850) { 0 } else { random.below(9) as u8 };
+            |random: &mut Random| if random.chance(850) { 0 } else { random.below(10) as u8 };
         let file: Vec<u8> = (0..length).map(|_| sparse(&mut random)).collect();
         round_trip(&file);
     }
@@ -30,7 +31,7 @@ fn any_bytes_come_back() {
 #[test]
 fn scripts_come_back() {
     for (kind, _) in Kind::ALL {
-        (0..20).for_each(|seed| round_trip(&script(kind, seed, 300)));
+        (0..20).for_each(|seed| round_trip(&script(kind, seed, 300).records));
     }
 }
 
@@ -46,7 +47,10 @@ get 0 0
 collect 15
 step 1
 step 2 x3
-bytes 08 00 00 00 00 00 00 00 00 00 00 00 00 00 00 01  # refused with 1: operation above 7
+total 3 31
+total 255 65535
+bytes 09 00 00 00 00 00 00 00 00 00 00 00 00 00 00 01  # refused with 1: operation above 8
+bytes 08 00 1f 00 01 00 00 00 00 00 00 00 00 00 00 00  # refused with 2: an unused byte is not zero
 bytes 02 00 00 00 00 00 00 00 00 00 00 00 00 00 00 01  # refused with 2: an unused byte is not zero
 bytes ff  # refused with 6: fewer than 16 bytes
 ";
@@ -58,13 +62,13 @@ fn unpacking_says_why_a_record_is_refused() {
     let mut random = Random::new(11);
     for length in 1..=LENGTH {
         for _ in 0..200 {
-            let bytes: Vec<u8> = (0..length).map(|_| random.below(10) as u8).collect();
+            let bytes: Vec<u8> = (0..length).map(|_| random.below(11) as u8).collect();
             let text = unpack(&bytes);
             let comment = text.trim_end().split_once("  # ").map(|(_, comment)| comment);
             let expected = match Record::decode(&bytes) {
                 Ok(_) => None,
                 Err(Refusal::Length) => Some("refused with 6: fewer than 16 bytes"),
-                Err(Refusal::Operation) => Some("refused with 1: operation above 7"),
+                Err(Refusal::Operation) => Some("refused with 1: operation above 8"),
                 Err(refusal) => {
                     assert_eq!(refusal, Refusal::UnusedByte);
                     Some("refused with 2: an unused byte is not zero")
@@ -77,7 +81,7 @@ fn unpacking_says_why_a_record_is_refused() {
 
 #[test]
 fn commands_and_their_bytes() {
-    let cases: [(&str, [u8; LENGTH]); 9] = [
+    let cases: [(&str, [u8; LENGTH]); 10] = [
         ("setup 2 258 772 84281096", [0, 2, 2, 1, 4, 3, 0, 0, 8, 7, 6, 5, 0, 0, 0, 0]),
         ("put 3 258 578437695752307201", [1, 3, 2, 1, 0, 0, 0, 0, 1, 2, 3, 4, 5, 6, 7, 8]),
         ("open 9", [2, 9, 0, 0, 0, 0, 0, 0, 0, 0, 0, 0, 0, 0, 0, 0]),
@@ -86,6 +90,7 @@ fn commands_and_their_bytes() {
         ("get 9 513", [5, 9, 1, 2, 0, 0, 0, 0, 0, 0, 0, 0, 0, 0, 0, 0]),
         ("collect 9", [6, 9, 0, 0, 0, 0, 0, 0, 0, 0, 0, 0, 0, 0, 0, 0]),
         ("step 9", [7, 9, 0, 0, 0, 0, 0, 0, 0, 0, 0, 0, 0, 0, 0, 0]),
+        ("total 9 513", [8, 9, 1, 2, 0, 0, 0, 0, 0, 0, 0, 0, 0, 0, 0, 0]),
         (
             "bytes 000102030405060708090a0b0c0D0E0f",
             [0, 1, 2, 3, 4, 5, 6, 7, 8, 9, 10, 11, 12, 13, 14, 15],
@@ -111,6 +116,7 @@ fn well_formed_records_decode_to_what_was_encoded() {
             Record::Get { worker, register },
             Record::Collect { worker },
             Record::Step { worker },
+            Record::Total { worker, group: register },
         ]);
         assert_eq!(Record::decode(&record.encode()), Ok(record));
         assert_eq!(records(&unpack(&record.encode())), record.encode());
@@ -141,7 +147,7 @@ fn errors_say_line_and_reason() {
             "open 1\nfly 3",
             2,
             "unknown command \"fly\", not one of setup, put, open, read, close, get, collect, \
-            step, bytes",
+            step, total, bytes",
         ),
         ("open 256", 1, "worker \"256\" is not a number from 0 to 255"),
         ("open -1", 1, "worker \"-1\" is not a number from 0 to 255"),
@@ -159,6 +165,8 @@ fn errors_say_line_and_reason() {
         ("step 0 x0", 1, "repetition \"x0\" is not x1 to x1000000"),
         ("step 0 x1000001", 1, "repetition \"x1000001\" is not x1 to x1000000"),
         ("step 0 x1 x1", 1, "not of the form: step WORKER [xCOUNT]"),
+        ("total 1", 1, "not of the form: total WORKER GROUP"),
+        ("total 1 65536", 1, "group \"65536\" is not a number from 0 to 65535"),
         ("bytes", 1, "0 bytes where a record has 1 to 16"),
         ("bytes 0", 1, "\"0\" is not pairs of hexadecimal digits"),
         ("bytes 0g", 1, "\"0g\" is not pairs of hexadecimal digits"),
@@ -171,4 +179,82 @@ fn errors_say_line_and_reason() {
     }
     let error = pack(b"open 1\n\xff").unwrap_err();
     assert_eq!(error.to_string(), "line 2: not UTF-8 text");
+}
+
+fn list_round_trip(list: &[u8]) {
+    let text = unpack_list(list);
+    assert_eq!(pack_list(text.as_bytes()).as_deref(), Ok(list), "{text}");
+}
+
+#[test]
+fn any_list_comes_back() {
+    let mut random = Random::new(9);
+    for length in 0..200 {
+        let bytes: Vec<u8> = (0..length).map(|_| random.bits() as u8).collect();
+        list_round_trip(&bytes);
+        // Many of these are rows.
+        let bytes: Vec<u8> = (0..length).map(|_| random.below(3) as u8).collect();
+        list_round_trip(&bytes);
+    }
+    (0..300).for_each(|seed| list_round_trip(&script(Kind::Lists, seed, 0).list));
+}
+
+#[test]
+fn the_text_of_a_list_comes_back_too() {
+    let text = "0 + 0
+0 - 255
+7 + 3
+31 - 3
+6 + 0  # refused with 5: group below the one before
+32 + 0  # refused with 5: group above 31
+31 + 256  # refused with 5: register not below V
+255 - 65535  # refused with 5: group above 31
+bytes 1f 02 00 00  # refused with 5: sign above 1
+bytes 00 01 02  # refused with 5: fewer than 4 bytes
+";
+    assert_eq!(unpack_list(&pack_list(text.as_bytes()).unwrap()), text);
+    let full = "5 + 0\n".repeat(32);
+    let more = format!("{full}5 + 0  # refused with 5: more than 32 rows of a group\n6 + 0\n");
+    assert_eq!(unpack_list(&list(&more)), more);
+}
+
+#[test]
+fn rows_and_their_bytes() {
+    let cases: [(&str, &[u8]); 7] = [
+        ("", &[]),
+        ("9 + 513", &[9, 0, 1, 2]),
+        ("9 - 513", &[9, 1, 1, 2]),
+        ("  0   +   0  ", &[0, 0, 0, 0]),
+        ("bytes 00010203", &[0, 1, 2, 3]),
+        ("# a stairwell\n\n1 + 2 # a flat\r\n1 - 3#feed-in", &[1, 0, 2, 0, 1, 1, 3, 0]),
+        ("0 + 1\nbytes 01 02", &[0, 0, 1, 0, 1, 2]),
+    ];
+    for (text, bytes) in cases {
+        assert_eq!(list(text), bytes, "{text:?}");
+    }
+}
+
+#[test]
+fn errors_in_a_list_say_line_and_reason() {
+    const FORM: &str = "not of the form: GROUP + REGISTER or GROUP - REGISTER";
+    let cases = [
+        ("0 + 0\n0 + ", 2, FORM),
+        ("0 * 0", 1, FORM),
+        ("0 +0", 1, FORM),
+        ("0 0", 1, FORM),
+        ("0 + 0 + 1", 1, FORM),
+        ("total 0 0", 1, FORM),
+        ("256 + 0", 1, "group \"256\" is not a number from 0 to 255"),
+        ("-1 + 0", 1, "group \"-1\" is not a number from 0 to 255"),
+        ("\n0 - 65536", 2, "register \"65536\" is not a number from 0 to 65535"),
+        ("bytes", 1, "0 bytes where a row has 1 to 4"),
+        ("bytes 0011223344", 1, "5 bytes where a row has 1 to 4"),
+        ("bytes 0", 1, "\"0\" is not pairs of hexadecimal digits"),
+        ("bytes 00\n\n0 + 0", 1, "fewer than 4 bytes, but more rows follow"),
+    ];
+    for (text, line, reason) in cases {
+        let error = pack_list(text.as_bytes()).unwrap_err();
+        assert_eq!((error.line, error.reason.as_str()), (line, reason), "{text:?}");
+    }
+    assert_eq!(pack_list(b"0 + 0\n\xff").unwrap_err().to_string(), "line 2: not UTF-8 text");
 }

@@ -2,12 +2,12 @@
 
 mod common;
 
-use common::{examined, sample};
+use common::{examined, examined_with, sample};
 use reference::generate::{script, Kind};
 use reference::order::{self, Claim, Violation};
 use reference::store::MAX_VALUE;
 use reference::timeline::Timeline;
-use reference::{log, Answer, Hub};
+use reference::Answer;
 
 /// The timeline of a script, with some of the hub's answers replaced.
 fn timeline(script: &str, replaced: &[(usize, &str)]) -> String {
@@ -75,8 +75,8 @@ fn everything_is_drawn_once() {
     let legend = timeline("", &[]);
     for (kind, name) in Kind::ALL {
         for seed in 0..10 {
-            let file = script(kind, seed, 400);
-            let order = order::check(&file, &log::answers(&mut Hub::new(), &file)).unwrap();
+            let script = script(kind, seed, 400);
+            let order = order::check(&script.records, &script.list, &script.answers()).unwrap();
             let svg = Timeline::new(&order, None).to_string();
             assert!(well_formed(&svg), "{name} {seed}");
             let drawn = |class| count(&svg, class) - count(&legend, class);
@@ -145,8 +145,8 @@ fn nothing_runs_past_its_lane() {
     let unfinished = "setup 2 1 9 1\n open 1\n step 1\n put 0 0 7\n step 0 x40\n put 0 0 8";
     let mut svgs = vec![timeline(unfinished, &[]), timeline(&sample("order.txt"), &[])];
     for (kind, _) in Kind::ALL {
-        let file = script(kind, 3, 150);
-        let order = order::check(&file, &log::answers(&mut Hub::new(), &file)).unwrap();
+        let script = script(kind, 3, 150);
+        let order = order::check(&script.records, &script.list, &script.answers()).unwrap();
         svgs.push(Timeline::new(&order, None).to_string());
     }
     let mut bars = 0;
@@ -223,14 +223,14 @@ fn a_broken_order_is_marked() {
 #[test]
 fn any_answers_can_be_drawn() {
     for seed in 0..200 {
-        let file = script(Kind::Mixed, seed, 200);
-        let mut answers = log::answers(&mut Hub::new(), &file);
+        let script = script(if seed % 2 == 0 { Kind::Mixed } else { Kind::Totals }, seed, 200);
+        let mut answers = script.answers();
         // Answers of other records, mostly unfit.
         let others = answers.clone();
         for (place, answer) in answers.iter_mut().enumerate().skip(100).step_by(31) {
             *answer = others[(place + 7 * seed as usize) % others.len()];
         }
-        let (order, violation) = order::examine(&file, &answers);
+        let (order, violation) = order::examine(&script.records, &script.list, &answers);
         assert!(well_formed(&Timeline::new(&order, violation.as_ref()).to_string()), "{seed}");
     }
 }
@@ -243,4 +243,19 @@ fn text_is_escaped() {
     let svg = Timeline::new(&order, Some(&violation)).to_string();
     assert!(svg.contains("a &lt; b &amp; b &gt; c"), "{svg}");
     assert!(well_formed(&svg));
+}
+
+#[test]
+fn totals_are_drawn_as_reads() {
+    let rows = "0 + 0\n 12 - 0";
+    let script =
+        "setup 1 1 4 1\n put 0 0 7\n step 0 x7\n open 0\n step 0 x2\n total 0 12\n step 0 x2";
+    let (order, violation) = examined_with(rows, script, &[]);
+    let svg = Timeline::new(&order, violation.as_ref()).to_string();
+    assert!(well_formed(&svg));
+    assert_eq!((count(&svg, "bar read total"), count(&svg, "wrong")), (1, 0), "{svg}");
+    assert!(svg.contains(">total g12</text>") && svg.contains(">-7</text>"), "{svg}");
+    let (order, violation) = examined_with(rows, script, &[(14, "value 7")]);
+    let svg = Timeline::new(&order, violation.as_ref()).to_string();
+    assert!(svg.contains(">7 ≠ -7</text>"), "{svg}");
 }

@@ -4,6 +4,8 @@ mod common;
 
 use reference::coverage::{Branch, Coverage};
 use reference::fault::Right;
+use reference::generate::Script;
+use reference::list::{Groups, MAX_ROWS};
 use reference::record::{Record, LENGTH};
 use reference::store::{Doing, MAX_SLOTS};
 use reference::workload::Workload;
@@ -26,7 +28,7 @@ struct Met {
     records: usize,
     coverage: Coverage,
     /// By operation number.
-    begun: [u64; 8],
+    begun: [u64; 9],
     /// On average where a flush takes its pools.
     pools_queued: f64,
     ranges_taken: f64,
@@ -40,7 +42,8 @@ impl Met {
 
     fn over(workload: Workload, records: usize) -> Met {
         let mut hub = Hub::<Right, Coverage>::with_row(usize::from(MAX_SLOTS));
-        let mut begun = [0; 8];
+        let list = workload.list(1);
+        let mut begun = [0; 9];
         let (mut takes, mut pools, mut ranges, mut snapshots) = (0, 0, 0, 0);
         for bytes in workload.records(1).take(records) {
             begun[usize::from(bytes[0])] += 1;
@@ -54,7 +57,7 @@ impl Met {
                     snapshots += store.workers.iter().filter(|w| w.announced.is_some()).count();
                 }
             }
-            let answer = hub.take(&bytes);
+            let answer = hub.take(&bytes, &list);
             hub.observer.answered(answer);
         }
         let refused: u64 = hub.observer.refusals.iter().sum();
@@ -76,7 +79,8 @@ impl Met {
 
     /// The share of an operation among those begun.
     fn share(&self, operation: usize) -> f64 {
-        self.begun[operation] as f64 / self.begun[1..7].iter().sum::<u64>() as f64
+        let all = self.begun[PUT..=COLLECT].iter().sum::<u64>() + self.begun[TOTAL];
+        self.begun[operation] as f64 / all as f64
     }
 
     /// The share of an answer: ok, going, freed, at, value, done.
@@ -87,6 +91,7 @@ impl Met {
 
 const PUT: usize = 1;
 const COLLECT: usize = 6;
+const TOTAL: usize = 8;
 
 #[test]
 fn the_same_seed_gives_the_same_records() {
@@ -113,6 +118,7 @@ fn each_begins_with_its_setup() {
         (16, 256, 2048),
         (2, 16, 256),
         (16, 2, 2048),
+        (16, 256, 2048),
         (16, 256, 2048),
         (16, 256, 2048),
     ];
@@ -163,8 +169,27 @@ fn collects_meet_a_full_queue() {
 }
 
 #[test]
+fn totals_are_of_the_longest_list() {
+    let groups = Groups::read::<Right>(&Workload::Totals.list(1), 256).unwrap();
+    assert!((0..32).all(|group| groups.rows(group).len() == MAX_ROWS));
+    let minus = groups.all().iter().filter(|row| row.minus).count();
+    assert!((300..500).contains(&minus), "{minus}");
+    let listed = Workload::ALL.into_iter().filter(|workload| !workload.list(1).is_empty());
+    assert!(listed.eq([Workload::Totals]));
+    let met = Met::of(Workload::Totals);
+    assert_eq!(met.begun[COLLECT], 0, "there is a slot for every put");
+    let moves = met.branch(Branch::TotalMoves);
+    let found = met.branch(Branch::TotalFound) + met.branch(Branch::TotalFoundAtOnce);
+    assert!((0.7..0.9).contains(&(moves / found)), "{}", moves / found);
+    assert!((moves + 2.0 * found) / COUNT as f64 > 0.7, "{found}");
+    let [below, above] = [Branch::TotalBelow0, Branch::TotalAbove0].map(|sum| met.branch(sum));
+    assert!(below > 1_000.0 && above > 5_000.0, "{below}, {above}");
+}
+
+#[test]
 fn uniform_bytes_are_refused() {
-    let (_, coverage) = common::covered(&file(Workload::Uniform, 1, COUNT));
+    let records = file(Workload::Uniform, 1, COUNT);
+    let (_, coverage) = common::covered(&Script::plain(records), 0);
     assert_eq!(coverage.answers.iter().sum::<u64>(), 1);
     assert!(coverage.refusals[1] > COUNT as u64 * 95 / 100);
     assert_eq!(coverage.refusals[1] + coverage.refusals[2], COUNT as u64 - 1);
@@ -173,13 +198,13 @@ fn uniform_bytes_are_refused() {
 #[test]
 fn growth_differs_only_in_the_setup() {
     let small = file(Workload::Small, 1, 50_000);
-    let answers = log::answers(&mut Hub::new(), &small);
+    let answers = log::answers(&mut Hub::new(), &small, &[]);
     for slots in [16, 64, 256, 1024, 2048] {
         let growth = file(Workload::Growth { slots }, 1, 50_000);
         let setup = Record::Setup { workers: 2, registers: 4, slots, clock: 1 };
         assert_eq!(growth[..LENGTH], setup.encode());
         assert!(growth[LENGTH..] == small[LENGTH..]);
-        assert!(log::answers(&mut Hub::new(), &growth) == answers);
+        assert!(log::answers(&mut Hub::new(), &growth, &[]) == answers);
     }
 }
 

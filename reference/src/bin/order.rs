@@ -1,5 +1,5 @@
-//! Prints the order that demand 3 promises for a record file and its log, as a listing or, with
-//! `--svg`, as a timeline.
+//! Prints the order that demand 3 promises for a record file, its log and the list that came with it,
+//! as a listing or, with `--svg`, as a timeline.
 
 use reference::listing::Listing;
 use reference::order::Claim;
@@ -21,15 +21,21 @@ fn main() -> ExitCode {
 
 fn run() -> Result<(), Box<dyn Error>> {
     let arguments: Vec<String> = std::env::args().skip(1).collect();
-    let (svg, records, log_file) = match &arguments[..] {
-        [records, log_file] => (false, records, log_file),
-        [option, records, log_file] if option == "--svg" => (true, records, log_file),
-        _ => return Err("usage: order [--svg] RECORDS LOG".into()),
+    let (svg, files) = match &arguments[..] {
+        [option, files @ ..] if option == "--svg" => (true, files),
+        files => (false, files),
     };
-    let file = std::fs::read(records).map_err(|error| format!("{records}: {error}"))?;
+    let (records, log_file, list) = match files {
+        [records, log_file] => (records, log_file, None),
+        [records, log_file, list] => (records, log_file, Some(list)),
+        _ => return Err("usage: order [--svg] RECORDS LOG [LIST]".into()),
+    };
+    let read = |name: &String| std::fs::read(name).map_err(|error| format!("{name}: {error}"));
+    let file = read(records)?;
+    let list = list.map_or(Ok(Vec::new()), read)?;
     let text = std::fs::read_to_string(log_file).map_err(|error| format!("{log_file}: {error}"))?;
     let answers = log::parse_log(&text).map_err(|error| format!("{log_file}: {error}"))?;
-    let (order, violation) = order::examine(&file, &answers);
+    let (order, violation) = order::examine(&file, &list, &answers);
     let violation = violation.as_ref();
     if let Some(unfit) = violation.filter(|violation| violation.claim == Claim::Fit) {
         // A record's answer is the log line with its number.

@@ -1,4 +1,4 @@
-//! Turns readable text into a record file and back; see the module `text` for the form.
+//! Turns readable text into a record file or a list, and back; see the module `text` for the forms.
 
 use reference::text;
 use std::error::Error;
@@ -27,7 +27,9 @@ fn run() -> Result<(), Box<dyn Error>> {
     let output = match command {
         "pack" => text::pack(&input()?).map_err(|error| format!("{name}: {error}"))?,
         "unpack" => text::unpack(&input()?).into_bytes(),
-        _ => return Err("usage: records pack|unpack [FILE]".into()),
+        "pack-list" => text::pack_list(&input()?).map_err(|error| format!("{name}: {error}"))?,
+        "unpack-list" => text::unpack_list(&input()?).into_bytes(),
+        _ => return Err("usage: records pack|unpack|pack-list|unpack-list [FILE]".into()),
     };
     let mut out = io::stdout().lock();
     match out.write_all(&output).and_then(|()| out.flush()) {

@@ -1,8 +1,9 @@
-//! What the tests share: short names for records, scripts from text, runs to log lines.
+//! What the tests share: short names for records, scripts and lists from text, runs to log lines.
 #![allow(dead_code)]
 
-use reference::coverage::Coverage;
+use reference::coverage::{Coverage, Observer};
 use reference::fault::{Fault, Right};
+use reference::generate::Script;
 use reference::order::{self, Order, Violation};
 use reference::record::LENGTH;
 use reference::store::{Store, MAX_SLOTS, MAX_VALUE};
@@ -13,23 +14,40 @@ pub fn records(script: &str) -> Vec<u8> {
     text::pack(script.as_bytes()).expect("a well-formed script")
 }
 
+/// The list of a readable text.
+pub fn list(text: &str) -> Vec<u8> {
+    text::pack_list(text.as_bytes()).expect("a well-formed list")
+}
+
 /// The answers to a readable text, as words.
 pub fn run(script: &str) -> Vec<String> {
-    words(&log::answers(&mut Hub::new(), &records(script)))
+    run_with("", script)
+}
+
+/// The same with the list of a readable text.
+pub fn run_with(rows: &str, script: &str) -> Vec<String> {
+    words(&log::answers(&mut Hub::new(), &records(script), &list(rows)))
 }
 
 /// Tells a hub whether its next record, of this number, comes before A1.
-pub fn set_rule<F: Fault>(hub: &mut Hub<F>, number: usize, before: usize) {
+pub fn set_rule<F: Fault, O: Observer>(hub: &mut Hub<F, O>, number: usize, before: usize) {
     hub.max_value = if number < before { u64::MAX } else { MAX_VALUE };
 }
 
-/// The answers to a file whose first `before` records come before A1.
-pub fn across<F: Fault>(file: &[u8], before: usize) -> Vec<Answer> {
-    let mut hub = Hub::<F>::with_row(usize::from(MAX_SLOTS));
-    let records = file.chunks(LENGTH).enumerate();
+/// The answers to a script whose first `before` records come before A1.
+pub fn across<F: Fault>(script: &Script, before: usize) -> Vec<Answer> {
+    taken_across(&mut Hub::<F>::with_row(usize::from(MAX_SLOTS)), script, before)
+}
+
+fn taken_across<F: Fault, O: Observer>(
+    hub: &mut Hub<F, O>,
+    script: &Script,
+    before: usize,
+) -> Vec<Answer> {
+    let records = script.records.chunks(LENGTH).enumerate();
     let answer = |(number, bytes)| {
-        set_rule(&mut hub, number, before);
-        hub.take(bytes)
+        set_rule(hub, number, before);
+        hub.take(bytes, &script.list)
     };
     records.map(answer).collect()
 }
@@ -46,9 +64,14 @@ pub fn words(answers: &[Answer]) -> Vec<String> {
 
 /// A hub after a readable text, every record of which was answered neither 1 to 13.
 pub fn hub_after(script: &str) -> Hub {
+    hub_with("", script)
+}
+
+/// The same with the list of a readable text.
+pub fn hub_with(rows: &str, script: &str) -> Hub {
     let mut hub = Hub::new();
     for (index, bytes) in records(script).chunks(16).enumerate() {
-        let answer = hub.take(bytes);
+        let answer = hub.take(bytes, &list(rows));
         let refused = matches!(answer, Answer::No(refusal) if !refusal.at_step());
         assert!(!refused, "record {index} of {script:?}: {answer:?}");
     }
@@ -62,7 +85,7 @@ pub fn store(hub: &Hub) -> &Store {
 
 /// Takes the records of a readable text and gives the last answer.
 pub fn last(hub: &mut Hub, script: &str) -> Answer {
-    let answers = log::answers(hub, &records(script));
+    let answers = log::answers(hub, &records(script), &[]);
     *answers.last().expect("a record")
 }
 
@@ -71,22 +94,32 @@ pub fn no(number: u64) -> Answer {
     Answer::No(Refusal::from_number(number).expect("a refusal"))
 }
 
-/// The answers to a file with counts of what was reached.
-pub fn covered(file: &[u8]) -> (Vec<Answer>, Coverage) {
+/// The answers to a script whose first `before` records come before A1, with counts of what was
+/// reached.
+pub fn covered(script: &Script, before: usize) -> (Vec<Answer>, Coverage) {
     let mut hub = Hub::<Right, Coverage>::with_row(usize::from(MAX_SLOTS));
-    let answers = log::answers(&mut hub, file);
+    let answers = taken_across(&mut hub, script, before);
     answers.iter().for_each(|&answer| hub.observer.answered(answer));
     (answers, hub.observer)
 }
 
 /// The order of a readable text, with some of the hub's answers replaced, and its violation.
 pub fn examined(script: &str, replaced: &[(usize, &str)]) -> (Order, Option<Violation>) {
-    let file = records(script);
-    let mut answers = log::answers(&mut Hub::new(), &file);
+    examined_with("", script, replaced)
+}
+
+/// The same with the list of a readable text.
+pub fn examined_with(
+    rows: &str,
+    script: &str,
+    replaced: &[(usize, &str)],
+) -> (Order, Option<Violation>) {
+    let (file, list) = (records(script), list(rows));
+    let mut answers = log::answers(&mut Hub::new(), &file, &list);
     for &(record, words) in replaced {
         answers[record] = log::parse_answer(words).expect("an answer");
     }
-    order::examine(&file, &answers)
+    order::examine(&file, &list, &answers)
 }
 
 /// A file of the samples.

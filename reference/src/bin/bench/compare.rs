@@ -1,7 +1,7 @@
 //! The logs of two programs on one file, read side by side.
 
-use crate::process::Logging;
-use std::path::{Path, PathBuf};
+use crate::process::{Input, Logging};
+use std::path::PathBuf;
 
 /// The words that answers begin with; their first letters differ.
 pub const WORDS: [&str; 7] = ["ok", "going", "freed", "at", "value", "done", "no"];
@@ -48,10 +48,11 @@ impl Counter {
 }
 
 /// Runs both programs on a file of so many records. An error says where the logs differ.
-pub fn compare(programs: &[PathBuf; 2], file: &Path, records: usize) -> Result<Logs, String> {
-    let named = |error: std::io::Error| format!("{}: {error}", file.display());
-    let mut first = Logging::start(&programs[0], file)?;
-    let mut second = Logging::start(&programs[1], file)?;
+pub fn compare(programs: &[PathBuf; 2], input: &Input, records: usize) -> Result<Logs, String> {
+    let file = input.file.display();
+    let named = |error: std::io::Error| format!("{file}: {error}");
+    let mut first = Logging::start(&programs[0], input)?;
+    let mut second = Logging::start(&programs[1], input)?;
     let mut buffers = [vec![0; 1 << 16], vec![0; 1 << 16]];
     let mut counter = Counter::default();
     loop {
@@ -62,7 +63,7 @@ pub fn compare(programs: &[PathBuf; 2], file: &Path, records: usize) -> Result<L
             let equal = a.iter().zip(b).take_while(|(a, b)| a == b).count();
             counter.read(&a[..equal]);
             let record = counter.counts.iter().sum::<u64>();
-            return Err(format!("{}: the logs differ near record {record}", file.display()));
+            return Err(format!("{file}: the logs differ near record {record}"));
         }
         if a.is_empty() {
             break;
@@ -73,7 +74,7 @@ pub fn compare(programs: &[PathBuf; 2], file: &Path, records: usize) -> Result<L
     let ended = first.end().map_err(named)? & second.end().map_err(named)?;
     let counts = counter.counts;
     if !ended || counts.iter().sum::<u64>() != records as u64 {
-        return Err(format!("{}: a program failed or the log is too short", file.display()));
+        return Err(format!("{file}: a program failed or the log is too short"));
     }
     Ok(Logs { counts, peaks })
 }

@@ -9,6 +9,7 @@ mod tables;
 
 use compare::compare;
 use measured::Measured;
+use process::Input;
 use reference::workload::{Topic, Workload};
 use std::fs::{self, File};
 use std::io::{self, BufWriter, Write};
@@ -17,7 +18,7 @@ use std::process::ExitCode;
 
 const USAGE: &str =
     "usage: bench HUBLOG SECOND DIRECTORY [--records N] [--rounds N] [--seed N] [--instructions]
-HUBLOG and SECOND are the two programs, DIRECTORY is where the record files go;
+HUBLOG and SECOND are the two programs, DIRECTORY is where the record files and lists go;
 with --instructions callgrind counts, and nothing is timed";
 
 /// The tables of growth, each with a sentence. Growth is that of the bests.
@@ -67,16 +68,20 @@ impl Options {
         Some(Options { programs, directory, records, rounds, seed, instructions })
     }
 
-    fn file(&self, workload: Workload) -> PathBuf {
-        self.directory.join(workload.name())
+    /// A workload's file, and that of its list where it has one.
+    fn input(&self, workload: Workload) -> Input {
+        let file = self.directory.join(workload.name());
+        let listed = !workload.list(self.seed).is_empty();
+        Input { list: listed.then(|| file.with_extension("list")), file }
     }
 
-    /// Makes a workload's file and compares the logs of both programs on it.
+    /// Makes a workload's file, and its list's, and compares the logs of both programs on it.
     fn prepare(&self, workload: Workload) -> Result<Measured, String> {
-        let file = self.file(workload);
-        eprintln!("comparing the logs of {}", file.display());
-        let pools = self.write(workload).map_err(|error| format!("{}: {error}", file.display()))?;
-        let logs = compare(&self.programs, &file, self.records)?;
+        let input = self.input(workload);
+        let file = input.file.display();
+        eprintln!("comparing the logs of {file}");
+        let pools = self.write(workload, &input).map_err(|error| format!("{file}: {error}"))?;
+        let logs = compare(&self.programs, &input, self.records)?;
         Ok(Measured {
             workload,
             pools,
@@ -86,10 +91,13 @@ impl Options {
         })
     }
 
-    /// Writes a workload's file; how many pools are queued, on average?
-    fn write(&self, workload: Workload) -> io::Result<f64> {
+    /// Writes a workload's file and its list's; how many pools are queued, on average?
+    fn write(&self, workload: Workload, Input { file, list }: &Input) -> io::Result<f64> {
         fs::create_dir_all(&self.directory)?;
-        let mut output = BufWriter::with_capacity(1 << 16, File::create(self.file(workload))?);
+        if let Some(list) = list {
+            fs::write(list, workload.list(self.seed))?;
+        }
+        let mut output = BufWriter::with_capacity(1 << 16, File::create(file)?);
         let mut records = workload.records(self.seed);
         let mut pools = 0;
         for _ in 0..self.records {
@@ -104,10 +112,10 @@ impl Options {
     fn round(&self, round: usize, all: &mut [Measured]) -> Result<(), String> {
         eprintln!("round {} of {}", round + 1, self.rounds);
         for measured in all {
-            let file = self.file(measured.workload);
+            let input = self.input(measured.workload);
             // Neither program is always the first.
             for program in [round % 2, 1 - round % 2] {
-                measured.times[program].push(process::time(&self.programs[program], &file)?);
+                measured.times[program].push(process::time(&self.programs[program], &input)?);
             }
         }
         Ok(())
@@ -116,10 +124,10 @@ impl Options {
     /// Counts the instructions of both programs on every file.
     fn count(&self, all: &mut [Measured]) -> Result<(), String> {
         for Measured { workload, instructions, .. } in all {
-            let file = self.file(*workload);
-            eprintln!("counting on {}", file.display());
+            let input = self.input(*workload);
+            eprintln!("counting on {}", input.file.display());
             for (program, count) in self.programs.iter().zip(instructions) {
-                *count = instructions::count(program, &file)?;
+                *count = instructions::count(program, &input)?;
             }
         }
         Ok(())

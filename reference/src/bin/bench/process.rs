@@ -3,7 +3,7 @@
 use std::ffi::{c_int, c_long};
 use std::fs::{self, File};
 use std::io::{self, Read};
-use std::path::Path;
+use std::path::{Path, PathBuf};
 use std::process::{Child, Command, Stdio};
 use std::time::{Duration, Instant};
 
@@ -43,23 +43,37 @@ pub struct Times {
     pub processor: Duration,
 }
 
-fn start(program: &Path, file: &Path, output: Stdio) -> Result<Child, String> {
-    let input = File::open(file).map_err(|error| format!("{}: {error}", file.display()))?;
-    let child = Command::new(program).stdin(input).stdout(output).spawn();
+/// What a program is run on.
+pub struct Input {
+    /// The record file, which is its standard input.
+    pub file: PathBuf,
+    /// The file of the list of totals, which is its argument; without one it gets none.
+    pub list: Option<PathBuf>,
+}
+
+impl Input {
+    pub fn open(&self) -> Result<File, String> {
+        File::open(&self.file).map_err(|error| format!("{}: {error}", self.file.display()))
+    }
+}
+
+fn start(program: &Path, input: &Input, output: Stdio) -> Result<Child, String> {
+    let records = input.open()?;
+    let child = Command::new(program).args(&input.list).stdin(records).stdout(output).spawn();
     child.map_err(|error| format!("{}: {error}", program.display()))
 }
 
 /// Runs a program on a file, its log thrown away.
-pub fn time(program: &Path, file: &Path) -> Result<Times, String> {
+pub fn time(program: &Path, input: &Input) -> Result<Times, String> {
     let begin = Instant::now();
-    let child = start(program, file, Stdio::null())?;
+    let child = start(program, input, Stdio::null())?;
     let (mut status, mut usage) = (0, Usage::default());
     // SAFETY: both pointers are to live values of the types that `wait4` writes, and the child has
     // not been waited for.
     let waited = unsafe { wait4(child.id() as c_int, &mut status, 0, &mut usage) };
     let wall = begin.elapsed();
     if waited != child.id() as c_int || status != 0 {
-        return Err(format!("{} failed on {}", program.display(), file.display()));
+        return Err(format!("{} failed on {}", program.display(), input.file.display()));
     }
     Ok(Times { wall, processor: usage.user.duration() + usage.system.duration() })
 }
@@ -72,8 +86,8 @@ pub struct Logging {
 }
 
 impl Logging {
-    pub fn start(program: &Path, file: &Path) -> Result<Logging, String> {
-        Ok(Logging { child: start(program, file, Stdio::piped())?, peak: 0 })
+    pub fn start(program: &Path, input: &Input) -> Result<Logging, String> {
+        Ok(Logging { child: start(program, input, Stdio::piped())?, peak: 0 })
     }
 
     /// Reads on in the log until the buffer is full or the log ends; says how far it is full.
