@@ -2,11 +2,14 @@
 
 use reference::coverage::Coverage;
 use reference::fault::Right;
+use reference::generate::Script;
 use reference::store::MAX_SLOTS;
 use reference::{log, order, Hub};
 use std::ffi::OsString;
 use std::io::{Read, Write};
+use std::path::{Path, PathBuf};
 use std::process::{Child, Command, Stdio};
+use std::sync::atomic::{AtomicUsize, Ordering};
 use std::thread;
 
 /// A program named by the environment.
@@ -32,21 +35,77 @@ pub fn hublog() -> Command {
     command
 }
 
-/// Starts it.
-pub fn start() -> Child {
-    started(&mut hublog())
+/// A file of this run, gone when this is.
+pub struct Named(PathBuf);
+
+impl Named {
+    /// One with these contents.
+    pub fn file(contents: &[u8]) -> Named {
+        let named = Named::nothing();
+        std::fs::write(&named, contents).unwrap_or_else(|error| panic!("{:?}: {error}", named.0));
+        named
+    }
+
+    /// A name that no file has.
+    pub fn nothing() -> Named {
+        static COUNT: AtomicUsize = AtomicUsize::new(0);
+        let number = COUNT.fetch_add(1, Ordering::Relaxed);
+        Named(std::env::temp_dir().join(format!("hublog-{}-{number}", std::process::id())))
+    }
 }
 
-/// What it prints for a file that is written to it in pieces of these sizes, the last one repeated.
-pub fn printed(file: &[u8], pieces: &[usize]) -> Vec<u8> {
-    printed_by(start(), file, pieces)
+impl AsRef<Path> for Named {
+    fn as_ref(&self) -> &Path {
+        &self.0
+    }
 }
 
-/// What `eachlog`, the environment's `EACHLOG`, prints for a file with these arguments.
-pub fn each_printed(file: &[u8], arguments: &[usize]) -> Vec<u8> {
+impl Drop for Named {
+    fn drop(&mut self) {
+        let _ = std::fs::remove_file(&self.0);
+    }
+}
+
+/// The file that lends a list, to be named by an argument. An empty list is lent in turn by no
+/// argument, by a name that no file has, and by an empty file.
+fn lent(list: &[u8]) -> Option<Named> {
+    static TURN: AtomicUsize = AtomicUsize::new(0);
+    let turn = if list.is_empty() { TURN.fetch_add(1, Ordering::Relaxed) % 3 } else { 2 };
+    match turn {
+        0 => None,
+        1 => Some(Named::nothing()),
+        _ => Some(Named::file(list)),
+    }
+}
+
+/// What it prints for a file, with this list, that is written to it in pieces of these sizes, the last
+/// one repeated.
+pub fn printed(file: &[u8], list: &[u8], pieces: &[usize]) -> Vec<u8> {
+    let lent = lent(list);
+    printed_by(started(hublog().args(lent.iter().map(Named::as_ref))), file, pieces)
+}
+
+/// What `eachlog`, the environment's `EACHLOG`, prints for a file with a row of so many slots, of
+/// another number from a record on, and this list. Its arguments are these three numbers, all of them
+/// where a list follows, and then the list's file.
+pub fn each_printed(
+    file: &[u8],
+    list: &[u8],
+    slots: usize,
+    change: Option<(usize, usize)>,
+) -> Vec<u8> {
     let mut command = Command::new(program("EACHLOG"));
-    command.args(arguments.iter().map(usize::to_string));
     command.stdin(Stdio::piped()).stdout(Stdio::piped());
+    let lent = lent(list);
+    match (change, &lent) {
+        (None, None) if slots == usize::from(MAX_SLOTS) => {}
+        (None, None) => drop(command.arg(slots.to_string())),
+        _ => {
+            let (record, later) = change.unwrap_or((0, slots));
+            command.args([slots, record, later].map(|number| number.to_string()));
+        }
+    }
+    command.args(lent.iter().map(Named::as_ref));
     printed_by(started(&mut command), file, &[])
 }
 
@@ -72,14 +131,15 @@ fn printed_by(mut child: Child, file: &[u8], pieces: &[usize]) -> Vec<u8> {
     text
 }
 
-/// Holds `hublog` against the second program on one file, and its own log against demand 3; gives
-/// what the file reached.
-pub fn agree(name: &str, file: &[u8]) -> Coverage {
+/// Holds `hublog` against the second program on one script, and its own log against demand 3; gives
+/// what the script reached.
+pub fn agree(name: &str, script: &Script) -> Coverage {
+    let Script { records, list } = script;
     let mut hub = Hub::<Right, Coverage>::with_row(usize::from(MAX_SLOTS));
-    let answers = log::answers(&mut hub, file);
+    let answers = log::answers(&mut hub, records, list);
     answers.iter().for_each(|&answer| hub.observer.answered(answer));
     let expected = log::log_text(&answers);
-    let text = printed(file, &[]);
+    let text = printed(records, list, &[]);
     if text != expected {
         let lines = |text: &[u8]| -> Vec<String> {
             String::from_utf8_lossy(text).lines().map(String::from).collect()
@@ -94,7 +154,7 @@ pub fn agree(name: &str, file: &[u8]) -> Coverage {
     }
     let text = String::from_utf8(text).expect("plain text");
     let own = log::parse_log(&text).unwrap_or_else(|error| panic!("{name}: {error}"));
-    if let Err(violation) = order::check(file, &own) {
+    if let Err(violation) = order::check(records, list, &own) {
         panic!("{name}: {violation}");
     }
     hub.observer

@@ -4,7 +4,7 @@
 use hublog_tests::{each_printed, printed};
 use reference::answer::Answer;
 use reference::fault::Right;
-use reference::generate::{script, Kind};
+use reference::generate::{script, Kind, Script};
 use reference::{log, record, text, Hub};
 
 fn records(script: &str) -> Vec<u8> {
@@ -13,7 +13,7 @@ fn records(script: &str) -> Vec<u8> {
 
 /// The second program's log for a row of so many slots, and of another number from record `at` on. A row that is too short for the hub that is
 /// set up counts as not set up, with the row that is there; a row that is long enough makes no difference.
-fn expected(file: &[u8], long: usize, change: Option<(usize, usize)>) -> Vec<u8> {
+fn expected(file: &[u8], list: &[u8], long: usize, change: Option<(usize, usize)>) -> Vec<u8> {
     let mut hub = Hub::<Right, ()>::with_row(long);
     let mut answers: Vec<Answer> = Vec::new();
     for (k, bytes) in file.chunks(record::LENGTH).enumerate() {
@@ -24,7 +24,7 @@ fn expected(file: &[u8], long: usize, change: Option<(usize, usize)>) -> Vec<u8>
                 hub = Hub::with_row(later);
             }
         }
-        answers.push(hub.take(bytes));
+        answers.push(hub.take(bytes, list));
     }
     log::log_text(&answers)
 }
@@ -33,10 +33,14 @@ fn expected(file: &[u8], long: usize, change: Option<(usize, usize)>) -> Vec<u8>
 fn one_call_a_record_prints_what_a_buffer_prints() {
     for seed in 0..12 {
         for (kind, name) in Kind::ALL {
-            let file = script(kind, seed, 400);
-            let text = each_printed(&file, &[]);
-            assert!(text == printed(&file, &[]), "{name} {seed}: hublog prints something else");
-            assert!(text == expected(&file, 2048, None), "{name} {seed}: the second program does");
+            let Script { records, list } = script(kind, seed, 400);
+            let text = each_printed(&records, &list, 2048, None);
+            assert!(
+                text == printed(&records, &list, &[]),
+                "{name} {seed}: hublog prints something else"
+            );
+            let expected = expected(&records, &list, 2048, None);
+            assert!(text == expected, "{name} {seed}: the second program does");
         }
     }
 }
@@ -45,27 +49,29 @@ fn one_call_a_record_prints_what_a_buffer_prints() {
 fn a_row_shorter_than_its_n_gets_5() {
     let file =
         records("setup 2 3 9 1\n step 0\n setup 2 3 8 1\n put 0 2 7\n step 0 x3\n setup 1 1 1 1");
-    let text = each_printed(&file, &[8]);
+    let text = each_printed(&file, &[], 8, None);
     assert_eq!(
         String::from_utf8(text.clone()).unwrap(),
         "0 no 5\n1 no 8\n2 ok\n3 ok\n4 going\n5 going\n6 done\n7 no 9\n"
     );
-    assert_eq!(text, expected(&file, 8, None));
+    assert_eq!(text, expected(&file, &[], 8, None));
 }
 
 #[test]
 fn a_row_that_got_shorter_gets_8() {
     // Eight slots, then seven: not set up any more, until a setup of at most seven.
     let file = records("setup 1 1 8 1\n get 0 0\n step 0\n get 0 0\n step 0\n setup 1 1 8 1\n setup 1 1 7 1\n get 0 0");
-    let text = each_printed(&file, &[8, 3, 7]);
+    let text = each_printed(&file, &[], 8, Some((3, 7)));
     assert_eq!(
         String::from_utf8(text.clone()).unwrap(),
         "0 ok\n1 ok\n2 value 0\n3 no 8\n4 no 8\n5 no 5\n6 ok\n7 ok\n"
     );
-    assert_eq!(text, expected(&file, 8, Some((3, 7))));
+    assert_eq!(text, expected(&file, &[], 8, Some((3, 7))));
     // A row that got longer, or shorter and still long enough, is the same hub.
-    assert_eq!(each_printed(&file, &[9, 3, 8]), expected(&file, 9, Some((3, 8))));
-    assert_eq!(each_printed(&file, &[8, 3, 2048]), expected(&file, 8, Some((3, 2048))));
+    for (slots, later) in [(9, 8), (8, 2048)] {
+        let text = each_printed(&file, &[], slots, Some((3, later)));
+        assert_eq!(text, expected(&file, &[], slots, Some((3, later))));
+    }
 }
 
 #[test]
@@ -77,17 +83,21 @@ fn random_scripts_on_rows_of_other_lengths() {
             (Kind::Slots, "slots"),
             (Kind::Setups, "setups"),
             (Kind::Tails, "tails"),
+            (Kind::Totals, "totals"),
         ] {
-            let file = script(kind, 900 + seed, 250);
+            let Script { records, list } = script(kind, 900 + seed, 250);
             let long = 1 + (seed as usize * 7) % 60;
             let later = 1 + (seed as usize * 11) % 60;
             let at = 30 + seed as usize;
-            let text = each_printed(&file, &[long]);
-            assert!(text == expected(&file, long, None), "{name} {seed}: a row of {long}");
-            refused += usize::from(String::from_utf8_lossy(&text).contains(" no 5\n"));
-            let text = each_printed(&file, &[long, at, later]);
+            let text = each_printed(&records, &list, long, None);
             assert!(
-                text == expected(&file, long, Some((at, later))),
+                text == expected(&records, &list, long, None),
+                "{name} {seed}: a row of {long}"
+            );
+            refused += usize::from(String::from_utf8_lossy(&text).contains(" no 5\n"));
+            let text = each_printed(&records, &list, long, Some((at, later)));
+            assert!(
+                text == expected(&records, &list, long, Some((at, later))),
                 "{name} {seed}: a row of {long}, from record {at} on of {later}"
             );
         }

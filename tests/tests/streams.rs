@@ -13,37 +13,37 @@ use std::thread;
 
 #[test]
 fn pieces_of_any_size() {
-    let file = script(Kind::Tails, 5, 40_000);
-    let expected = log::log_text(&log::answers(&mut Hub::new(), &file));
+    let script = script(Kind::Tails, 5, 40_000);
+    let expected = log::log_text(&script.answers());
     for pieces in [&[1][..], &[7], &[16], &[15, 2, 31], &[4095], &[262_143, 1, 262_145], &[262_144]]
     {
-        assert!(printed(&file, pieces) == expected, "{pieces:?}");
+        assert!(printed(&script.records, &script.list, pieces) == expected, "{pieces:?}");
     }
 }
 
 #[test]
 fn lines_across_many_chunks() {
-    let file = script(Kind::Mixed, 9, 200_000);
-    assert!(printed(&file, &[]) == log::log_text(&log::answers(&mut Hub::new(), &file)));
+    let script = script(Kind::Mixed, 8, 200_000);
+    assert!(printed(&script.records, &script.list, &[]) == log::log_text(&script.answers()));
 }
 
 /// Whole blocks, and a rest of 1 to 15 bytes just after one, from a file, so that a read brings a block.
 #[test]
 fn files_that_end_at_a_block() {
     const LENGTHS: [usize; 4] = [65_536, 262_144, 2 * 65_536, 2 * 262_144];
-    let whole = script(Kind::Mixed, 11, 2 * 16_384 + 1);
+    let whole = script(Kind::Mixed, 11, 2 * 16_384 + 1).records;
     let path = Path::new(env!("CARGO_TARGET_TMPDIR")).join("blocks");
     for length in LENGTHS.iter().flat_map(|length| length - 1..=length + 16) {
         let file = &whole[..length];
-        let expected = log::log_text(&log::answers(&mut Hub::new(), file));
+        let expected = log::log_text(&log::answers(&mut Hub::new(), file, &[]));
         std::fs::write(&path, file).expect("a file for the test");
         let input = File::open(&path).expect("that file");
         let output = hublog().stdin(input).output().expect("it ends");
         assert!(output.status.success() && output.stdout == expected, "{length} bytes from a file");
     }
     for length in LENGTHS.iter().flat_map(|length| [length - 1, *length, length + 1]) {
-        let expected = log::log_text(&log::answers(&mut Hub::new(), &whole[..length]));
-        assert!(printed(&whole[..length], &[]) == expected, "{length} bytes from a pipe");
+        let expected = log::log_text(&log::answers(&mut Hub::new(), &whole[..length], &[]));
+        assert!(printed(&whole[..length], &[], &[]) == expected, "{length} bytes from a pipe");
     }
 }
 

@@ -1,9 +1,9 @@
 //! Writers that wait: each line is there once the whole record is, a record may come in several reads, and a read
 //! that fails makes no record of what was left over.
 
-use hublog_tests::hublog;
+use hublog_tests::{hublog, Named};
 use reference::generate::{script, Kind, Random};
-use reference::{log, Hub};
+use reference::{log, Answer, Hub};
 use std::io::{BufRead, BufReader, Write};
 use std::os::fd::OwnedFd;
 use std::os::unix::net::UnixStream;
@@ -17,6 +17,8 @@ const LIMIT: Duration = Duration::from_secs(10);
 
 /// The program under way, with its lines as they come.
 struct Talk {
+    /// The file of its list.
+    _list: Named,
     child: Child,
     input: Option<ChildStdin>,
     lines: Receiver<String>,
@@ -24,7 +26,12 @@ struct Talk {
 
 impl Talk {
     fn start() -> Talk {
-        let mut child = hublog().spawn().expect("hublog starts");
+        Talk::with_list(&[])
+    }
+
+    fn with_list(list: &[u8]) -> Talk {
+        let list = Named::file(list);
+        let mut child = hublog().arg(list.as_ref()).spawn().expect("hublog starts");
         let output = BufReader::new(child.stdout.take().expect("piped"));
         let input = child.stdin.take();
         let (sender, lines) = mpsc::channel();
@@ -32,7 +39,7 @@ impl Talk {
             let lines = output.lines().map_while(Result::ok);
             lines.take_while(|line| sender.send(line.clone()).is_ok()).for_each(drop);
         });
-        Talk { child, input, lines }
+        Talk { _list: list, child, input, lines }
     }
 
     fn send(&mut self, bytes: &[u8]) {
@@ -69,17 +76,21 @@ impl Drop for Talk {
     }
 }
 
-/// The lines of a file's log.
+/// The lines of a file's log, without a list.
 fn lines(file: &[u8]) -> Vec<String> {
-    let text = log::log_text(&log::answers(&mut Hub::new(), file));
+    log_lines(&log::answers(&mut Hub::new(), file, &[]))
+}
+
+fn log_lines(answers: &[Answer]) -> Vec<String> {
+    let text = log::log_text(answers);
     String::from_utf8(text).expect("plain text").lines().map(String::from).collect()
 }
 
 #[test]
 fn a_writer_waits_for_each_line() {
-    let file = script(Kind::Mixed, 21, 500);
-    let mut talk = Talk::start();
-    for (record, line) in file.chunks(16).zip(lines(&file)) {
+    let script = script(Kind::Totals, 7, 500);
+    let mut talk = Talk::with_list(&script.list);
+    for (record, line) in script.records.chunks(16).zip(log_lines(&script.answers())) {
         talk.send(record);
         talk.expect(&line);
     }
@@ -89,7 +100,7 @@ fn a_writer_waits_for_each_line() {
 #[test]
 fn each_read_has_its_lines() {
     // Pieces of any size: the lines of the records that are whole by then, and no other.
-    let file = script(Kind::Reads, 22, 400);
+    let file = script(Kind::Reads, 22, 400).records;
     let expected = lines(&file);
     let mut random = Random::new(22);
     let mut talk = Talk::start();
@@ -108,7 +119,7 @@ fn each_read_has_its_lines() {
 
 #[test]
 fn a_record_in_parts_has_its_line_with_the_last() {
-    let file = script(Kind::Mixed, 23, 5);
+    let file = script(Kind::Mixed, 23, 5).records;
     let expected = lines(&file);
     // One record in three parts, two with the half of a fourth, the fourth in three parts, and a rest of 13 bytes.
     let mut talk = Talk::start();
@@ -131,7 +142,7 @@ fn a_record_in_parts_has_its_line_with_the_last() {
 #[test]
 fn pauses_change_nothing() {
     for seed in 0..4 {
-        let file = script(Kind::Tails, 30 + seed, 300);
+        let file = script(Kind::Tails, 30 + seed, 300).records;
         let mut random = Random::new(seed);
         let mut talk = Talk::start();
         let mut rest = &file[..];
@@ -159,7 +170,7 @@ fn failing(bytes: &[u8]) -> OwnedFd {
 
 #[test]
 fn a_read_that_fails_makes_no_record_of_a_rest() {
-    let file = script(Kind::Mixed, 24, 1500);
+    let file = script(Kind::Mixed, 24, 1500).records;
     let expected = lines(&file);
     // Rests of every length after none to three records, and one after many.
     for length in (0..=48).chain([file.len() - 11]) {

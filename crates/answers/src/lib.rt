@@ -13,6 +13,7 @@ pub fn kind(a: Answer) -> u8
         Answer::Freed(_) => 2,
         Answer::At(_) => 3,
         Answer::Value(_) => 4,
+        Answer::Below(_) => 7,
         Answer::Done => 5,
         Answer::No(_) => 6,
     }
@@ -27,6 +28,7 @@ pub fn number(a: Answer) -> u64
         Answer::Freed(slot) => slot as u64,
         Answer::At(time) => time as u64,
         Answer::Value(reading) => reading.count,
+        Answer::Below(reading) => reading.count,
         Answer::Done => 0,
         Answer::No(refusal) => refusal as u64,
     }
@@ -42,6 +44,7 @@ pub fn answer(kind: u8, number: u64) -> Answer
         3 => Answer::At((number % 4294967296) as u32),
         4 => Answer::Value(Reading { count: number }),
         5 => Answer::Done,
+        7 => Answer::Below(Reading { count: number }),
         _ => Answer::No((number % 256) as u8),
     }
 }

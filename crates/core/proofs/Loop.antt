@@ -3,13 +3,14 @@
 use mathlib.Core.Path.{_≡_, refl, sym, ap, _∙_, subst}
 use mathlib.Core.Bool.{Bool, true, false, _||_}
 use mathlib.Core.List.{List, [], map}
-use Prim.Native.Nat.{ℕ, _<_, _≤_, _+_, _-_, _%_}
+use Prim.Native.Nat.{ℕ, _<_, _≤_, _+_, _-_, _/_, _%_}
 use native.Mathlib.Omega.{arith}
 use native.Mathlib.Numerals.{add-one}
-use lib.ListN.{length, getD, set, length-set, length-map, replicate}
+use lib.ListN.{length, getD, set, take, length-set, length-map, replicate}
 use Rattle.lists.specs.Over.{over}
 use Rattle.lists.proofs.Mapped.{mapped, mapped-all}
 use Rattle.model.specs.Record as Model
+use Rattle.model.specs.Record.{rowsOf}
 use Rattle.values.specs.declared.Answer.{Answer}
 use Rattle.values.specs.declared.Answer.the-variants.{Ok, Going, Freed, No}
 use Rattle.answers.specs.Numbers.{kindOf, numberOf}
@@ -50,9 +51,9 @@ use Rattle.freeing.specs.declared.Freed as Freeing
 use Rattle.flush.specs.Flush.{putHandInStep, handedOn, partOf, withPart, flushReadStep}
 use Rattle.splitting.specs.Splitting.{splitLeft, splitQueue, splitMerged}
 use Rattle.freeing.specs.Freeing.{freedStep, freedRow, freedFree}
-use Rattle.simulation.specs.Memory.{Memory, memory}
+use Rattle.simulation.specs.Memory.{Memory, memory, withHub}
 use Rattle.simulation.specs.Left.{ready}
-use Rattle.simulation.specs.Shell.{Result, withHub, withRow, queueIn, takenIn, handedIn, tookIn, readIn, splitIn, freedIn, offWorker, nextIn, finishIn, stepAtIn, goIn, setUpIn, obeyIn, gateIn, doneAs}
+use Rattle.simulation.specs.Shell.{Result, withRow, rowsKept, queueIn, takenIn, handedIn, tookIn, readIn, splitIn, freedIn, offWorker, nextIn, finishIn, stepAtIn, goIn, setUpIn, obeyIn, gateIn, doneAs}
 use Rattle.simulation.specs.Records.{recordAt}
 use Rattle.simulation.specs.Loop.{makes, State, next, after, before, Ran}
 use Rattle.core.proofs.Lengths.{length-freed}
@@ -64,10 +65,10 @@ abbrev pub stateOf : Bool → Hub → List (List ℕ) → List ℕ → List ℕ 
 stateOf up h row newest free queue lens merged kinds numbers last =
     record { up = up; memory = memory h (rowOf row) newest free queue lens merged; kinds = kinds; numbers = numbers; last = last }
 
--- k records of the bytes are applied, from the state S on, and T is the state now
-pub record SoFar (S : State) (bytes : List ℕ) (count k : ℕ) (T : State) : Type 0 where
+-- k records of the bytes are applied, with the list lent, from the state S on, and T is the state now
+pub record SoFar (S : State) (list bytes : List ℕ) (count k : ℕ) (T : State) : Type 0 where
   pub inside : k ≤ count
-  pub state : T ≡ after S bytes k
+  pub state : T ≡ after S list bytes k
   -- memory that counts as set up has at most sixteen workers
   pub few : T .up ≡ true → T .memory .hub .p ≤ 16
   pub row : length (T .memory .slots) ≡ length (S .memory .slots)
@@ -95,27 +96,27 @@ empty-is : poolRep [] ≡ emptyPool
 empty-is i = record { slots = padded-nil 64 i; lows = padded-nil 64 i; highs = padded-nil 64 i; len = 0 }
 
 -- What is known once record k is decided: it reads as r, its byte 1 modulo sixteen is w, and g is the decision.
-pub record Decides (S : State) (bytes : List ℕ) (count k : ℕ) (T : State) (r : Decoded) (w : ℕ) (g : Gate) : Type 0 where
-  pub soFar : SoFar S bytes count k T
+pub record Decides (S : State) (list bytes : List ℕ) (count k : ℕ) (T : State) (r : Decoded) (w : ℕ) (g : Gate) : Type 0 where
+  pub soFar : SoFar S list bytes count k T
   pub more : k < count
   pub reads : decodedOf r ≡ Model.decode (recordAt bytes k)
   pub worker : w ≡ getD (recordAt bytes k) 1 0 % 16
   pub decided : g
       ≡ gateOf r (T .up) (T .memory .hub .p) (T .memory .hub .v) (length (T .memory .slots)) (workerIn (T .memory .hub) w .doing)
-      (workerIn (T .memory .hub) w .announced)
+      (workerIn (T .memory .hub) w .announced) list (rowsKept (T .memory .hub))
 
 -- the worker's number by the record's bytes
 pub named-by : {v : ℕ} {b c : List ℕ} → v ≡ getD b 1 0 → b ≡ c → v % 16 ≡ getD c 1 0 % 16
 named-by e f = ap (λ (z : ℕ). z % 16) e ∙ ap (λ (d : List ℕ). getD d 1 0 % 16) f
 
 -- by what the loop's locals and its calls are known to be
-pub deciding : (row : List (List ℕ)) {S : State} {bytes : List ℕ} {count k : ℕ} {up : Bool} {h : Hub}
+pub deciding : (row : List (List ℕ)) {S : State} {list bytes : List ℕ} {count k : ℕ} {up : Bool} {h : Hub}
     {newest free queue lens merged kinds numbers : List ℕ} {last : Answer} {r : Decoded} {w : ℕ} {g : Gate}
-    → SoFar S bytes count k (stateOf up h row newest free queue lens merged kinds numbers last) → k < count
+    → SoFar S list bytes count k (stateOf up h row newest free queue lens merged kinds numbers last) → k < count
     → decodedOf r ≡ Model.decode (recordAt bytes k) → w ≡ getD (recordAt bytes k) 1 0 % 16
-    → g ≡ gateOf r up (h .p) (h .v) (length row) (getD (h .workers) w nobody .doing) (getD (h .workers) w nobody .announced)
-    → Decides S bytes count k (stateOf up h row newest free queue lens merged kinds numbers last) r w g
-deciding row {up = up} {h = h} {r = r} {w = w} R more reads worker decided =
+    → g ≡ gateOf r up (h .p) (h .v) (length row) (getD (h .workers) w nobody .doing) (getD (h .workers) w nobody .announced) list (rowsKept h)
+    → Decides S list bytes count k (stateOf up h row newest free queue lens merged kinds numbers last) r w g
+deciding row {list = list} {up = up} {h = h} {r = r} {w = w} R more reads worker decided =
     record {
       soFar = R;
       more = more;
@@ -123,11 +124,12 @@ deciding row {up = up} {h = h} {r = r} {w = w} R more reads worker decided =
       worker = worker;
       decided =
           decided
-          ∙ ap (λ (n : ℕ). gateOf r up (h .p) (h .v) n (getD (h .workers) w nobody .doing) (getD (h .workers) w nobody .announced))
+          ∙ ap (λ (n : ℕ). gateOf r up (h .p) (h .v) n (getD (h .workers) w nobody .doing) (getD (h .workers) w nobody .announced) list (rowsKept h))
           (sym (length-map row _));
     }
 
-module _ {S : State} {bytes : List ℕ} {count k : ℕ} {T : State} {r : Decoded} {w : ℕ} {g : Gate} (D : Decides S bytes count k T r w g) where
+module _ {S : State} {list bytes : List ℕ} {count k : ℕ} {T : State} {r : Decoded} {w : ℕ} {g : Gate}
+    (D : Decides S list bytes count k T r w g) where
   abbrev m : Memory
   m = T .memory
 
@@ -140,7 +142,7 @@ module _ {S : State} {bytes : List ℕ} {count k : ℕ} {T : State} {r : Decoded
   abbrev x : Worker
   x = workerIn h w
 
-  R : SoFar S bytes count k T
+  R : SoFar S list bytes count k T
   R = D .soFar
 
   -- the worker that the record names, if it names one
@@ -154,34 +156,35 @@ module _ {S : State} {bytes : List ℕ} {count k : ℕ} {T : State} {r : Decoded
   read-as = decoded-back r ∙ ap decodedRep (D .reads)
 
   -- the decision is the definition's
-  gate : gateIn (T .up) m b ≡ g
+  gate : gateIn (T .up) m list b ≡ g
   gate =
+      let by : Decoded → ℕ → Gate = λ z v. gateOf z (T .up) (h .p) (h .v) (length (m .slots)) (workerIn h v .doing) (workerIn h v .announced) list
+      (rowsKept h) in
       sym (D .decided
-      ∙ ap (λ (v : ℕ). gateOf r (T .up) (h .p) (h .v) (length (m .slots)) (workerIn h v .doing) (workerIn h v .announced)) (D .worker)
-      ∙ gate-at h r u names (T .up) (length (m .slots)) (R .few)
-      ∙ ap (λ (z : Decoded). gateOf z (T .up) (h .p) (h .v) (length (m .slots)) (workerIn h (whoOf z) .doing) (workerIn h (whoOf z) .announced))
-      read-as)
+      ∙ ap (by r) (D .worker)
+      ∙ gate-at h r u names (T .up) (length (m .slots)) list (R .few)
+      ∙ ap (λ (z : Decoded). by z (whoOf z)) read-as)
 
   -- what it says of the worker
   says : Named (T .up) u (h .p) (length (m .slots)) g
   says =
       subst (Named (T .up) u (h .p) (length (m .slots))) (sym (D .decided))
-      (named r u names (T .up) (h .p) (h .v) (length (m .slots)) (x .doing) (x .announced))
+      (named r u names (T .up) (h .p) (h .v) (length (m .slots)) (x .doing) (x .announced) list (rowsKept h))
 
   -- the answer y is written
   abbrev pub Wrote : Answer → List ℕ → List ℕ → Answer → Type 0
   Wrote y kinds numbers last = (last ≡ y) × ((kinds ≡ set (T .kinds) k (kindOf y)) × (numbers ≡ set (T .numbers) k (numberOf y)))
 
   -- an arm that does what the definition says of the decision
-  on-gate : (g′ : Gate) (u : Bool) (q : Result) (kinds numbers : List ℕ) (last : Answer) → g ≡ g′ → u ≡ (T .up || makes g′) → obeyIn m g′ ≡ q
+  on-gate : (g′ : Gate) (u : Bool) (q : Result) (kinds numbers : List ℕ) (last : Answer) → g ≡ g′ → u ≡ (T .up || makes g′) → obeyIn m list g′ ≡ q
       → (u ≡ true → q .memory .hub .p ≤ 16) → length (q .memory .slots) ≡ length (m .slots) → length (q .memory .hub .workers) ≡ 16
       → Wrote (q .answer) kinds numbers last
-      → SoFar S bytes count (k + 1) (record { up = u; memory = q .memory; kinds = kinds; numbers = numbers; last = last })
+      → SoFar S list bytes count (k + 1) (record { up = u; memory = q .memory; kinds = kinds; numbers = numbers; last = last })
   unfolding after next doneAs
   on-gate g′ u q kinds numbers last eg eu eq few row sixteen z =
-      let d : doneAs (T .up) m b ≡ q = ap (obeyIn m) (gate ∙ eg) ∙ eq in
-      let t : T ≡ after S bytes k = R .state in
-      let n : next T k b ≡ record { up = u; memory = q .memory; kinds = kinds; numbers = numbers; last = last } =
+      let d : doneAs (T .up) m list b ≡ q = ap (obeyIn m list) (gate ∙ eg) ∙ eq in
+      let t : T ≡ after S list bytes k = R .state in
+      let n : next T list k b ≡ record { up = u; memory = q .memory; kinds = kinds; numbers = numbers; last = last } =
       (λ i. record {
         up = T .up || makes ((gate ∙ eg) i);
         memory = d i .memory;
@@ -192,7 +195,7 @@ module _ {S : State} {bytes : List ℕ} {count k : ℕ} {T : State} {r : Decoded
       ∙ (λ i. record { up = sym eu i; memory = q .memory; kinds = sym (z .1 .0) i; numbers = sym (z .1 .1) i; last = sym (z .0) i }) in
       record {
         inside = let i = D .more in omega arith;
-        state = rw (add-one k) (sym n ∙ ap (λ (s : State). next s k b) t);
+        state = rw (add-one k) (sym n ∙ ap (λ (s : State). next s list k b) t);
         few = few;
         row = row ∙ R .row;
         sixteen = sixteen;
@@ -204,7 +207,7 @@ module _ {S : State} {bytes : List ℕ} {count k : ℕ} {T : State} {r : Decoded
   -- Refused, set up, begun
 
   pub on-refuse : (n : ℕ) (kinds numbers : List ℕ) (last : Answer) → g ≡ Refuse n → Wrote (No n) kinds numbers last
-      → SoFar S bytes count (k + 1) (record { up = T .up; memory = m; kinds = kinds; numbers = numbers; last = last })
+      → SoFar S list bytes count (k + 1) (record { up = T .up; memory = m; kinds = kinds; numbers = numbers; last = last })
   unfolding obeyIn
   on-refuse n kinds numbers last e z = on-gate (Refuse n) (T .up) _ kinds numbers last e (or-false (T .up)) refl (R .few) refl (R .sixteen) z
 
@@ -212,9 +215,9 @@ module _ {S : State} {bytes : List ℕ} {count k : ℕ} {T : State} {r : Decoded
   make-few p v n t e = sizes-few p v n t (length (m .slots)) (subst (Named (T .up) u (h .p) (length (m .slots))) e says .1)
 
   pub on-make : (p v n t : ℕ) (h′ : Hub) (slots newest free : List _) (kinds numbers : List ℕ) (last : Answer) → g ≡ Make p v n t
-      → h′ ≡ freshHub p v n t → slots ≡ madeTo (m .slots) v n → newest ≡ fillTo (m .newest) short v
+      → h′ ≡ freshHub p v n t (length list / 4) (over (take 1024 (rowsOf list)) (replicate 1024 0)) → slots ≡ madeTo (m .slots) v n → newest ≡ fillTo (m .newest) short v
       → free ≡ fillTo (m .free) (λ j. short (n - 1 - j)) (h′ .free) → Wrote Ok kinds numbers last
-      → SoFar S bytes count (k + 1)
+      → SoFar S list bytes count (k + 1)
       (record { up = true; memory = memory h′ slots newest free (m .queue) (m .lens) (m .merged); kinds = kinds; numbers = numbers; last = last })
   unfolding obeyIn setUpIn
   on-make p v n t h′ slots newest free kinds numbers last e eh es en ef z =
@@ -236,7 +239,7 @@ module _ {S : State} {bytes : List ℕ} {count k : ℕ} {T : State} {r : Decoded
       (n .1 ∙ omega arith, omega arith)
 
   pub on-start : (v : ℕ) (d : Doing) (kinds numbers : List ℕ) (last : Answer) → g ≡ Start v d → Wrote Ok kinds numbers last
-      → SoFar S bytes count (k + 1)
+      → SoFar S list bytes count (k + 1)
       (record { up = T .up; memory = withHub m (withWorkersIn h (set (h .workers) w (atPlace x d))); kinds = kinds; numbers = numbers; last = last })
   unfolding obeyIn
   on-start v d kinds numbers last e z =
@@ -252,7 +255,7 @@ module _ {S : State} {bytes : List ℕ} {count k : ℕ} {T : State} {r : Decoded
     long : length row ≡ length (m .slots)
     long =
         ap (λ (z : Stepped). length (z .row)) stepped
-        ∙ length-step (x .doing) (x .announced) (h .clock) (h .free) (h .p) (m .slots) (m .newest) (m .free)
+        ∙ length-step (x .doing) (x .announced) (h .clock) (h .free) (h .p) (m .slots) (m .newest) (m .free) (rowsKept h)
 
     of-worker : (v ≡ w) × (w < 16)
     of-worker = named-worker v (subst (Named (T .up) u (h .p) (length (m .slots))) e says)
@@ -267,18 +270,18 @@ module _ {S : State} {bytes : List ℕ} {count k : ℕ} {T : State} {r : Decoded
     told s′ f =
         subst (Said (h .p)) f
         (subst (λ (z : Stepped). Said (h .p) (z .next)) (sym stepped)
-        (said (x .doing) (x .announced) (h .clock) (h .free) (h .p) (m .slots) (m .newest) (m .free)))
+        (said (x .doing) (x .announced) (h .clock) (h .free) (h .p) (m .slots) (m .newest) (m .free) (rowsKept h)))
 
     abbrev m′ : Memory
     m′ = withRow m row newest
 
-    goes : (s′ : Next) → s ≡ s′ → obeyIn m (Go w) ≡ nextIn m′ w x s′
+    goes : (s′ : Next) → s ≡ s′ → obeyIn m list (Go w) ≡ nextIn m′ w x s′
     unfolding obeyIn goIn
     goes s′ f = ap (finishIn m w x) (sym stepped) ∙ ap (nextIn m′ w x) f
 
     on-go : (s′ : Next) (q : Result) (kinds numbers : List ℕ) (last : Answer) → s ≡ s′ → nextIn m′ w x s′ ≡ q → q .memory .hub .p ≡ h .p
         → length (q .memory .slots) ≡ length row → length (q .memory .hub .workers) ≡ 16 → Wrote (q .answer) kinds numbers last
-        → SoFar S bytes count (k + 1) (record { up = T .up; memory = q .memory; kinds = kinds; numbers = numbers; last = last })
+        → SoFar S list bytes count (k + 1) (record { up = T .up; memory = q .memory; kinds = kinds; numbers = numbers; last = last })
     on-go s′ q kinds numbers last f n ep er es z =
         on-gate (Go w) (T .up) q kinds numbers last (e ∙ ap Go (of-worker .0)) (or-false (T .up)) (goes s′ f ∙ n)
         (λ u. subst (λ (y : ℕ). y ≤ 16) (sym ep) (R .few u)) (er ∙ long) es z
@@ -287,7 +290,7 @@ module _ {S : State} {bytes : List ℕ} {count k : ℕ} {T : State} {r : Decoded
     replaced y = length-set (h .workers) w y ∙ R .sixteen
 
     pub on-taken : (o : Outcome) (kinds numbers : List ℕ) (last : Answer) → s ≡ Taken o → Wrote (o .answer) kinds numbers last
-        → SoFar S bytes count (k + 1)
+        → SoFar S list bytes count (k + 1)
         (record {
           up = T .up;
           memory =
@@ -309,7 +312,7 @@ module _ {S : State} {bytes : List ℕ} {count k : ℕ} {T : State} {r : Decoded
         → a ≡ handedOn row (x .pool .len) c (h .p) → slots ≡ placed (x .pool .slots) (x .pool .len) c
         → lows ≡ placed (x .pool .lows) (x .pool .len) (a .low) → highs ≡ placed (x .pool .highs) (x .pool .len) (a .high)
         → Wrote (a .answer) kinds numbers last
-        → SoFar S bytes count (k + 1)
+        → SoFar S list bytes count (k + 1)
         (record {
           up = T .up;
           memory =
@@ -350,7 +353,7 @@ module _ {S : State} {bytes : List ℕ} {count k : ℕ} {T : State} {r : Decoded
         × ((poolsIn queue lens (a .window) ≡ rest (queueIn m))
         × (merged ≡ withPart (m .merged) w (over (flat (taken (queueIn m))) (partOf (m .merged) w))))
         → Wrote Going kinds numbers last
-        → SoFar S bytes count (k + 1)
+        → SoFar S list bytes count (k + 1)
         (record {
           up = T .up;
           memory =
@@ -387,7 +390,7 @@ module _ {S : State} {bytes : List ℕ} {count k : ℕ} {T : State} {r : Decoded
     -- flush (2)
     pub on-read : (n j : ℕ) (times : List ℕ) (kinds numbers : List ℕ) (last : Answer) → s ≡ Read n j
         → times ≡ flushReadStep (h .times) w j (workerIn h (j % 16) .announced) → Wrote Going kinds numbers last
-        → SoFar S bytes count (k + 1)
+        → SoFar S list bytes count (k + 1)
         (record {
           up = T .up;
           memory =
@@ -416,7 +419,7 @@ module _ {S : State} {bytes : List ℕ} {count k : ℕ} {T : State} {r : Decoded
         → a .left ≡ splitLeft (m .merged) w n (h .times) (h .p) (x .pool)
         → poolsIn queue lens (a .window) ≡ splitQueue (queueIn m) (m .merged) w n (h .times) (h .p) (x .pool)
         → merged ≡ splitMerged (m .merged) w n (h .times) (h .p) (x .pool) → Wrote Going kinds numbers last
-        → SoFar S bytes count (k + 1)
+        → SoFar S list bytes count (k + 1)
         (record {
           up = T .up;
           memory =
@@ -457,7 +460,7 @@ module _ {S : State} {bytes : List ℕ} {count k : ℕ} {T : State} {r : Decoded
         → h′ ≡ withWorkersIn (withFreeIn (withWorkersIn h (set (h .workers) w (atPlace x (FlushFree (n - 1))))) (a .free))
         (mapped (offWorker (a .slot) (a .older)) j (set (h .workers) w (atPlace x (FlushFree (n - 1)))))
         → Wrote (Freed (a .slot)) kinds numbers last
-        → SoFar S bytes count (k + 1)
+        → SoFar S list bytes count (k + 1)
         (record { up = T .up; memory = memory h′ slots newest free (m .queue) (m .lens) (m .merged); kinds = kinds; numbers = numbers; last = last })
     unfolding nextIn freedIn
     on-free n a slots free h′ j kinds numbers last f ea es ef lo hi eh z =
@@ -490,14 +493,14 @@ ready-is h row newest free queue lens merged up linked ek eu =
     eu ∙ (λ i. readyOf h newest free queue lens merged (ek i) (sym (length-map row slotIn) i))
 
 -- all records are applied
-pub finished : (m : Memory) (bytes kinds numbers : List ℕ) (count k : ℕ) (up : Bool) (T : State)
-    → SoFar (record { up = up; memory = m; kinds = kinds; numbers = numbers; last = Ok }) bytes count k T → count ≤ k → up ≡ ready m
-    → Ran m bytes kinds numbers count (T .memory) (T .kinds) (T .numbers) (T .last)
-finished m bytes kinds numbers count k up T R all tested =
+pub finished : (m : Memory) (list bytes kinds numbers : List ℕ) (count k : ℕ) (up : Bool) (T : State)
+    → SoFar (record { up = up; memory = m; kinds = kinds; numbers = numbers; last = Ok }) list bytes count k T → count ≤ k → up ≡ ready m
+    → Ran m list bytes kinds numbers count (T .memory) (T .kinds) (T .numbers) (T .last)
+finished m list bytes kinds numbers count k up T R all tested =
     let i = R .inside in
     let last : k ≡ count = omega arith in
-    let e : T ≡ after (before m kinds numbers) bytes count =
-    R .state ∙ (λ j. after (record { up = tested j; memory = m; kinds = kinds; numbers = numbers; last = Ok }) bytes (last j)) in
+    let e : T ≡ after (before m kinds numbers) list bytes count =
+    R .state ∙ (λ j. after (record { up = tested j; memory = m; kinds = kinds; numbers = numbers; last = Ok }) list bytes (last j)) in
     record {
       memory = ap (λ (s : State). s .memory) e;
       answerKinds = ap (λ (s : State). s .kinds) e;

@@ -1,6 +1,7 @@
 -- The sixteen workers' records can be looked at by the worker's number modulo sixteen: where it matters, the worker is below sixteen.
 use mathlib.Core.Path.{_≡_, sym, ap, _∙_}
 use mathlib.Core.Bool.{Bool, true}
+use mathlib.Core.List.{List}
 use Prim.Native.Nat.{ℕ, _<_, _≤_, _%_}
 use native.Mathlib.Omega.{arith}
 use lib.ListN.{getD}
@@ -10,16 +11,17 @@ use Rattle.state.specs.declared.Hub.{Hub}
 use Rattle.state.specs.State.{nobody, workerIn}
 use Rattle.gate.specs.Gate.{gateOf, whoOf}
 use Rattle.gate.proofs.Named.{Names, same-gate}
+use Rattle.simulation.specs.Shell.{rowsKept}
 
 -- a worker below sixteen
 worker-at : (h : Hub) (w : ℕ) → w < 16 → getD (h .workers) (w % 16) nobody ≡ workerIn h w
 worker-at h w l = let e : w % 16 ≡ w = omega arith in rw e
 
-pub gate-at : (h : Hub) (r : Decoded) (u : ℕ) → Names r u → (up : Bool) (long : ℕ) → (up ≡ true → h .p ≤ 16)
-    → gateOf r up (h .p) (h .v) long (getD (h .workers) (u % 16) nobody .doing) (getD (h .workers) (u % 16) nobody .announced)
-    ≡ gateOf r up (h .p) (h .v) long (workerIn h (whoOf r) .doing) (workerIn h (whoOf r) .announced)
-gate-at h r u n up long few =
-    same-gate r u n up (h .p) (h .v) long _ _ _ _
+pub gate-at : (h : Hub) (r : Decoded) (u : ℕ) → Names r u → (up : Bool) (long : ℕ) (list : List ℕ) → (up ≡ true → h .p ≤ 16)
+    → gateOf r up (h .p) (h .v) long (getD (h .workers) (u % 16) nobody .doing) (getD (h .workers) (u % 16) nobody .announced) list (rowsKept h)
+    ≡ gateOf r up (h .p) (h .v) long (workerIn h (whoOf r) .doing) (workerIn h (whoOf r) .announced) list (rowsKept h)
+gate-at h r u n up long list few =
+    same-gate r u n up (h .p) (h .v) long _ _ _ _ list (rowsKept h)
     (λ t l e. let p = few t in
     let s = worker-at h u (omega arith) ∙ ap (workerIn h) (sym e) in
     (ap (λ (x : Worker). x .doing) s, ap (λ (x : Worker). x .announced) s))

@@ -1,8 +1,10 @@
 // The loop over the records. It owns the hub while it runs, so that a record moves only what its step names; everything else is lent. The
 // slots are a lent row of words. Every public call goes through it.
 ghost use mathlib.Core.Path.{_≡_};
-ghost use Prim.Native.Nat.{_≤_, _-_};
-ghost use lib.ListN.{getD, set};
+ghost use Prim.Native.Nat.{_≤_, _-_, _/_};
+ghost use lib.ListN.{length, getD, set, take, replicate};
+ghost use Rattle.lists.specs.Over.{over};
+ghost use Rattle.model.specs.Record.{rowsOf};
 ghost use Rattle.answers.specs.Numbers.{kindOf, numberOf};
 ghost use Rattle.slots.specs.Slots.{madeTo};
 ghost use Rattle.state.specs.State.{freshHub};
@@ -78,22 +80,29 @@ fn put_answer(kinds: &mut [u8], numbers: &mut [u64], k: usize, y: Answer) -> Ans
     y
 }
 
-// A setup that is accepted: the hub, with its newest versions, free slots and slots.
+// A setup that is accepted: the hub with the rows of the list of totals, its newest versions, free slots and slots.
 fn make(
     row: &mut [[u64; 5]],
     newest: &mut [u16; 256],
     free: &mut [u16; 2048],
+    list: &[u8],
     p: u8,
     v: u16,
     n: u16,
     clock: u32,
 ) -> Hub
-    ensures { λ r. ⌜ r ≡ freshHub p v n clock ⌝ }
+    ensures { λ r. ⌜
+        r
+        ≡ freshHub p v n clock (length (now (list .entry)) / 4) (over (take 1024 (rowsOf (now (list .entry)))) (replicate 1024 0))
+        ⌝ }
     ensures { λ _. ⌜ rowOf (now (row .exit)) ≡ madeTo (rowOf (now (row .entry))) v n ⌝ }
     ensures { λ _. ⌜ now (newest .exit) ≡ fillTo (now (newest .entry)) short v ⌝ }
     ensures { λ r. ⌜ now (free .exit) ≡ fillTo (now (free .entry)) (λ j. short (n - 1 - j)) (r .free) ⌝ }
 {
-    let hub = Hub::fresh(p as usize, v as usize, n as usize, clock);
+    let mut rows = [0u32; 1024];
+    totals::fill_rows(&mut rows, list);
+    let listed = list.len() / 4;
+    let hub = Hub::fresh(p as usize, v as usize, n as usize, clock, listed, rows);
     arrays::fill_newest(newest, v as usize);
     arrays::fill_free(free, n as usize, hub.free);
     versions::set_up(row, v as usize, n as usize);
@@ -106,10 +115,11 @@ pub struct Ended {
     pub last: Answer,
 }
 
-// Applies the first `count` records of the bytes: the kind and the number of answer k stand at k.
+// Applies the first `count` records of the bytes, with the list of totals lent: the kind and the number of answer k stand at k.
 pub fn run(
     row: &mut [[u64; 5]],
     start: Hub,
+    list: &[u8],
     bytes: &[u8],
     count: usize,
     kinds: &mut [u8],
@@ -131,7 +141,7 @@ pub fn run(
           lens = now (lens .entry);
           merged = now (merged .entry);
         })
-        (now (bytes .entry)) (now (kinds .entry)) (now (numbers .entry)) count
+        (now (list .entry)) (now (bytes .entry)) (now (kinds .entry)) (now (numbers .entry)) count
         (record {
           hub = r .hub;
           slots = rowOf (now (row .exit));
@@ -163,14 +173,25 @@ pub fn run(
         let d = x.doing;
         let t = x.announced;
         let r = record::decode(rec);
-        let g = gate::gate_for(r, up, hub.p, hub.v, row.len(), d, t);
+        let g = gate::gate_for(
+            r,
+            up,
+            hub.p,
+            hub.v,
+            row.len(),
+            d,
+            t,
+            list,
+            &hub.rows,
+            hub.listed,
+        );
         match g {
             Gate::Refuse(refusal) => {
                 last = put_answer(kinds, numbers, k, Answer::No(refusal));
                 k += 1;
             }
             Gate::Make { p, v, n, clock } => {
-                hub = make(row, newest, free, p, v, n, clock);
+                hub = make(row, newest, free, list, p, v, n, clock);
                 window = hub.window;
                 up = true;
                 last = put_answer(kinds, numbers, k, Answer::Ok);
@@ -183,7 +204,18 @@ pub fn run(
             }
             // A step of worker w.
             Gate::Go { worker: _ } => {
-                let s = step::step(row, newest, free, d, t, hub.clock, hub.free, hub.p);
+                let s = step::step(
+                    row,
+                    newest,
+                    free,
+                    d,
+                    t,
+                    hub.clock,
+                    hub.free,
+                    hub.p,
+                    &hub.rows,
+                    hub.listed,
+                );
                 match s {
                     Next::Taken(o) => {
                         let doing = o.doing;

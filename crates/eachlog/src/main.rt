@@ -1,5 +1,6 @@
 // The log of the records on standard input, as `hublog` writes it, with one call of `hub::apply` for each record. The arguments say how many
-// slots the lent row has (2048 without one), and from which record on it has another number of them: eachlog [SLOTS [RECORD SLOTS]].
+// slots the lent row has (2048 without one), and from which record on it has another number of them: eachlog [SLOTS [RECORD SLOTS [LIST]]]. LIST
+// names the file with the list of totals.
 ghost use Prim.Native.Nat.{_≤_};
 ghost use lib.ListN.{length};
 use state::Hub;
@@ -51,7 +52,7 @@ fn write_answer(k: u64, answer: Answer) -> bool {
     let numbers: &mut [u64] = &mut number_space;
     kinds[0] = answers::kind(answer);
     numbers[0] = answers::number(answer);
-    let mut text_space = [0u8; 48];
+    let mut text_space = [0u8; 49];
     let text: &mut [u8] = &mut text_space;
     let used = lines::write_lines(text, k, kinds, numbers, 1);
     let line = &text[..];
@@ -69,10 +70,19 @@ fn main() {
     let mut queue = [0u32; 12288];
     let mut lens = [0u32; 4096];
     let mut merged = [0u32; 12288];
+    // The list of totals: one byte more than the longest that a setup accepts.
+    let mut list_space = [0u8; 4097];
+    let list: &mut [u8] = &mut list_space;
+    let listed = input::read_named(4, list);
+    if listed.failed {
+        input::say(b"eachlog: cannot read the list of totals\n");
+        return;
+    }
+    let end = listed.n;
     let none = slots::vacant();
     let mut slots = [none; 2048];
     // No worker, no register, no slot: memory that counts as not set up.
-    let mut hub = Hub::fresh(0, 0, 0, 0);
+    let mut hub = Hub::fresh(0, 0, 0, 0, 0, [0u32; 1024]);
     let mut k: u64 = 0;
     let mut lent = long;
     // Nothing says that the input ends, so the turns are counted, from a number that no run uses up.
@@ -92,6 +102,7 @@ fn main() {
             slots,
             lent,
             hub,
+            &list[0..end],
             &rec[0..n],
             &mut newest,
             &mut free,

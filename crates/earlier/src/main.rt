@@ -1,7 +1,7 @@
-// Memory that records left before a put could be refused by its value (H7.10). A put leaves a version and another one begins, both of 1. Then
-// their values are made larger than the limit, as they would be had they been put at that time. What is sent after that shows the stored
-// value, ends the put that had begun, refuses a new one and frees the slots. The records are those of the run `changing` in
-// crates/model/specs/Runs.antt, and the lines have to be its log.
+// Memory that records left before a put could be refused by its value (H7.10): values that were put are made larger than the limit, as they would
+// be had they been put at that time. First, a put leaves a version and another one begins. What is sent after that shows the stored value, ends
+// the put that had begun, refuses a new one and frees the slots. Then, a total meets such a value and is refused (H12.9), and a read shows it. The
+// records are those of the runs `changing` and `over` in crates/model/specs/Runs.antt, and the lines have to be their logs.
 use libc::STDOUT_FILENO;
 use slots::Slot;
 use state::Hub;
@@ -23,6 +23,8 @@ const COLLECT: u8 = 6;
 
 const STEP: u8 = 7;
 
+const TOTAL: u8 = 8;
+
 // The memory that is lent with each record, and the number of the next line.
 struct Memory {
     hub: Hub,
@@ -35,8 +37,8 @@ struct Memory {
     line: u64,
 }
 
-// The memory after a record, whose line is written.
-fn after(m: Memory, rec: [u8; 16]) -> Memory {
+// The memory after a record with a list of totals; its line is written.
+fn after_with(m: Memory, list: &[u8], rec: [u8; 16]) -> Memory {
     let hub = m.hub;
     let slots = m.slots;
     let mut newest = m.newest;
@@ -49,6 +51,7 @@ fn after(m: Memory, rec: [u8; 16]) -> Memory {
         slots,
         2048,
         hub,
+        list,
         &rec,
         &mut newest,
         &mut free,
@@ -59,7 +62,7 @@ fn after(m: Memory, rec: [u8; 16]) -> Memory {
     let answer = done.answer;
     let kinds = [answers::kind(answer)];
     let numbers = [answers::number(answer)];
-    let mut space = [0u8; 48];
+    let mut space = [0u8; 49];
     let text: &mut [u8] = &mut space;
     let used = lines::write_lines(text, line, &kinds, &numbers, 1);
     let log = &text[..];
@@ -78,7 +81,12 @@ fn after(m: Memory, rec: [u8; 16]) -> Memory {
     }
 }
 
-// A record of this operation, worker and value, on register 0; the value is below 2^40.
+// The list is read with a setup alone.
+fn after(m: Memory, rec: [u8; 16]) -> Memory {
+    after_with(m, &[], rec)
+}
+
+// A record of this operation, worker and value, on register 0 or group 0; the value is below 2^40.
 fn record_of(operation: u8, worker: u8, value: u64) -> [u8; 16] {
     let a = (value % 256) as u8;
     let b = (value / 256 % 256) as u8;
@@ -106,7 +114,7 @@ fn sent(m: Memory, operation: u8, worker: u8, value: u64, n: u8) -> Memory {
 // Memory that is not set up.
 fn blank() -> Memory {
     let none = slots::vacant();
-    let hub = Hub::fresh(0, 0, 0, 0);
+    let hub = Hub::fresh(0, 0, 0, 0, 0, [0u32; 1024]);
     Memory {
         hub,
         slots: [none; 2048],
@@ -150,7 +158,7 @@ fn earlier() -> Memory {
     putting(stored(second, 1, 1000000000000), 1, 1000000000001)
 }
 
-fn main() {
+fn changing() {
     let m = earlier();
     // A get and a read show the stored value.
     let a = sent(m, GET, 0, 0, 1);
@@ -166,4 +174,22 @@ fn main() {
     let i = sent(h, COLLECT, 1, 0, 7);
     let j = sent(i, COLLECT, 1, 0, 6);
     sent(j, GET, 1, 0, 1);
+}
+
+// Two workers, two registers and six slots, and a total of both registers. Worker 0 has put 1000000000000 into slot 2.
+fn over() {
+    let list = [0, 0, 0, 0, 0, 0, 1, 0];
+    let setup = [0, 2, 2, 0, 6, 0, 0, 0, 1, 0, 0, 0, 0, 0, 0, 0];
+    let fresh = after_with(blank(), &list, setup);
+    let first = sent(fresh, PUT, 0, 1, 3);
+    let m = stored(first, 2, 1000000000000);
+    // The total is refused at the value, its worker is idle then, and the snapshot stays open.
+    let a = sent(m, OPEN, 1, 0, 2);
+    let b = sent(a, TOTAL, 1, 0, 3);
+    sent(b, READ, 1, 0, 2);
+}
+
+fn main() {
+    changing();
+    over();
 }

@@ -2,7 +2,7 @@
 use mathlib.Core.Path.{_≡_, refl}
 use Rattle.record.specs.Meaning.{operationOf, commandMeaning, decodedOf}
 use Rattle.record.specs.declared.Operation.{Operation}
-use Rattle.record.specs.declared.Operation.the-variants.{Put, Open, Read, Close, Get, Collect}
+use Rattle.record.specs.declared.Operation.the-variants.{Put, Open, Read, Close, Get, Collect, Total}
 use Rattle.record.specs.declared.Command.{Command}
 use Rattle.record.specs.declared.Command.the-variants.{SetUp, Begin, Step}
 use Rattle.record.specs.declared.Decoded.{Decoded}
@@ -16,6 +16,7 @@ operation-back (Read r) = refl
 operation-back Close = refl
 operation-back (Get r) = refl
 operation-back Collect = refl
+operation-back (Total g) = refl
 
 command-back : (c : Command) → c ≡ commandRep (commandMeaning c)
 command-back (SetUp p v n t) = refl

@@ -1,7 +1,7 @@
 -- What the decision on a record says of the worker: an operation begins, and a step is taken, only where the memory counts as set up and of a
 -- worker below p; the record of another worker does not matter.
 use mathlib.Core.Path.{_≡_, refl, sym, subst}
-use mathlib.Core.Bool.{Bool, true, false, cond}
+use mathlib.Core.Bool.{Bool, true, false, cond, _&&_}
 use mathlib.Core.List.{List}
 use Prim.Native.Nat.{ℕ, zero, suc, _<_}
 use native.Mathlib.Omega.{arith}
@@ -9,7 +9,7 @@ use lib.Dec.{ltb}
 use lib.ListN.{length, getD}
 use borrow.Author.Tests.{ltb-true}
 use Rattle.model.specs.Record as Model
-use Rattle.model.proofs.Basic.{cond-both}
+use Rattle.model.proofs.Basic.{cond-both, and-both}
 use Rattle.worker.specs.declared.Announced.{Announced}
 use Rattle.worker.specs.declared.Doing.{Doing}
 use Rattle.record.specs.declared.Operation.{Operation}
@@ -33,10 +33,6 @@ named-worker : (w p long : ℕ) (g : Gate) → (w < p → Named true w p long g)
 named-worker w p long g f true e = f (ltb-true w p e)
 named-worker w p long g f false e = tt
 
-named-make : (w p long x y n k : ℕ) (t : Bool) → sizesOk x y n k long ≡ t → Named false w p long (cond t (Make x y n k) (Refuse 5))
-named-make w p long x y n k true e = (refl, e)
-named-make w p long x y n k false e = tt
-
 -- the worker, if a record names one, is u
 abbrev pub Names : Decoded → ℕ → Type 0
 Names (Refuses k) u = Unit {0}
@@ -44,40 +40,44 @@ Names (Asks (SetUp x y n k)) u = Unit {0}
 Names (Asks (Begin w o)) u = w ≡ u
 Names (Asks (Step w)) u = w ≡ u
 
-pub named : (r : Decoded) (u : ℕ) → Names r u → (up : Bool) (p v long : ℕ) (d : Doing) (t : Announced) → Named up u p long (gateOf r up p v long d t)
+pub named : (r : Decoded) (u : ℕ) → Names r u → (up : Bool) (p v long : ℕ) (d : Doing) (t : Announced) (list rows : List ℕ)
+    → Named up u p long (gateOf r up p v long d t list rows)
 unfolding gateOf
-named (Refuses k) u e up p v long d t = tt
-named (Asks (SetUp x y n k)) u e true p v long d t = tt
-named (Asks (SetUp x y n k)) u e false p v long d t = named-make u p long x y n k (sizesOk x y n k long) refl
-named (Asks (Begin w o)) u e false p v long d t = tt
-named (Asks (Begin w o)) u e true p v long d t =
-    subst (λ (i : ℕ). Named true i p long (gateOf (Asks (Begin w o)) true p v long d t)) e
-    (begin-gate-by (Named true w p long) p v w o d t (λ k n. tt) (λ h. (refl, refl, ltb-true w p h)))
-named (Asks (Step w)) u e false p v long d t = tt
-named (Asks (Step w)) u e true p v long d t =
-    subst (λ (i : ℕ). Named true i p long (gateOf (Asks (Step w)) true p v long d t)) e
+named (Refuses k) u e up p v long d t list rows = tt
+named (Asks (SetUp x y n k)) u e true p v long d t list rows = tt
+named (Asks (SetUp x y n k)) u e false p v long d t list rows =
+    let sizes = sizesOk x y n k long in
+    let fits = Model.listFits y list in
+    cond-both (Named false u p long) (sizes && fits) _ _ (λ f. (refl, and-both sizes fits f .0)) (λ f. tt)
+named (Asks (Begin w o)) u e false p v long d t list rows = tt
+named (Asks (Begin w o)) u e true p v long d t list rows =
+    subst (λ (i : ℕ). Named true i p long (gateOf (Asks (Begin w o)) true p v long d t list rows)) e
+    (begin-gate-by (Named true w p long) p v w o d t rows (λ k n. tt) (λ h. (refl, refl, ltb-true w p h)))
+named (Asks (Step w)) u e false p v long d t list rows = tt
+named (Asks (Step w)) u e true p v long d t list rows =
+    subst (λ (i : ℕ). Named true i p long (gateOf (Asks (Step w)) true p v long d t list rows)) e
     (named-worker w p long (Go w) (λ h. (refl, refl, h)) (ltb w p) refl)
 
 ------------------------------------------------------------------------
 -- The worker's record matters only there
 
-same-begin : (p v w : ℕ) (o : Operation) (d e : Doing) (t u : Announced) → (w < p → (d ≡ e) × (t ≡ u)) → (y : Bool) → ltb w p ≡ y
-    → beginGate p v w o d t ≡ beginGate p v w o e u
+same-begin : (p v w : ℕ) (o : Operation) (d e : Doing) (t u : Announced) (rows : List ℕ) → (w < p → (d ≡ e) × (t ≡ u)) → (y : Bool) → ltb w p ≡ y
+    → beginGate p v w o d t rows ≡ beginGate p v w o e u rows
 unfolding beginGate
-same-begin p v w o d e t u f true h =
+same-begin p v w o d e t u rows f true h =
     let s = f (ltb-true w p h) in
-    λ i. beginGate p v w o (s .0 i) (s .1 i)
-same-begin p v w o d e t u f false h = rw h
+    λ i. beginGate p v w o (s .0 i) (s .1 i) rows
+same-begin p v w o d e t u rows f false h = rw h
 
-pub same-gate : (r : Decoded) (w : ℕ) → Names r w → (up : Bool) (p v long : ℕ) (d e : Doing) (t u : Announced)
-    → (up ≡ true → w < p → whoOf r ≡ w → (d ≡ e) × (t ≡ u)) → gateOf r up p v long d t ≡ gateOf r up p v long e u
+pub same-gate : (r : Decoded) (w : ℕ) → Names r w → (up : Bool) (p v long : ℕ) (d e : Doing) (t u : Announced) (list rows : List ℕ)
+    → (up ≡ true → w < p → whoOf r ≡ w → (d ≡ e) × (t ≡ u)) → gateOf r up p v long d t list rows ≡ gateOf r up p v long e u list rows
 unfolding gateOf whoOf
-same-gate (Refuses k) w n up p v long d e t u f = refl
-same-gate (Asks (SetUp x y a k)) w n up p v long d e t u f = refl
-same-gate (Asks (Begin i o)) w n false p v long d e t u f = refl
-same-gate (Asks (Begin i o)) w n true p v long d e t u f =
-    same-begin p v i o d e t u (λ h. f refl (subst (λ (k : ℕ). k < p) n h) n) (ltb i p) refl
-same-gate (Asks (Step i)) w n up p v long d e t u f = refl
+same-gate (Refuses k) w n up p v long d e t u list rows f = refl
+same-gate (Asks (SetUp x y a k)) w n up p v long d e t u list rows f = refl
+same-gate (Asks (Begin i o)) w n false p v long d e t u list rows f = refl
+same-gate (Asks (Begin i o)) w n true p v long d e t u list rows f =
+    same-begin p v i o d e t u rows (λ h. f refl (subst (λ (k : ℕ). k < p) n h) n) (ltb i p) refl
+same-gate (Asks (Step i)) w n up p v long d e t u list rows f = refl
 
 ------------------------------------------------------------------------
 -- The worker that a record names stands in its byte 1 (H3.3)
@@ -97,7 +97,8 @@ command-names b (suc (suc (suc zero))) = omega arith
 command-names b (suc (suc (suc (suc zero)))) = omega arith
 command-names b (suc (suc (suc (suc (suc zero))))) = omega arith
 command-names b (suc (suc (suc (suc (suc (suc zero)))))) = omega arith
-command-names b (suc (suc (suc (suc (suc (suc (suc n))))))) = omega arith
+command-names b (suc (suc (suc (suc (suc (suc (suc zero))))))) = omega arith
+command-names b (suc (suc (suc (suc (suc (suc (suc (suc n)))))))) = omega arith
 
 decode-names : (b : List ℕ) → ModelNames (Model.decode b) (getD b 1 0)
 unfolding Model.decode
@@ -105,7 +106,7 @@ decode-names b =
     let c = Model.commandOf b (getD b 0 0) in
     let P : Model.Decoded → Type 0 = λ x. ModelNames x (getD b 1 0) in
     cond-both P (ltb (length b) 16) _ _ (λ e. tt)
-    (λ e. cond-both P (ltb 7 (getD b 0 0)) _ _ (λ f. tt)
+    (λ e. cond-both P (ltb 8 (getD b 0 0)) _ _ (λ f. tt)
     (λ f. cond-both P (Model.unusedZero b c) _ _ (λ g. command-names b (getD b 0 0)) (λ g. tt)))
 
 names-as : (r : Decoded) (u : ℕ) → ModelNames (decodedOf r) u → Names r u

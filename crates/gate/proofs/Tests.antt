@@ -2,6 +2,7 @@
 -- are gone through here and, beside the model's, in the simulation's Gates.
 use mathlib.Core.Path.{_≡_}
 use mathlib.Core.Bool.{true}
+use mathlib.Core.List.{List}
 use Prim.Native.Nat.{ℕ, _<_}
 use native.Mathlib.Omega.{arith}
 use lib.Dec.{ltb}
@@ -14,16 +15,17 @@ use Rattle.worker.specs.About.{aboutOf}
 use Rattle.record.specs.declared.Operation.{Operation}
 use Rattle.gate.specs.declared.Gate.{Gate}
 use Rattle.gate.specs.declared.Gate.the-variants.{Refuse, Start}
-use Rattle.gate.specs.Gate.{termsOf, registerOk, valueOk, openOk, timeOk, beginGate}
+use Rattle.gate.specs.Gate.{termsOf, registerOk, groupOk, valueOk, openOk, timeOk, beginGate}
 
-pub begin-gate-by : (Q : Gate → Type 0) (p v w : ℕ) (o : Operation) (d : Doing) (t : Announced)
+pub begin-gate-by : (Q : Gate → Type 0) (p v w : ℕ) (o : Operation) (d : Doing) (t : Announced) (rows : List ℕ)
     → ((k : ℕ) → 0 < occurrences k onReading → Q (Refuse k))
-    → (ltb w p ≡ true → Q (Start w (termsOf o .first))) → Q (beginGate p v w o d t)
+    → (ltb w p ≡ true → Q (Start w (termsOf o rows .first))) → Q (beginGate p v w o d t rows)
 unfolding beginGate occurrences
-begin-gate-by Q p v w o d t refused started =
-    let x = termsOf o in
+begin-gate-by Q p v w o d t rows refused started =
+    let x = termsOf o rows in
     cond-both Q (ltb w p) _ _
     (λ e. cond-both Q (registerOk (x .register) v) _ _
+    (λ f. cond-both Q (groupOk (x .row) rows) _ _
     (λ f. cond-both Q (valueOk (x .value)) _ _
     (λ f. cond-both Q (aboutOf d .idle) _ _
     (λ f. cond-both Q (openOk (x .time) t) _ _
@@ -32,5 +34,6 @@ begin-gate-by Q p v w o d t refused started =
     (λ n. refused 12 (omega arith)))
     (λ n. refused 10 (omega arith)))
     (λ n. refused 16 (omega arith)))
+    (λ n. refused 17 (omega arith)))
     (λ n. refused 4 (omega arith)))
     (λ n. refused 3 (omega arith))

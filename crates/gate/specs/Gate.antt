@@ -1,10 +1,12 @@
 -- What is decided before a record is carried out: the refusal that it meets, or what is to be done.
 use mathlib.Core.Bool.{Bool, true, false, cond, not, _&&_}
-use mathlib.Core.List.{List}
+use mathlib.Core.List.{List, []}
 use mathlib.Core.Option.{some}
 use Prim.Native.Nat.{ℕ}
 use lib.Dec.{ltb, leb}
+use lib.ListN.{length}
 use Rattle.model.specs.Rules.{inForce}
+use Rattle.model.specs.Totals.{firstOf}
 use Rattle.model.specs.Record as Model
 use Rattle.model.specs.Apply.{valueWithin}
 use Rattle.worker.specs.declared.Announced.{Announced}
@@ -12,15 +14,17 @@ use Rattle.worker.specs.declared.Announced.the-variants.{Nothing as NoTime, At}
 use Rattle.worker.specs.declared.Doing.{Doing}
 use Rattle.worker.specs.declared.Doing.the-variants.{PutPublish, FlushTake, OnTime, ReadEnter, GetShow}
 use Rattle.worker.specs.declared.TimeStep.the-variants.{OpenAnnounce, CloseWithdraw}
+use Rattle.worker.specs.declared.Purpose.the-variants.{Single}
 use Rattle.worker.specs.declared.Named.{Named}
 use Rattle.worker.specs.declared.Named.the-variants.{Nothing, Is}
 use Rattle.worker.specs.About.{aboutOf}
 use Rattle.record.specs.declared.Operation.{Operation}
-use Rattle.record.specs.declared.Operation.the-variants.{Put, Open, Read, Close, Get, Collect}
+use Rattle.record.specs.declared.Operation.the-variants.{Put, Open, Read, Close, Get, Collect, Total}
 use Rattle.record.specs.declared.Command.{Command}
 use Rattle.record.specs.declared.Command.the-variants.{SetUp, Begin, Step}
 use Rattle.record.specs.declared.Decoded.{Decoded}
 use Rattle.record.specs.declared.Decoded.the-variants.{Asks, Refuses}
+use Rattle.totals.specs.Rows.{goalIn}
 use Rattle.gate.specs.declared.TimeNeed.{TimeNeed}
 use Rattle.gate.specs.declared.TimeNeed.the-variants.{Any, Absent, Own}
 use Rattle.gate.specs.declared.Putting.{Putting}
@@ -32,7 +36,7 @@ use Rattle.gate.specs.declared.Gate.the-variants.{Refuse, Make, Start, G
 ------------------------------------------------------------------------
 -- A record as the decoder gives it: the model's `decode` in this code's types
 
--- an operation with its register and what to store
+-- an operation with its register, or its group, and what to store
 abbrev pub operationRep : Model.Operation → Operation
 operationRep (Model.Put r x) = Put r (record { count = x .count })
 operationRep Model.Open = Open
@@ -40,6 +44,7 @@ operationRep (Model.Read r) = Read r
 operationRep Model.Close = Close
 operationRep (Model.Get r) = Get r
 operationRep Model.Collect = Collect
+operationRep (Model.Total g) = Total g
 
 -- the sizes and the clock of a setup, or the worker
 abbrev pub commandRep : Model.Command → Command
@@ -59,24 +64,41 @@ decodedIn b = decodedRep (Model.decode b)
 ------------------------------------------------------------------------
 -- Refusals
 
--- The terms on which an operation begins: the model's `terms` in this code's types.
-abbrev pub termsOf : Operation → Terms
-termsOf (Put r x) = record { register = Is r; value = Value (x .count); time = Any; first = PutPublish r x }
-termsOf Open = record { register = Nothing; value = NoValue; time = Absent; first = OnTime OpenAnnounce }
-termsOf (Read r) = record { register = Is r; value = NoValue; time = Own; first = ReadEnter (record { register = r }) }
-termsOf Close = record { register = Nothing; value = NoValue; time = Own; first = OnTime CloseWithdraw }
-termsOf (Get r) = record { register = Is r; value = NoValue; time = Any; first = GetShow r }
-termsOf Collect = record { register = Nothing; value = NoValue; time = Any; first = FlushTake }
+-- an operation that names no register, no group and no value
+abbrev pub bare : TimeNeed → Doing → Terms
+bare t d = record { register = Nothing; row = Nothing; value = NoValue; time = t; first = d }
+
+-- and one that names a register alone
+abbrev pub onRegister : ℕ → TimeNeed → Doing → Terms
+onRegister r t d = record { register = Is r; row = Nothing; value = NoValue; time = t; first = d }
+
+-- The terms on which an operation begins, with the rows of totals: the model's `terms` in this code's types, with the first row of its group in
+-- the place of the group that an operation names.
+abbrev pub termsOf : Operation → List ℕ → Terms
+termsOf (Put r x) rows = record { register = Is r; row = Nothing; value = Value (x .count); time = Any; first = PutPublish r x }
+termsOf Open rows = bare Absent (OnTime OpenAnnounce)
+termsOf (Read r) rows = onRegister r Own (ReadEnter (record { register = r; purpose = Single }))
+termsOf Close rows = bare Own (OnTime CloseWithdraw)
+termsOf (Get r) rows = onRegister r Any (GetShow r)
+termsOf Collect rows = bare Any FlushTake
+termsOf (Total g) rows =
+    let i = firstOf g rows in
+    record { register = Nothing; row = Is i; value = NoValue; time = Own; first = ReadEnter (goalIn rows g i 0 0) }
 
 -- 4: the register, if there is one, is below v
 abbrev pub registerOk : Named → ℕ → Bool
 registerOk Nothing v = true
 registerOk (Is r) v = ltb r v
 
+-- 17: the group, if there is one, has rows: its first is among them
+abbrev pub groupOk : Named → List ℕ → Bool
+groupOk Nothing rows = true
+groupOk (Is i) rows = ltb i (length rows)
+
 -- 16: the value, if there is one, is at most the limit in force
 abbrev pub valueOk : Putting → Bool
 valueOk NoValue = true
-valueOk (Value x) = valueWithin (inForce .limit) (some x)
+valueOk (Value x) = valueWithin (inForce [] .limit) (some x)
 
 -- a time is announced
 abbrev pub hasTime : Announced → Bool
@@ -89,23 +111,25 @@ openOk Any t = true
 openOk Absent t = not (hasTime t)
 openOk Own t = true
 
--- 13: only a read and a close ask that a time is announced
+-- 13: only a read, a total and a close ask that a time is announced
 abbrev pub timeOk : TimeNeed → Announced → Bool
 timeOk Any t = true
 timeOk Absent t = true
 timeOk Own t = hasTime t
 
--- the refusals of a begin in their order: 3, 4, 16, 10, 12, 13
-unfoldable pub beginGate : ℕ → ℕ → ℕ → Operation → Doing → Announced → Gate
-beginGate p v w o d t =
-    let x = termsOf o in
+-- the refusals of a begin in their order: 3, 4, 17, 16, 10, 12, 13
+unfoldable pub beginGate : ℕ → ℕ → ℕ → Operation → Doing → Announced → List ℕ → Gate
+beginGate p v w o d t rows =
+    let x = termsOf o rows in
     cond (ltb w p)
     (cond (registerOk (x .register) v)
+    (cond (groupOk (x .row) rows)
     (cond (valueOk (x .value))
     (cond (aboutOf d .idle)
     (cond (openOk (x .time) t) (cond (timeOk (x .time) t) (Start w (x .first)) (Refuse 13)) (Refuse 12))
     (Refuse 10))
     (Refuse 16))
+    (Refuse 17))
     (Refuse 4))
     (Refuse 3)
 
@@ -114,17 +138,21 @@ unfoldable pub sizesOk : ℕ → ℕ → ℕ → ℕ → ℕ → Bool
 sizesOk p v n k long =
     (leb 1 p && leb p 16 && (leb 1 v && leb v 256)) && (leb v n && leb n 2048 && (leb 1 k && leb n long))
 
--- 9 or 5 of a setup; 8, then those of a begin; 8 or 3 of a step
-abbrev pub commandGate : Command → Bool → ℕ → ℕ → ℕ → Doing → Announced → Gate
-commandGate (SetUp x y n k) up p v long d t =
-    cond up (Refuse 9) (cond (sizesOk x y n k long) (Make x y n k) (Refuse 5))
-commandGate (Begin w o) up p v long d t = cond up (beginGate p v w o d t) (Refuse 8)
-commandGate (Step w) up p v long d t = cond up (cond (ltb w p) (Go w) (Refuse 3)) (Refuse 8)
+-- 5: and the list that comes with it is one that a setup accepts
+abbrev pub setupOk : ℕ → ℕ → ℕ → ℕ → ℕ → List ℕ → Bool
+setupOk p v n k long list = sizesOk p v n k long && Model.listFits v list
 
--- what is to be done with a record that was read; `up` says that the memory counts as set up
-unfoldable pub gateOf : Decoded → Bool → ℕ → ℕ → ℕ → Doing → Announced → Gate
-gateOf (Asks c) up p v long d t = commandGate c up p v long d t
-gateOf (Refuses k) up p v long d t = Refuse k
+-- 9 or 5 of a setup, with the list that comes with it; 8, then those of a begin; 8 or 3 of a step
+abbrev pub commandGate : Command → Bool → ℕ → ℕ → ℕ → Doing → Announced → List ℕ → List ℕ → Gate
+commandGate (SetUp x y n k) up p v long d t list rows =
+    cond up (Refuse 9) (cond (setupOk x y n k long list) (Make x y n k) (Refuse 5))
+commandGate (Begin w o) up p v long d t list rows = cond up (beginGate p v w o d t rows) (Refuse 8)
+commandGate (Step w) up p v long d t list rows = cond up (cond (ltb w p) (Go w) (Refuse 3)) (Refuse 8)
+
+-- what is to be done with a record that was read; `up` says that the memory counts as set up, and `rows` are the rows of totals that it has
+unfoldable pub gateOf : Decoded → Bool → ℕ → ℕ → ℕ → Doing → Announced → List ℕ → List ℕ → Gate
+gateOf (Asks c) up p v long d t list rows = commandGate c up p v long d t list rows
+gateOf (Refuses k) up p v long d t list rows = Refuse k
 
 -- the worker that a command names, 0 where it names none
 abbrev pub commandWho : Command → ℕ

@@ -1,7 +1,8 @@
 // What is decided before a record is carried out: which refusal it meets, or what is to be done.
 ghost use mathlib.Core.Path.{_≡_};
 ghost use Prim.Native.Nat.{_≤_};
-ghost use Rattle.gate.specs.Gate.{termsOf, registerOk, valueOk, hasTime, openOk, timeOk, beginGate, sizesOk, gateOf};
+ghost use lib.ListN.{take};
+ghost use Rattle.gate.specs.Gate.{bare, onRegister, termsOf, registerOk, groupOk, valueOk, hasTime, openOk, timeOk, beginGate, sizesOk, setupOk, gateOf};
 use record::Command;
 use record::Decoded;
 use record::Operation;
@@ -9,6 +10,7 @@ use worker::Announced;
 use worker::Doing;
 use worker::Goal;
 use worker::Named;
+use worker::Purpose;
 use worker::TimeStep;
 
 // What is to be done with a record.
@@ -48,58 +50,79 @@ pub enum Putting {
     Value(u64),
 }
 
-// The terms on which an operation begins: the register that it names, the value that it puts, what it asks of the announced time, and its
-// first place.
+// The terms on which an operation begins: the register that it names, the first row of the group that it names, the value that it puts, what
+// it asks of the announced time, and its first place.
 pub struct Terms {
     pub register: Named,
+    pub row: Named,
     pub value: Putting,
     pub time: TimeNeed,
     pub first: Doing,
 }
 
-// An operation is taken apart here.
-fn terms_of(o: Operation) -> Terms
-    ensures { λ r. ⌜ r ≡ termsOf o ⌝ }
+// An operation that names no register, no group and no value.
+fn bare(time: TimeNeed, first: Doing) -> Terms
+    ensures { λ r. ⌜ r ≡ bare time first ⌝ }
+{
+    Terms {
+        register: Named::Nothing,
+        row: Named::Nothing,
+        value: Putting::Nothing,
+        time,
+        first,
+    }
+}
+
+// And one that names a register alone.
+fn on_register(register: u16, time: TimeNeed, first: Doing) -> Terms
+    ensures { λ r. ⌜ r ≡ onRegister register time first ⌝ }
+{
+    Terms {
+        register: Named::Is(register),
+        row: Named::Nothing,
+        value: Putting::Nothing,
+        time,
+        first,
+    }
+}
+
+// An operation is taken apart here, with the rows of totals, of which the first n count. A total begins with the first row of its group.
+fn terms_of(o: Operation, rows: &[u32; 1024], n: usize) -> Terms
+    ensures { λ r. ⌜ r ≡ termsOf o (take n (now (rows .entry))) ⌝ }
 {
     match o {
         Operation::Put { register, reading } => Terms {
             register: Named::Is(register),
+            row: Named::Nothing,
             value: Putting::Value(reading.count),
             time: TimeNeed::Any,
             first: Doing::PutPublish { register, reading },
         },
-        Operation::Open => Terms {
-            register: Named::Nothing,
-            value: Putting::Nothing,
-            time: TimeNeed::Absent,
-            first: Doing::OnTime(TimeStep::OpenAnnounce),
-        },
-        Operation::Read { register } => Terms {
-            register: Named::Is(register),
-            value: Putting::Nothing,
-            time: TimeNeed::Own,
-            first: Doing::ReadEnter {
-                goal: Goal { register },
-            },
-        },
-        Operation::Close => Terms {
-            register: Named::Nothing,
-            value: Putting::Nothing,
-            time: TimeNeed::Own,
-            first: Doing::OnTime(TimeStep::CloseWithdraw),
-        },
-        Operation::Get { register } => Terms {
-            register: Named::Is(register),
-            value: Putting::Nothing,
-            time: TimeNeed::Any,
-            first: Doing::GetShow { register },
-        },
-        Operation::Collect => Terms {
-            register: Named::Nothing,
-            value: Putting::Nothing,
-            time: TimeNeed::Any,
-            first: Doing::FlushTake,
-        },
+        Operation::Open => bare(TimeNeed::Absent, Doing::OnTime(TimeStep::OpenAnnounce)),
+        Operation::Read { register } => {
+            let goal = Goal {
+                register,
+                purpose: Purpose::Single,
+            };
+            on_register(register, TimeNeed::Own, Doing::ReadEnter { goal })
+        }
+        Operation::Close => bare(TimeNeed::Own, Doing::OnTime(TimeStep::CloseWithdraw)),
+        Operation::Get { register } => {
+            on_register(register, TimeNeed::Any, Doing::GetShow { register })
+        }
+        Operation::Collect => bare(TimeNeed::Any, Doing::FlushTake),
+        Operation::Total { group } => {
+            let first = totals::first_of(rows, n, group);
+            let goal = totals::goal_at(rows, n, group, first, 0, 0);
+            let row = first as u16;
+            Terms {
+                register: Named::Nothing,
+                row: Named::Is(row),
+                value: Putting::Nothing,
+                time: TimeNeed::Own,
+                first: Doing::ReadEnter { goal },
+            }
+        }
     }
 }
 
@@ -110,6 +133,16 @@ fn register_ok(r: Named, v: usize) -> bool
     match r {
         Named::Nothing => true,
         Named::Is(i) => wide16(i) < v,
+    }
+}
+
+// 17: the group, if there is one, has rows: its first is among them.
+fn group_ok(row: Named, rows: &[u32; 1024], n: usize) -> bool
+    ensures { λ y. ⌜ y ≡ groupOk row (take n (now (rows .entry))) ⌝ }
+{
+    match row {
+        Named::Nothing => true,
+        Named::Is(i) => wide16(i) < totals::counted(rows, n),
     }
 }
 
@@ -143,7 +176,7 @@ fn open_ok(x: TimeNeed, t: Announced) -> bool
     }
 }
 
-// 13: only a read and a close ask that a time is announced.
+// 13: only a read, a total and a close ask that a time is announced.
 fn time_ok(x: TimeNeed, t: Announced) -> bool
     ensures { λ y. ⌜ y ≡ timeOk x t ⌝ }
 {
@@ -156,34 +189,49 @@ fn time_ok(x: TimeNeed, t: Announced) -> bool
 
 // The tests of a begin, of a worker at the place d with the announced time t, in the order of the refusals. They are made before the first is
 // looked at: none changes anything, and the order stands in one place.
-fn begin(p: usize, v: usize, worker: u8, o: Operation, d: Doing, t: Announced) -> Gate
-    ensures { λ r. ⌜ r ≡ beginGate p v worker o d t ⌝ }
+fn begin(
+    p: usize,
+    v: usize,
+    worker: u8,
+    o: Operation,
+    d: Doing,
+    t: Announced,
+    rows: &[u32; 1024],
+    n: usize,
+) -> Gate
+    ensures { λ r. ⌜ r ≡ beginGate p v worker o d t (take n (now (rows .entry))) ⌝ }
 {
-    let x = terms_of(o);
+    let x = terms_of(o, rows, n);
     let register = x.register;
+    let row = x.row;
     let value = x.value;
     let need = x.time;
     let doing = x.first;
+    let below = wide8(worker) < p;
     let known = register_ok(register, v);
+    let there = group_ok(row, rows, n);
     let fits = value_ok(value);
     let place = worker::about(d);
     let unannounced = open_ok(need, t);
     let announced = time_ok(need, t);
-    if wide8(worker) < p {
+    if below {
         if known {
-            if fits {
-                if place.idle {
-                    if unannounced {
-                        if announced {
-                            return Gate::Start { worker, doing };
+            if there {
+                if fits {
+                    if place.idle {
+                        if unannounced {
+                            if announced {
+                                return Gate::Start { worker, doing };
+                            }
+                            return Gate::Refuse(13);
                         }
-                        return Gate::Refuse(13);
+                        return Gate::Refuse(12);
                     }
-                    return Gate::Refuse(12);
+                    return Gate::Refuse(10);
                 }
-                return Gate::Refuse(10);
+                return Gate::Refuse(16);
             }
-            return Gate::Refuse(16);
+            return Gate::Refuse(17);
         }
         return Gate::Refuse(4);
     }
@@ -198,8 +246,15 @@ fn sizes_ok(p: u8, v: u16, n: u16, clock: u32, long: usize) -> bool
         & (((v <= n) & (n <= 2048)) & ((1 <= clock) & (wide16(n) <= long)))
 }
 
+// 5: and the list that comes with it is one that a setup accepts.
+fn setup_ok(p: u8, v: u16, n: u16, clock: u32, long: usize, list: &[u8]) -> bool
+    ensures { λ r. ⌜ r ≡ setupOk p v n clock long (now (list .entry)) ⌝ }
+{
+    sizes_ok(p, v, n, clock, long) & totals::list_ok(list, v)
+}
+
 // What is to be done with a record that was read as r, where `up` says that the memory counts as set up, of a worker at the place d with
-// the announced time t.
+// the announced time t; a setup comes with the list, and of the rows of totals the first `listed` count.
 pub fn gate_for(
     r: Decoded,
     up: bool,
@@ -208,8 +263,11 @@ pub fn gate_for(
     long: usize,
     d: Doing,
     t: Announced,
+    list: &[u8],
+    rows: &[u32; 1024],
+    listed: usize,
 ) -> Gate
-    ensures { λ g. ⌜ g ≡ gateOf r up p v long d t ⌝ }
+    ensures { λ g. ⌜ g ≡ gateOf r up p v long d t (now (list .entry)) (take listed (now (rows .entry))) ⌝ }
 {
     match r {
         Decoded::Refuses(k) => {
@@ -225,7 +283,7 @@ pub fn gate_for(
                 if up {
                     return Gate::Refuse(9);
                 }
-                if sizes_ok(x, y, n, clock, long) {
+                if setup_ok(x, y, n, clock, long, list) {
                     return Gate::Make {
                         p: x,
                         v: y,
@@ -237,7 +295,7 @@ pub fn gate_for(
             }
             Command::Begin { worker, operation } => {
                 if up {
-                    return begin(p, v, worker, operation, d, t);
+                    return begin(p, v, worker, operation, d, t, rows, listed);
                 }
                 return Gate::Refuse(8);
             }

@@ -52,16 +52,16 @@ Through h ys x r zs z = (rest-of 2048 zs ≡ rest-of 2048 ys) × AllDoes h (take
 
 module _ {M : Type 1} (𝓤 : URA M) (H : Heap 𝓤) (A : Atoms 𝓤) (W : Given 𝓤 H A) (mem : Memory → SProp 𝓤) (run : Routine → Fun 𝓤)
     (n b o : ℕ) (ys : List Slot)
-    (h : Hub) (ks : Lfts 8) (qs : Shares 8) (x : Buffer) where
+    (h : Hub) (ks : Lfts 9) (qs : Shares 9) (x : Buffer) where
   -- what the callee's contract binds outside, and that the caller has what it asks
   abbrev to-all : Lft → GName → ApplyAll 𝓤 H A mem run .Ghost
   to-all ν δ = (((ν, ks), (fullShare, qs), tt, (slice b o δ ys, (h, x)), (sliceVal (b, o) n ∷ [], (hub-vals h, buffer-vals x))), tt)
 
   goes-all : Is B.the-row h (hub-vals h) → (ν : Lft) (δ : GName)
-      → ent 𝓤 (sep 𝓤 (A .lft ν fullShare) (sep 𝓤 (sem 𝓤 H A (Slots ν n b o δ ys)) (sep 𝓤 (toks 𝓤 A 8 ks qs) (sem 𝓤 H A (buffer-own ks x)))))
+      → ent 𝓤 (sep 𝓤 (A .lft ν fullShare) (sep 𝓤 (sem 𝓤 H A (Slots ν n b o δ ys)) (sep 𝓤 (toks 𝓤 A 9 ks qs) (sem 𝓤 H A (buffer-own ks x)))))
       (ApplyAll 𝓤 H A mem run .pre (to-all ν δ))
   goes-all gh ν δ =
-      qed W (‵ (flft ν fullShare) ∷ ‵ (Slots ν n b o δ ys) ∷ raw (toks 𝓤 A 8 ks qs) ∷ ‵ (buffer-own ks x) ∷ []) ∵ move ! (3 ∷ []) $
+      qed W (‵ (flft ν fullShare) ∷ ‵ (Slots ν n b o δ ys) ∷ raw (toks 𝓤 A 9 ks qs) ∷ ‵ (buffer-own ks x) ∷ []) ∵ move ! (3 ∷ []) $
       owned ! B.the-row (Is B.the-row) (LL.makes B.the-type B′.the-plain 𝓤 H A) h (hub-vals h) gh $ fjoin ! $
       move ! (2 ∷ 0 ∷ []) $ fjoin ! $ move ! (1 ∷ 2 ∷ []) $ join ! $ join ! $ frame ! $ done !
 
@@ -91,19 +91,19 @@ module _ {M : Type 1} {𝓤 : URA M} {H : Heap 𝓤} {A : Atoms 𝓤} {K : Type 
     {q : Post 𝓤 H} {dst : Place} {rest : Body} {xs : List Operand} {κ : Lft} {p : Share} {γ : GName} where
   pub call-apply-all : (t : K) (mem : Memory → SProp 𝓤) (run : Routine → Fun 𝓤) → FmC 𝓤 H (W .laws) C
       → Triple 𝓤 (C #hub·apply-all) (ApplyAll 𝓤 H A mem run)
-      → (n b o : ℕ) (ys : List Slot) → length ys ≡ n → Room T.the-row n → (h : Hub) (ks : Lfts 8) (qs : Shares 8) (x : Buffer)
+      → (n b o : ℕ) (ys : List Slot) → length ys ≡ n → Room T.the-row n → (h : Hub) (ks : Lfts 9) (qs : Shares 9) (x : Buffer)
       → Is B.the-row h (hub-vals h)
       → ((i j : Item 𝓤) → Opds K W (i ∷ j ∷ Γ) E xs (sliceVal (b, o) n ∷ only (hub-vals h) ∷ buffer-list x))
       → ((r : Counted) (zs : List Slot) (z : BufferLeft) → Through h ys x r zs z × SameLong x z → length zs ≡ n → Is L.the-row r (left-vals r)
-      → Seq K W (‵ (Slots κ n b o γ zs) ∷ ‵ (flft κ p) ∷ raw (toks 𝓤 A 8 ks qs) ∷ ‵ (buffer-end x z) ∷ Γ)
+      → Seq K W (‵ (Slots κ n b o γ zs) ∷ ‵ (flft κ p) ∷ raw (toks 𝓤 A 9 ks qs) ∷ ‵ (buffer-end x z) ∷ Γ)
       (lands C Λ E dst (only (left-vals r)) rest q))
-      → Seq K W (‵ (Slots κ n b o γ ys) ∷ ‵ (flft κ p) ∷ raw (toks 𝓤 A 8 ks qs) ∷ ‵ (buffer-own ks x) ∷ Γ)
+      → Seq K W (‵ (Slots κ n b o γ ys) ∷ ‵ (flft κ p) ∷ raw (toks 𝓤 A 9 ks qs) ∷ ‵ (buffer-own ks x) ∷ Γ)
       (runs C Λ E (seq (call #hub·apply-all xs dst) rest) q)
   call-apply-all t mem run fm known n b o ys len room h ks qs x gh os next =
       move t (2 ∷ 3 ∷ []) $ join t $ move t (1 ∷ 2 ∷ 0 ∷ []) $
       call-on t fm (ApplyAll 𝓤 H A mem run) known L.the-row left-vals (LL.tells L.the-type L′.the-laws) T.the-row n b o ys len room
-      (to-all 𝓤 H A W mem run n b o ys h ks qs x) (λ ν. ‵ (flft ν fullShare) ⊛ raw (toks 𝓤 A 8 ks qs)) (Said 𝓤 H A W mem run n b o ys h ks qs x)
-      (raw (toks 𝓤 A 8 ks qs) ⊛ ‵ (buffer-own ks x)) (raw (toks 𝓤 A 8 ks qs)) (Last 𝓤 H A W mem run n b o ys h ks qs x) (λ l. l .0)
+      (to-all 𝓤 H A W mem run n b o ys h ks qs x) (λ ν. ‵ (flft ν fullShare) ⊛ raw (toks 𝓤 A 9 ks qs)) (Said 𝓤 H A W mem run n b o ys h ks qs x)
+      (raw (toks 𝓤 A 9 ks qs) ⊛ ‵ (buffer-own ks x)) (raw (toks 𝓤 A 9 ks qs)) (Last 𝓤 H A W mem run n b o ys h ks qs x) (λ l. l .0)
       (λ l. ‵ (buffer-end x (l .1 .1)))
       (Says 𝓤 H A W mem run n b o ys h ks qs x) (λ ν. id⊢ 𝓤 _) (goes-all 𝓤 H A W mem run n b o ys h ks qs x gh) (λ ν δ w. id⊢ 𝓤 _)
       (said 𝓤 H A W mem run n b o ys h ks qs x) (λ ν δ. os) (λ r l. next r (l .0) (l .1 .1))

@@ -56,26 +56,28 @@ module _ (n : ℕ) (a b c d e : At n) where
       let g : (z : At n) (R : RattleType) (k : ℕ) → Goes 𝓤 H A W n (array z R k) yes (gave z R k) = go 𝓤 H A W n in
       (g a u16 256, (g b u16 2048, (g c u32 12288, (g d u32 4096, (g e u32 12288, tt)))))
 
--- ---- a record: its bytes and the arrays
-module _ (n : ℕ) (r a b c d e : At n) where
+-- ---- a record: the list, its bytes and the arrays
+module _ (n : ℕ) (l r a b c d e : At n) where
   abbrev single : List (Slot n)
-  single = bytes r ∷ arrays n a b c d e
+  single = bytes l ∷ bytes r ∷ arrays n a b c d e
 
   abbrev pub single-gave : Stays single (all yes single)
-  single-gave = (stay-dropped (bytes r) yes, arrays-gave n a b c d e)
+  single-gave = (stay-dropped (bytes l) yes, (stay-dropped (bytes r) yes, arrays-gave n a b c d e))
 
   pub single-go : {M : Type 1} (𝓤 : URA M) (H : Heap 𝓤) (A : Atoms 𝓤) (W : Given 𝓤 H A) → AllGo 𝓤 H A W n single (all yes single) single-gave
-  single-go 𝓤 H A W = (goes-dropped 𝓤 H A W n (bytes r) yes (λ κs x f. refl), arrays-go n a b c d e 𝓤 H A W)
+  single-go 𝓤 H A W =
+      let z : (i : At n) → Goes 𝓤 H A W n (bytes i) yes (stay-dropped (bytes i) yes) = λ i. goes-dropped 𝓤 H A W n (bytes i) yes (λ κs x f. refl) in
+      (z l, (z r, arrays-go n a b c d e 𝓤 H A W))
 
--- ---- a buffer: its bytes, the rows of answers and the arrays
-module _ (n : ℕ) (r s t a b c d e : At n) where
+-- ---- a buffer: the list, its bytes, the rows of answers and the arrays
+module _ (n : ℕ) (l r s t a b c d e : At n) where
   abbrev buffer : List (Slot n)
-  buffer = bytes r ∷ row s u8 ∷ row t u64 ∷ arrays n a b c d e
+  buffer = bytes l ∷ bytes r ∷ row s u8 ∷ row t u64 ∷ arrays n a b c d e
 
   abbrev pub buffer-gave : Stays buffer (all yes buffer)
-  buffer-gave = (stay-dropped (bytes r) yes, (gave-row s u8, (gave-row t u64, arrays-gave n a b c d e)))
+  buffer-gave = (stay-dropped (bytes l) yes, (stay-dropped (bytes r) yes, (gave-row s u8, (gave-row t u64, arrays-gave n a b c d e))))
 
   pub buffer-go : {M : Type 1} (𝓤 : URA M) (H : Heap 𝓤) (A : Atoms 𝓤) (W : Given 𝓤 H A) → AllGo 𝓤 H A W n buffer (all yes buffer) buffer-gave
   buffer-go 𝓤 H A W =
-      let z = goes-dropped 𝓤 H A W n (bytes r) yes (λ κs x f. refl) in
-      (z, (go-row 𝓤 H A W n s u8, (go-row 𝓤 H A W n t u64, arrays-go n a b c d e 𝓤 H A W)))
+      let z : (i : At n) → Goes 𝓤 H A W n (bytes i) yes (stay-dropped (bytes i) yes) = λ i. goes-dropped 𝓤 H A W n (bytes i) yes (λ κs x f. refl) in
+      (z l, (z r, (go-row 𝓤 H A W n s u8, (go-row 𝓤 H A W n t u64, arrays-go n a b c d e 𝓤 H A W))))

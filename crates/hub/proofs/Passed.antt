@@ -113,135 +113,153 @@ arrays-long 𝓤 H A W ks qs a =
     (and-more 𝓤 H A W (array-long 𝓤 H A W (ks .1 .1 .1 .1 .0) (qs .1 .1 .1 .1 .0) (named 0) u32 12288 (a .1 .1 .1 .1 .0))
     (no-thing 𝓤 H A W)))))
 
-sized : (h : Hub) (s : List Slot) (a : Arrays) → (length (h .workers) ≡ 16) × (length (h .times) ≡ 256) → Long a → Sized (found h s a)
-sized h s a w long =
-    record { workers = w .0; times = w .1; newest = long .0; free = long .1 .0; queue = long .1 .1 .0; lens = long .1 .1 .1 .0; merged = long .1 .1 .1 .1 .0 }
+-- a hub by value has sixteen workers, sixteen times for each, and room for 1,024 rows of totals
+abbrev pub HubLong : Hub → Type 0
+HubLong h = (length (h .workers) ≡ 16) × (length (h .times) ≡ 256) × (length (h .rows) ≡ 1024)
 
--- ---- a record: its bytes and the arrays
+sized : (h : Hub) (s : List Slot) (a : Arrays) → HubLong h → Long a → Sized (found h s a)
+sized h s a w long =
+    record {
+      workers = w .0;
+      times = w .1;
+      rows = w .2;
+      newest = long .0;
+      free = long .1 .0;
+      queue = long .1 .1 .0;
+      lens = long .1 .1 .1 .0;
+      merged = long .1 .1 .1 .1 .0;
+    }
+
+-- ---- a record: the list, its bytes and the arrays
 abbrev pub Single : Type 0
-Single = RefT (List ℕ) × Arrays
+Single = RefT (List ℕ) × (RefT (List ℕ) × Arrays)
 
 abbrev pub SingleLeft : Type 0
-SingleLeft = Unit {0} × Lists
+SingleLeft = Unit {0} × (Unit {0} × Lists)
 
-abbrev pub single-types : Lfts 6 → List RattleType
-single-types ks = ShrSlice (named 0) (ks .0) u8 ∷ array-types (ks .1)
+abbrev pub single-types : Lfts 7 → List RattleType
+single-types ks = ShrSlice (named 0) (ks .0) u8 ∷ ShrSlice (named 0) (ks .1 .0) u8 ∷ array-types (ks .1 .1)
 
-abbrev pub single-vals : Single → List Val × Each
-single-vals x = (slice-vals (x .0), array-vals (x .1))
+abbrev pub single-vals : Single → List Val × (List Val × Each)
+single-vals x = (slice-vals (x .0), (slice-vals (x .1 .0), array-vals (x .1 .1)))
 
-abbrev pub single-spells : (ks : Lfts 6) → Spells (single-types ks)
-single-spells ks = (slice-vals, array-spells (ks .1))
+abbrev pub single-spells : (ks : Lfts 7) → Spells (single-types ks)
+single-spells ks = (slice-vals, (slice-vals, array-spells (ks .1 .1)))
 
-pub single-tells : (ks : Lfts 6) → Tellss (single-types ks) (Ises (single-types ks)) (single-spells ks)
-single-tells ks = (shr-slice-tells (named 0) (ks .0) u8, arrays-tell (ks .1))
+pub single-tells : (ks : Lfts 7) → Tellss (single-types ks) (Ises (single-types ks)) (single-spells ks)
+single-tells ks = (shr-slice-tells (named 0) (ks .0) u8, (shr-slice-tells (named 0) (ks .1 .0) u8, arrays-tell (ks .1 .1)))
 
 abbrev pub single-list : Single → List Val
-single-list x = only (slice-vals (x .0)) ∷ array-list (x .1)
+single-list x = only (slice-vals (x .0)) ∷ only (slice-vals (x .1 .0)) ∷ array-list (x .1 .1)
 
-abbrev pub single-own : Lfts 6 → Single → Fml
+abbrev pub single-own : Lfts 7 → Single → Fml
 single-own ks x = owns (single-types ks) x (single-vals x)
 
 abbrev pub single-end : Single → SingleLeft → Fml
-single-end x z = arrays-end (x .1) (z .1)
+single-end x z = arrays-end (x .1 .1) (z .1 .1)
 
 -- what one record did
 abbrev pub OneDone : Hub → List Slot → Single → Hub → List Slot → SingleLeft → Answer → Type 0
-OneDone h s x h′ s′ z y = One (found h s (x .1)) (x .0 .now) (leaves h′ s′ (z .1)) y
+OneDone h s x h′ s′ z y = One (found h s (x .1 .1)) (x .0 .now) (x .1 .0 .now) (leaves h′ s′ (z .1 .1)) y
 
 -- the same as the public contract says it
 abbrev pub SingleDoes : Hub → List Slot → Single → Hub → List Slot → SingleLeft → Answer → Type 0
-SingleDoes h s x h′ s′ z y = Does (found h s (x .1)) (x .0 .now) y (leaves h′ s′ (z .1))
+SingleDoes h s x h′ s′ z y = Does (found h s (x .1 .1)) (x .0 .now) (x .1 .0 .now) y (leaves h′ s′ (z .1 .1))
 
 -- what the lent things tell: the bytes are bytes, and so on
 abbrev pub Known : Single → Type 0
-Known x = Bytes (x .0 .now) × Long (x .1)
+Known x = Bytes (x .0 .now) × (Bytes (x .1 .0 .now) × Long (x .1 .1))
 
-pub single-known : {M : Type 1} (𝓤 : URA M) (H : Heap 𝓤) (A : Atoms 𝓤) (W : Given 𝓤 H A) (ks : Lfts 6) (qs : Shares 6) (x : Single)
-    → Learns 𝓤 H A (Known x) (toks 𝓤 A 6 ks qs) (single-own ks x)
+pub single-known : {M : Type 1} (𝓤 : URA M) (H : Heap 𝓤) (A : Atoms 𝓤) (W : Given 𝓤 H A) (ks : Lfts 7) (qs : Shares 7) (x : Single)
+    → Learns 𝓤 H A (Known x) (toks 𝓤 A 7 ks qs) (single-own ks x)
 single-known 𝓤 H A W ks qs x =
-    and-more 𝓤 H A W (bytes-small 𝓤 H A W (ks .0) (qs .0) (named 0) (x .0)) (arrays-long 𝓤 H A W (ks .1) (qs .1) (x .1))
+    and-more 𝓤 H A W (bytes-small 𝓤 H A W (ks .0) (qs .0) (named 0) (x .0))
+    (and-more 𝓤 H A W (bytes-small 𝓤 H A W (ks .1 .0) (qs .1 .0) (named 0) (x .1 .0)) (arrays-long 𝓤 H A W (ks .1 .1) (qs .1 .1) (x .1 .1)))
 
--- with a hub of sixteen workers and as many times for each, and the rest of the row as it was, what one record did on the first 2048 slots is what the contract says
+-- with the rest of the row as it was, what one record did on the first 2048 slots is what the contract says
 pub single-does : (h : Hub) (s : List Slot) (x : Single) (h′ : Hub) (s′ : List Slot) (z : SingleLeft) (y : Answer)
-    → (length (h .workers) ≡ 16) × (length (h .times) ≡ 256) → Known x
+    → HubLong h → Known x
     → (rest-of 2048 s′ ≡ rest-of 2048 s) × OneDone h (take 2048 s) x h′ (take 2048 s′) z y → SingleDoes h s x h′ s′ z y
 single-does h s x h′ s′ z y w k e =
-    does-whole (found h s (x .1)) (leaves h′ s′ (z .1)) (x .0 .now) y (sized h s (x .1) w (k .1)) (k .0) (e .1 .answer) (e .1 .memory) (e .0)
+    does-whole (found h s (x .1 .1)) (leaves h′ s′ (z .1 .1)) (x .0 .now) (x .1 .0 .now) y (sized h s (x .1 .1) w (k .1 .1)) (k .1 .0) (e .1 .answer)
+    (e .1 .memory) (e .0)
 
--- ---- a buffer: its bytes, the rows of answers and the arrays
+-- ---- a buffer: the list, its bytes, the rows of answers and the arrays
 abbrev pub Buffer : Type 0
-Buffer = RefT (List ℕ) × (RefT (List ℕ) × (RefT (List ℕ) × Arrays))
+Buffer = RefT (List ℕ) × (RefT (List ℕ) × (RefT (List ℕ) × (RefT (List ℕ) × Arrays)))
 
 abbrev pub BufferLeft : Type 0
-BufferLeft = Unit {0} × (List ℕ × (List ℕ × Lists))
+BufferLeft = Unit {0} × (Unit {0} × (List ℕ × (List ℕ × Lists)))
 
-abbrev pub buffer-types : Lfts 8 → List RattleType
-buffer-types ks = ShrSlice (named 0) (ks .0) u8 ∷ MutSlice (named 0) (ks .1 .0) u8 ∷ MutSlice (named 0) (ks .1 .1 .0) u64 ∷ array-types (ks .1 .1 .1)
+abbrev pub buffer-types : Lfts 9 → List RattleType
+buffer-types ks =
+    ShrSlice (named 0) (ks .0) u8 ∷ ShrSlice (named 0) (ks .1 .0) u8 ∷ MutSlice (named 0) (ks .1 .1 .0) u8 ∷ MutSlice (named 0) (ks .1 .1 .1 .0) u64 ∷ array-types (ks .1 .1 .1 .1)
 
-abbrev pub buffer-vals : Buffer → List Val × (List Val × (List Val × Each))
-buffer-vals x = (slice-vals (x .0), (slice-vals (x .1 .0), (slice-vals (x .1 .1 .0), array-vals (x .1 .1 .1))))
+abbrev pub buffer-vals : Buffer → List Val × (List Val × (List Val × (List Val × Each)))
+buffer-vals x = (slice-vals (x .0), (slice-vals (x .1 .0), (slice-vals (x .1 .1 .0), (slice-vals (x .1 .1 .1 .0), array-vals (x .1 .1 .1 .1)))))
 
-abbrev pub buffer-spells : (ks : Lfts 8) → Spells (buffer-types ks)
-buffer-spells ks = (slice-vals, (slice-vals, (slice-vals, array-spells (ks .1 .1 .1))))
+abbrev pub buffer-spells : (ks : Lfts 9) → Spells (buffer-types ks)
+buffer-spells ks = (slice-vals, (slice-vals, (slice-vals, (slice-vals, array-spells (ks .1 .1 .1 .1)))))
 
-pub buffer-tells : (ks : Lfts 8) → Tellss (buffer-types ks) (Ises (buffer-types ks)) (buffer-spells ks)
+pub buffer-tells : (ks : Lfts 9) → Tellss (buffer-types ks) (Ises (buffer-types ks)) (buffer-spells ks)
 buffer-tells ks =
-    let a : Tellss (array-types (ks .1 .1 .1)) (Ises (array-types (ks .1 .1 .1))) (array-spells (ks .1 .1 .1)) = arrays-tell (ks .1 .1 .1) in
-    (shr-slice-tells (named 0) (ks .0) u8, (mut-slice-tells (named 0) (ks .1 .0) u8, (mut-slice-tells (named 0) (ks .1 .1 .0) u64, a)))
+    let a : Tellss (array-types (ks .1 .1 .1 .1)) (Ises (array-types (ks .1 .1 .1 .1))) (array-spells (ks .1 .1 .1 .1)) = arrays-tell (ks .1 .1 .1 .1) in
+    (shr-slice-tells (named 0) (ks .0) u8, (shr-slice-tells (named 0) (ks .1 .0) u8, (mut-slice-tells (named 0) (ks .1 .1 .0) u8, (mut-slice-tells (named 0) (ks .1 .1 .1 .0) u64, a))))
 
 abbrev pub buffer-list : Buffer → List Val
-buffer-list x = only (slice-vals (x .0)) ∷ only (slice-vals (x .1 .0)) ∷ only (slice-vals (x .1 .1 .0)) ∷ array-list (x .1 .1 .1)
+buffer-list x = only (slice-vals (x .0)) ∷ only (slice-vals (x .1 .0)) ∷ only (slice-vals (x .1 .1 .0)) ∷ only (slice-vals (x .1 .1 .1 .0)) ∷ array-list (x .1 .1 .1 .1)
 
-abbrev pub buffer-own : Lfts 8 → Buffer → Fml
+abbrev pub buffer-own : Lfts 9 → Buffer → Fml
 buffer-own ks x = owns (buffer-types ks) x (buffer-vals x)
 
 abbrev pub buffer-end : Buffer → BufferLeft → Fml
 buffer-end x z =
-    fsep (finally u8 (x .1 .0 .name) (z .1 .0)) (fsep (finally u64 (x .1 .1 .0 .name) (z .1 .1 .0)) (arrays-end (x .1 .1 .1) (z .1 .1 .1)))
+    fsep (finally u8 (x .1 .1 .0 .name) (z .1 .1 .0)) (fsep (finally u64 (x .1 .1 .1 .0 .name) (z .1 .1 .1 .0)) (arrays-end (x .1 .1 .1 .1) (z .1 .1 .1 .1)))
 
 -- what the records of the buffer did, of which there are n; the rows of answers keep their lengths
 abbrev pub AllDone : Hub → List Slot → Buffer → ℕ → Hub → List Slot → BufferLeft → Type 0
 AllDone h s x n h′ s′ z =
-    RanAll (found h s (x .1 .1 .1)) (x .0 .now) (x .1 .0 .now) (x .1 .1 .0 .now) n (leaves h′ s′ (z .1 .1 .1)) (z .1 .0) (z .1 .1 .0)
+    RanAll (found h s (x .1 .1 .1 .1)) (x .0 .now) (x .1 .0 .now) (x .1 .1 .0 .now) (x .1 .1 .1 .0 .now) n (leaves h′ s′ (z .1 .1 .1 .1)) (z .1 .1 .0) (z .1 .1 .1 .0)
 
 -- the same as the public contract says it
 abbrev pub AllDoes : Hub → List Slot → Buffer → ℕ → Hub → List Slot → BufferLeft → Type 0
 AllDoes h s x n h′ s′ z =
-    Applies (found h s (x .1 .1 .1)) (x .0 .now) (x .1 .0 .now) (x .1 .1 .0 .now) n (leaves h′ s′ (z .1 .1 .1)) (z .1 .0) (z .1 .1 .0)
+    Applies (found h s (x .1 .1 .1 .1)) (x .0 .now) (x .1 .0 .now) (x .1 .1 .0 .now) (x .1 .1 .1 .0 .now) n (leaves h′ s′ (z .1 .1 .1 .1)) (z .1 .1 .0) (z .1 .1 .1 .0)
 
 -- what the lent things tell; nothing of the rows
 abbrev pub KnownAll : Buffer → Type 0
-KnownAll x = Bytes (x .0 .now) × (Unit {0} × (Unit {0} × Long (x .1 .1 .1)))
+KnownAll x = Bytes (x .0 .now) × (Bytes (x .1 .0 .now) × (Unit {0} × (Unit {0} × Long (x .1 .1 .1 .1))))
 
-pub buffer-known : {M : Type 1} (𝓤 : URA M) (H : Heap 𝓤) (A : Atoms 𝓤) (W : Given 𝓤 H A) (ks : Lfts 8) (qs : Shares 8) (x : Buffer)
-    → Learns 𝓤 H A (KnownAll x) (toks 𝓤 A 8 ks qs) (buffer-own ks x)
+pub buffer-known : {M : Type 1} (𝓤 : URA M) (H : Heap 𝓤) (A : Atoms 𝓤) (W : Given 𝓤 H A) (ks : Lfts 9) (qs : Shares 9) (x : Buffer)
+    → Learns 𝓤 H A (KnownAll x) (toks 𝓤 A 9 ks qs) (buffer-own ks x)
 buffer-known 𝓤 H A W ks qs x =
     and-more 𝓤 H A W (bytes-small 𝓤 H A W (ks .0) (qs .0) (named 0) (x .0))
-    (and-more 𝓤 H A W (untold 𝓤 H A W (ks .1 .0) (qs .1 .0) (MutSlice (named 0) (ks .1 .0) u8 .own (x .1 .0) (slice-vals (x .1 .0))))
-    (and-more 𝓤 H A W (untold 𝓤 H A W (ks .1 .1 .0) (qs .1 .1 .0) (MutSlice (named 0) (ks .1 .1 .0) u64 .own (x .1 .1 .0) (slice-vals (x .1 .1 .0))))
-    (arrays-long 𝓤 H A W (ks .1 .1 .1) (qs .1 .1 .1) (x .1 .1 .1))))
+    (and-more 𝓤 H A W (bytes-small 𝓤 H A W (ks .1 .0) (qs .1 .0) (named 0) (x .1 .0))
+    (and-more 𝓤 H A W (untold 𝓤 H A W (ks .1 .1 .0) (qs .1 .1 .0) (MutSlice (named 0) (ks .1 .1 .0) u8 .own (x .1 .1 .0) (slice-vals (x .1 .1 .0))))
+    (and-more 𝓤 H A W (untold 𝓤 H A W (ks .1 .1 .1 .0) (qs .1 .1 .1 .0) (MutSlice (named 0) (ks .1 .1 .1 .0) u64 .own (x .1 .1 .1 .0) (slice-vals (x .1 .1 .1 .0))))
+    (arrays-long 𝓤 H A W (ks .1 .1 .1 .1) (qs .1 .1 .1 .1) (x .1 .1 .1 .1)))))
 
--- with a hub of sixteen workers and as many times for each, what the records did is what the contract says
-pub all-does : (h : Hub) (s : List Slot) (x : Buffer) (n : ℕ) (h′ : Hub) (s′ : List Slot) (z : BufferLeft) → (length (h .workers) ≡ 16) × (length (h .times) ≡ 256) → KnownAll x
+-- what the records did is what the contract says
+pub all-does : (h : Hub) (s : List Slot) (x : Buffer) (n : ℕ) (h′ : Hub) (s′ : List Slot) (z : BufferLeft)
+    → HubLong h → KnownAll x
     → AllDone h s x n h′ s′ z → AllDoes h s x n h′ s′ z
 all-does h s x n h′ s′ z w k =
-    applies (found h s (x .1 .1 .1)) (x .0 .now) (x .1 .0 .now) (x .1 .1 .0 .now) n (leaves h′ s′ (z .1 .1 .1)) (z .1 .0) (z .1 .1 .0)
-    (sized h s (x .1 .1 .1) w (k .1 .1 .1)) (k .0)
+    applies (found h s (x .1 .1 .1 .1)) (x .0 .now) (x .1 .0 .now) (x .1 .1 .0 .now) (x .1 .1 .1 .0 .now) n (leaves h′ s′ (z .1 .1 .1 .1)) (z .1 .1 .0) (z .1 .1 .1 .0)
+    (sized h s (x .1 .1 .1 .1) w (k .1 .1 .1 .1)) (k .1 .0)
 
 abbrev pub SameLong : Buffer → BufferLeft → Type 0
-SameLong x z = (length (z .1 .0) ≡ length (x .1 .0 .now)) × (length (z .1 .1 .0) ≡ length (x .1 .1 .0 .now))
+SameLong x z = (length (z .1 .1 .0) ≡ length (x .1 .1 .0 .now)) × (length (z .1 .1 .1 .0) ≡ length (x .1 .1 .1 .0 .now))
 
 -- what a callee says of them at its end
 abbrev buffer-last : Buffer → BufferLeft → Fml
 buffer-last x z =
-    fsep ftrue (fsep (fsep (finally u8 (x .1 .0 .name) (z .1 .0)) (feq ℕ (length (z .1 .0)) (length (x .1 .0 .now))))
-    (fsep (fsep (finally u64 (x .1 .1 .0 .name) (z .1 .1 .0)) (feq ℕ (length (z .1 .1 .0)) (length (x .1 .1 .0 .now))))
-    (arrays-end (x .1 .1 .1) (z .1 .1 .1))))
+    fsep ftrue (fsep ftrue (fsep (fsep (finally u8 (x .1 .1 .0 .name) (z .1 .1 .0)) (feq ℕ (length (z .1 .1 .0)) (length (x .1 .1 .0 .now))))
+    (fsep (fsep (finally u64 (x .1 .1 .1 .0 .name) (z .1 .1 .1 .0)) (feq ℕ (length (z .1 .1 .1 .0)) (length (x .1 .1 .1 .0 .now))))
+    (arrays-end (x .1 .1 .1 .1) (z .1 .1 .1 .1)))))
 
 pub buffer-ends : {M : Type 1} (𝓤 : URA M) (H : Heap 𝓤) (A : Atoms 𝓤) (W : Given 𝓤 H A) (x : Buffer) (z : BufferLeft)
     → ent 𝓤 (sem 𝓤 H A (buffer-last x z)) (guard 𝓤 (SameLong x z) (sem 𝓤 H A (buffer-end x z)))
 buffer-ends 𝓤 H A W x z =
     qed W (‵ (buffer-last x z) ∷ []) {P = guard 𝓤 (SameLong x z) (sem 𝓤 H A (buffer-end x z))} (
-    fsplit ! $ drop ! $ fsplit ! $ fsplit ! $ move ! (1 ∷ []) $ feqL ! (λ e. move ! (1 ∷ []) $ fsplit ! $ fsplit ! $ move ! (1 ∷ []) $ feqL ! (λ e₁.
+    fsplit ! $ drop ! $ fsplit ! $ drop ! $ fsplit ! $ fsplit ! $ move ! (1 ∷ []) $ feqL ! (λ e. move ! (1 ∷ []) $ fsplit ! $ fsplit ! $ move ! (1 ∷ []) $ feqL ! (λ e₁.
     fjoin ! $ move ! (1 ∷ 0 ∷ []) $ fjoin ! $ check ! (e, e₁) $ done !)))

@@ -60,17 +60,17 @@ module _ {M : Type 1} (𝓤 : URA M) (H : Heap 𝓤) (A : Atoms 𝓤) (mem : Mem
 
 -- ---- run-one
 module _ {M : Type 1} (𝓤 : URA M) (H : Heap 𝓤) (A : Atoms 𝓤) (W : Given 𝓤 H A) (mem : Memory → SProp 𝓤) (run : Routine → Fun 𝓤) (n b o : ℕ)
-    (ws : List (List ℕ)) (k : ℕ) (h : Hub) (ks : Lfts 6) (qs : Shares 6) (x : Single) where
+    (ws : List (List ℕ)) (k : ℕ) (h : Hub) (ks : Lfts 7) (qs : Shares 7) (x : Single) where
   -- what the callee's contract binds outside, and that the caller has what it asks
   abbrev to-one : Lft → GName → RunOne 𝓤 H A mem run .Ghost
   to-one ν δ =
       (((ν, ks), (fullShare, qs), tt, (slice b o δ ws, (k, (h, x))), (sliceVal (b, o) n ∷ [], (vint w64 k ∷ [], (hub-vals h, single-vals x)))), tt)
 
   goes-one : k < 2 ^ 64 → Is B.the-row h (hub-vals h) → k ≤ length ws → (ν : Lft) (δ : GName)
-      → ent 𝓤 (sep 𝓤 (A .lft ν fullShare) (sep 𝓤 (sem 𝓤 H A (Row ν n b o δ ws)) (sep 𝓤 (toks 𝓤 A 6 ks qs) (sem 𝓤 H A (single-own ks x)))))
+      → ent 𝓤 (sep 𝓤 (A .lft ν fullShare) (sep 𝓤 (sem 𝓤 H A (Row ν n b o δ ws)) (sep 𝓤 (toks 𝓤 A 7 ks qs) (sem 𝓤 H A (single-own ks x)))))
       (RunOne 𝓤 H A mem run .pre (to-one ν δ))
   goes-one gk gh within ν δ =
-      qed W (‵ (flft ν fullShare) ∷ ‵ (Row ν n b o δ ws) ∷ raw (toks 𝓤 A 6 ks qs) ∷ ‵ (single-own ks x) ∷ []) ∵ says ! within $ move ! (3 ∷ []) $
+      qed W (‵ (flft ν fullShare) ∷ ‵ (Row ν n b o δ ws) ∷ raw (toks 𝓤 A 7 ks qs) ∷ ‵ (single-own ks x) ∷ []) ∵ says ! within $ move ! (3 ∷ []) $
       owned ! B.the-row (Is B.the-row) (LL.makes B.the-type B′.the-plain 𝓤 H A) h (hub-vals h) gh $ fjoin ! $
       owned ! usize (Is usize) (uint-makes 𝓤 H A W w64) k _ (refl, gk) $ fjoin ! $ move ! (2 ∷ 0 ∷ []) $ fjoin ! $ move ! (1 ∷ 2 ∷ []) $
       join ! $ frame ! $
@@ -90,24 +90,24 @@ module _ {M : Type 1} (𝓤 : URA M) (H : Heap 𝓤) (A : Atoms 𝓤) (W : Given
       (Ends Words ws Last-one (λ l. l .0) (λ l. ‵ (single-end x (l .1 .1 .1))) (Says-one r) δ))
   said-one ν δ r = exE 𝓤 _ (λ (l : Last-one). let D : Type 0 = (rest-of k (l .0) ≡ rest-of k ws) × Says-one r l in
       qed W (‵ (lasts run-one.ended (ν, ks) (slice b o δ ws, (k, (h, x))) l) ∷ raw (fact 𝓤 D) ∷ []) ∵
-      fsplit ! $ move ! (1 ∷ []) $ fsplit ! $ drop ! $ fsplit ! $ drop ! $ fsplit ! $ drop ! $ move ! (2 ∷ []) $ heard ! D (λ e.
+      fsplit ! $ move ! (1 ∷ []) $ fsplit ! $ drop ! $ fsplit ! $ drop ! $ fsplit ! $ drop ! $ fsplit ! $ drop ! $ move ! (2 ∷ []) $ heard ! D (λ e.
       show ! (λ (a : Last-one). sep 𝓤 (sep 𝓤 (sem 𝓤 H A (fsep (finally Words δ (a .0)) (feq ℕ (length (a .0)) (length ws))))
       (sem 𝓤 H A (single-end x (a .1 .1 .1)))) (fact 𝓤 (Says-one r a))) l $
       says ! (e .1) $ move ! (1 ∷ 0 ∷ []) $ frame ! $ done !))
 
 -- ---- run-all
 module _ {M : Type 1} (𝓤 : URA M) (H : Heap 𝓤) (A : Atoms 𝓤) (W : Given 𝓤 H A) (mem : Memory → SProp 𝓤) (run : Routine → Fun 𝓤) (n b o : ℕ)
-    (ws : List (List ℕ)) (k : ℕ) (h : Hub) (ks : Lfts 8) (qs : Shares 8) (x : Buffer) where
+    (ws : List (List ℕ)) (k : ℕ) (h : Hub) (ks : Lfts 9) (qs : Shares 9) (x : Buffer) where
   -- what the callee's contract binds outside, and that the caller has what it asks
   abbrev to-all : Lft → GName → RunAll 𝓤 H A mem run .Ghost
   to-all ν δ =
       (((ν, ks), (fullShare, qs), tt, (slice b o δ ws, (k, (h, x))), (sliceVal (b, o) n ∷ [], (vint w64 k ∷ [], (hub-vals h, buffer-vals x)))), tt)
 
   goes-all : k < 2 ^ 64 → Is B.the-row h (hub-vals h) → k ≤ length ws → (ν : Lft) (δ : GName)
-      → ent 𝓤 (sep 𝓤 (A .lft ν fullShare) (sep 𝓤 (sem 𝓤 H A (Row ν n b o δ ws)) (sep 𝓤 (toks 𝓤 A 8 ks qs) (sem 𝓤 H A (buffer-own ks x)))))
+      → ent 𝓤 (sep 𝓤 (A .lft ν fullShare) (sep 𝓤 (sem 𝓤 H A (Row ν n b o δ ws)) (sep 𝓤 (toks 𝓤 A 9 ks qs) (sem 𝓤 H A (buffer-own ks x)))))
       (RunAll 𝓤 H A mem run .pre (to-all ν δ))
   goes-all gk gh within ν δ =
-      qed W (‵ (flft ν fullShare) ∷ ‵ (Row ν n b o δ ws) ∷ raw (toks 𝓤 A 8 ks qs) ∷ ‵ (buffer-own ks x) ∷ []) ∵ says ! within $ move ! (3 ∷ []) $
+      qed W (‵ (flft ν fullShare) ∷ ‵ (Row ν n b o δ ws) ∷ raw (toks 𝓤 A 9 ks qs) ∷ ‵ (buffer-own ks x) ∷ []) ∵ says ! within $ move ! (3 ∷ []) $
       owned ! B.the-row (Is B.the-row) (LL.makes B.the-type B′.the-plain 𝓤 H A) h (hub-vals h) gh $ fjoin ! $
       owned ! usize (Is usize) (uint-makes 𝓤 H A W w64) k _ (refl, gk) $ fjoin ! $ move ! (2 ∷ 0 ∷ []) $ fjoin ! $ move ! (1 ∷ 2 ∷ []) $
       join ! $ frame ! $
@@ -140,41 +140,41 @@ module _ {M : Type 1} {𝓤 : URA M} {H : Heap 𝓤} {A : Atoms 𝓤} {K : Type 
     {C : Calls 𝓤 H} {Λ : Loops 𝓤 H}
     {q : Post 𝓤 H} {dst : Place} {rest : Body} {xs : List Operand} {κ : Lft} {p : Share} {γ : GName} where
   pub call-run-one : (t : K) (mem : Memory → SProp 𝓤) (run : Routine → Fun 𝓤) → FmC 𝓤 H (W .laws) C → Triple 𝓤 (C #runs·run-one) (RunOne 𝓤 H A mem run)
-      → (n b o : ℕ) (ws : List (List ℕ)) → length ws ≡ n → Room Words n → (k : ℕ) (h : Hub) (ks : Lfts 6) (qs : Shares 6) (x : Single) → k < 2 ^ 64
+      → (n b o : ℕ) (ws : List (List ℕ)) → length ws ≡ n → Room Words n → (k : ℕ) (h : Hub) (ks : Lfts 7) (qs : Shares 7) (x : Single) → k < 2 ^ 64
       → Is B.the-row h (hub-vals h) → k ≤ length ws
       → ((i j : Item 𝓤) → Opds K W (i ∷ j ∷ Γ) E xs (sliceVal (b, o) n ∷ vint w64 k ∷ only (hub-vals h) ∷ single-list x))
       → ((r : Applied) (zs : List (List ℕ)) (z : SingleLeft)
       → OneDone h (take k (rowOf ws)) x (r .hub) (take k (rowOf zs)) z (r .answer) → length zs ≡ n
       → Is P.the-row r (applied-vals r)
-      → Seq K W (‵ (Row κ n b o γ zs) ∷ ‵ (flft κ p) ∷ raw (toks 𝓤 A 6 ks qs) ∷ ‵ (single-end x z) ∷ Γ)
+      → Seq K W (‵ (Row κ n b o γ zs) ∷ ‵ (flft κ p) ∷ raw (toks 𝓤 A 7 ks qs) ∷ ‵ (single-end x z) ∷ Γ)
       (lands C Λ E dst (only (applied-vals r)) rest q))
-      → Seq K W (‵ (Row κ n b o γ ws) ∷ ‵ (flft κ p) ∷ raw (toks 𝓤 A 6 ks qs) ∷ ‵ (single-own ks x) ∷ Γ)
+      → Seq K W (‵ (Row κ n b o γ ws) ∷ ‵ (flft κ p) ∷ raw (toks 𝓤 A 7 ks qs) ∷ ‵ (single-own ks x) ∷ Γ)
       (runs C Λ E (seq (call #runs·run-one xs dst) rest) q)
   call-run-one t mem run fm known n b o ws len room k h ks qs x gk gh within os next =
       move t (2 ∷ 3 ∷ []) $ join t $ move t (1 ∷ 2 ∷ 0 ∷ []) $
       call-on t fm (RunOne 𝓤 H A mem run) known P.the-row applied-vals (LL.tells P.the-type P′.the-laws) Words n b o ws len room
-      (to-one 𝓤 H A W mem run n b o ws k h ks qs x) (λ ν. ‵ (flft ν fullShare) ⊛ raw (toks 𝓤 A 6 ks qs))
+      (to-one 𝓤 H A W mem run n b o ws k h ks qs x) (λ ν. ‵ (flft ν fullShare) ⊛ raw (toks 𝓤 A 7 ks qs))
       (Said-one 𝓤 H A W mem run n b o ws k h ks qs x)
-      (raw (toks 𝓤 A 6 ks qs) ⊛ ‵ (single-own ks x)) (raw (toks 𝓤 A 6 ks qs)) (Last-one 𝓤 H A W mem run n b o ws k h ks qs x) (λ l. l .0)
+      (raw (toks 𝓤 A 7 ks qs) ⊛ ‵ (single-own ks x)) (raw (toks 𝓤 A 7 ks qs)) (Last-one 𝓤 H A W mem run n b o ws k h ks qs x) (λ l. l .0)
       (λ l. ‵ (single-end x (l .1 .1 .1)))
       (Says-one 𝓤 H A W mem run n b o ws k h ks qs x) (λ ν. id⊢ 𝓤 _) (goes-one 𝓤 H A W mem run n b o ws k h ks qs x gk gh within) (λ ν δ w. id⊢ 𝓤 _)
       (said-one 𝓤 H A W mem run n b o ws k h ks qs x) (λ ν δ. os) (λ r l. next r (l .0) (l .1 .1 .1))
 
   pub call-run-all : (t : K) (mem : Memory → SProp 𝓤) (run : Routine → Fun 𝓤) → FmC 𝓤 H (W .laws) C → Triple 𝓤 (C #runs·run-all) (RunAll 𝓤 H A mem run)
-      → (n b o : ℕ) (ws : List (List ℕ)) → length ws ≡ n → Room Words n → (k : ℕ) (h : Hub) (ks : Lfts 8) (qs : Shares 8) (x : Buffer) → k < 2 ^ 64
+      → (n b o : ℕ) (ws : List (List ℕ)) → length ws ≡ n → Room Words n → (k : ℕ) (h : Hub) (ks : Lfts 9) (qs : Shares 9) (x : Buffer) → k < 2 ^ 64
       → Is B.the-row h (hub-vals h) → k ≤ length ws
       → ((i j : Item 𝓤) → Opds K W (i ∷ j ∷ Γ) E xs (sliceVal (b, o) n ∷ vint w64 k ∷ only (hub-vals h) ∷ buffer-list x))
       → ((r : Counted) (zs : List (List ℕ)) (z : BufferLeft) → AllDone h (take k (rowOf ws)) x (r .count) (r .hub) (take k (rowOf zs)) z × SameLong x z
       → length zs ≡ n → Is L.the-row r (left-vals r)
-      → Seq K W (‵ (Row κ n b o γ zs) ∷ ‵ (flft κ p) ∷ raw (toks 𝓤 A 8 ks qs) ∷ ‵ (buffer-end x z) ∷ Γ) (lands C Λ E dst (only (left-vals r)) rest q))
-      → Seq K W (‵ (Row κ n b o γ ws) ∷ ‵ (flft κ p) ∷ raw (toks 𝓤 A 8 ks qs) ∷ ‵ (buffer-own ks x) ∷ Γ)
+      → Seq K W (‵ (Row κ n b o γ zs) ∷ ‵ (flft κ p) ∷ raw (toks 𝓤 A 9 ks qs) ∷ ‵ (buffer-end x z) ∷ Γ) (lands C Λ E dst (only (left-vals r)) rest q))
+      → Seq K W (‵ (Row κ n b o γ ws) ∷ ‵ (flft κ p) ∷ raw (toks 𝓤 A 9 ks qs) ∷ ‵ (buffer-own ks x) ∷ Γ)
       (runs C Λ E (seq (call #runs·run-all xs dst) rest) q)
   call-run-all t mem run fm known n b o ws len room k h ks qs x gk gh within os next =
       move t (2 ∷ 3 ∷ []) $ join t $ move t (1 ∷ 2 ∷ 0 ∷ []) $
       call-on t fm (RunAll 𝓤 H A mem run) known L.the-row left-vals (LL.tells L.the-type L′.the-laws) Words n b o ws len room
-      (to-all 𝓤 H A W mem run n b o ws k h ks qs x) (λ ν. ‵ (flft ν fullShare) ⊛ raw (toks 𝓤 A 8 ks qs))
+      (to-all 𝓤 H A W mem run n b o ws k h ks qs x) (λ ν. ‵ (flft ν fullShare) ⊛ raw (toks 𝓤 A 9 ks qs))
       (Said-all 𝓤 H A W mem run n b o ws k h ks qs x)
-      (raw (toks 𝓤 A 8 ks qs) ⊛ ‵ (buffer-own ks x)) (raw (toks 𝓤 A 8 ks qs)) (Last-all 𝓤 H A W mem run n b o ws k h ks qs x) (λ l. l .0)
+      (raw (toks 𝓤 A 9 ks qs) ⊛ ‵ (buffer-own ks x)) (raw (toks 𝓤 A 9 ks qs)) (Last-all 𝓤 H A W mem run n b o ws k h ks qs x) (λ l. l .0)
       (λ l. ‵ (buffer-end x (l .1 .1 .1)))
       (Says-all 𝓤 H A W mem run n b o ws k h ks qs x) (λ ν. id⊢ 𝓤 _) (goes-all 𝓤 H A W mem run n b o ws k h ks qs x gk gh within) (λ ν δ w. id⊢ 𝓤 _)
       (said-all 𝓤 H A W mem run n b o ws k h ks qs x) (λ ν δ. os) (λ r l. next r (l .0) (l .1 .1 .1))

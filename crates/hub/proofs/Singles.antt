@@ -46,16 +46,16 @@ Apply 𝓤 H A mem run = tripleOf 𝓤 H A apply.signature (apply.spec 𝓤 H A 
 
 module _ {M : Type 1} (𝓤 : URA M) (H : Heap 𝓤) (A : Atoms 𝓤) (W : Given 𝓤 H A) (mem : Memory → SProp 𝓤) (run : Routine → Fun 𝓤)
     (n b o : ℕ) (ys : List Slot)
-    (h : Hub) (ks : Lfts 6) (qs : Shares 6) (x : Single) where
+    (h : Hub) (ks : Lfts 7) (qs : Shares 7) (x : Single) where
   -- what the callee's contract binds outside, and that the caller has what it asks
   abbrev to-apply : Lft → GName → Apply 𝓤 H A mem run .Ghost
   to-apply ν δ = (((ν, ks), (fullShare, qs), tt, (slice b o δ ys, (h, x)), (sliceVal (b, o) n ∷ [], (hub-vals h, single-vals x))), tt)
 
   goes-apply : Is B.the-row h (hub-vals h) → (ν : Lft) (δ : GName)
-      → ent 𝓤 (sep 𝓤 (A .lft ν fullShare) (sep 𝓤 (sem 𝓤 H A (Slots ν n b o δ ys)) (sep 𝓤 (toks 𝓤 A 6 ks qs) (sem 𝓤 H A (single-own ks x)))))
+      → ent 𝓤 (sep 𝓤 (A .lft ν fullShare) (sep 𝓤 (sem 𝓤 H A (Slots ν n b o δ ys)) (sep 𝓤 (toks 𝓤 A 7 ks qs) (sem 𝓤 H A (single-own ks x)))))
       (Apply 𝓤 H A mem run .pre (to-apply ν δ))
   goes-apply gh ν δ =
-      qed W (‵ (flft ν fullShare) ∷ ‵ (Slots ν n b o δ ys) ∷ raw (toks 𝓤 A 6 ks qs) ∷ ‵ (single-own ks x) ∷ []) ∵ move ! (3 ∷ []) $
+      qed W (‵ (flft ν fullShare) ∷ ‵ (Slots ν n b o δ ys) ∷ raw (toks 𝓤 A 7 ks qs) ∷ ‵ (single-own ks x) ∷ []) ∵ move ! (3 ∷ []) $
       owned ! B.the-row (Is B.the-row) (LL.makes B.the-type B′.the-plain 𝓤 H A) h (hub-vals h) gh $ fjoin ! $
       move ! (2 ∷ 0 ∷ []) $ fjoin ! $ move ! (1 ∷ 2 ∷ []) $ join ! $ join ! $ frame ! $ done !
 
@@ -74,7 +74,7 @@ module _ {M : Type 1} (𝓤 : URA M) (H : Heap 𝓤) (A : Atoms 𝓤) (W : Given
       δ))
   said ν δ r = exE 𝓤 _ (λ (l : Last).
       qed W (‵ (lasts apply.ended (ν, ks) (slice b o δ ys, (h, x)) l) ∷ raw (fact 𝓤 (Says r l)) ∷ []) ∵
-      fsplit ! $ move ! (1 ∷ []) $ fsplit ! $ drop ! $ fsplit ! $ drop ! $ move ! (2 ∷ []) $ heard ! (Says r l) (λ e.
+      fsplit ! $ move ! (1 ∷ []) $ fsplit ! $ drop ! $ fsplit ! $ drop ! $ fsplit ! $ drop ! $ move ! (2 ∷ []) $ heard ! (Says r l) (λ e.
       show ! (λ (a : Last). sep 𝓤 (sep 𝓤 (sem 𝓤 H A (fsep (finally T.the-row δ (a .0)) (feq ℕ (length (a .0)) (length ys))))
       (sem 𝓤 H A (single-end x (a .1 .1)))) (fact 𝓤 (Says r a))) l $
       says ! e $ move ! (1 ∷ 0 ∷ []) $ frame ! $ done !))
@@ -83,20 +83,20 @@ module _ {M : Type 1} {𝓤 : URA M} {H : Heap 𝓤} {A : Atoms 𝓤} {K : Type 
     {C : Calls 𝓤 H} {Λ : Loops 𝓤 H}
     {q : Post 𝓤 H} {dst : Place} {rest : Body} {xs : List Operand} {κ : Lft} {p : Share} {γ : GName} where
   pub call-apply : (t : K) (mem : Memory → SProp 𝓤) (run : Routine → Fun 𝓤) → FmC 𝓤 H (W .laws) C → Triple 𝓤 (C #hub·apply) (Apply 𝓤 H A mem run)
-      → (n b o : ℕ) (ys : List Slot) → length ys ≡ n → Room T.the-row n → (h : Hub) (ks : Lfts 6) (qs : Shares 6) (x : Single)
+      → (n b o : ℕ) (ys : List Slot) → length ys ≡ n → Room T.the-row n → (h : Hub) (ks : Lfts 7) (qs : Shares 7) (x : Single)
       → Is B.the-row h (hub-vals h)
       → ((i j : Item 𝓤) → Opds K W (i ∷ j ∷ Γ) E xs (sliceVal (b, o) n ∷ only (hub-vals h) ∷ single-list x))
       → ((r : Applied) (zs : List Slot) (z : SingleLeft) → SingleDoes h ys x (r .hub) zs z (r .answer) → length zs ≡ n
       → Is P.the-row r (applied-vals r)
-      → Seq K W (‵ (Slots κ n b o γ zs) ∷ ‵ (flft κ p) ∷ raw (toks 𝓤 A 6 ks qs) ∷ ‵ (single-end x z) ∷ Γ)
+      → Seq K W (‵ (Slots κ n b o γ zs) ∷ ‵ (flft κ p) ∷ raw (toks 𝓤 A 7 ks qs) ∷ ‵ (single-end x z) ∷ Γ)
       (lands C Λ E dst (only (applied-vals r)) rest q))
-      → Seq K W (‵ (Slots κ n b o γ ys) ∷ ‵ (flft κ p) ∷ raw (toks 𝓤 A 6 ks qs) ∷ ‵ (single-own ks x) ∷ Γ)
+      → Seq K W (‵ (Slots κ n b o γ ys) ∷ ‵ (flft κ p) ∷ raw (toks 𝓤 A 7 ks qs) ∷ ‵ (single-own ks x) ∷ Γ)
       (runs C Λ E (seq (call #hub·apply xs dst) rest) q)
   call-apply t mem run fm known n b o ys len room h ks qs x gh os next =
       move t (2 ∷ 3 ∷ []) $ join t $ move t (1 ∷ 2 ∷ 0 ∷ []) $
       call-on t fm (Apply 𝓤 H A mem run) known P.the-row applied-vals (LL.tells P.the-type P′.the-laws) T.the-row n b o ys len room
-      (to-apply 𝓤 H A W mem run n b o ys h ks qs x) (λ ν. ‵ (flft ν fullShare) ⊛ raw (toks 𝓤 A 6 ks qs)) (Said 𝓤 H A W mem run n b o ys h ks qs x)
-      (raw (toks 𝓤 A 6 ks qs) ⊛ ‵ (single-own ks x)) (raw (toks 𝓤 A 6 ks qs)) (Last 𝓤 H A W mem run n b o ys h ks qs x) (λ l. l .0)
+      (to-apply 𝓤 H A W mem run n b o ys h ks qs x) (λ ν. ‵ (flft ν fullShare) ⊛ raw (toks 𝓤 A 7 ks qs)) (Said 𝓤 H A W mem run n b o ys h ks qs x)
+      (raw (toks 𝓤 A 7 ks qs) ⊛ ‵ (single-own ks x)) (raw (toks 𝓤 A 7 ks qs)) (Last 𝓤 H A W mem run n b o ys h ks qs x) (λ l. l .0)
       (λ l. ‵ (single-end x (l .1 .1)))
       (Says 𝓤 H A W mem run n b o ys h ks qs x) (λ ν. id⊢ 𝓤 _) (goes-apply 𝓤 H A W mem run n b o ys h ks qs x gh) (λ ν δ w. id⊢ 𝓤 _)
       (said 𝓤 H A W mem run n b o ys h ks qs x) (λ ν δ. os) (λ r l. next r (l .0) (l .1 .1))

@@ -12,6 +12,7 @@ use denote.Laws.{Is}
 use denote.Steps.{only}
 use denote.Struct.Laws as LL
 use Rattle.state.specs.declared.Hub.{Hub}
+use Rattle.hub.proofs.Passed.{HubLong}
 use Rattle.state.proofs.Hub as B
 use Rattle.state.proofs.Hub.Laws as B′
 use Rattle.runs.specs.declared.Applied.{Applied}
@@ -58,8 +59,10 @@ module _ {M : Type 1} (𝓤 : URA M) (H : Heap 𝓤) (A : Atoms 𝓤) (W : Given
   pub typed-answered : (u : Answered) → Is N.the-row u (answered-vals u) → Holds (hasTy N′.mir (only (answered-vals u))) × WT (only (answered-vals u))
   typed-answered u g = LL.lawful N.the-type N′.the-laws 𝓤 H A W .typed u (answered-vals u) g .0
 
--- a hub by value has sixteen workers, and sixteen times for each
-pub hub-sizes : (h : Hub) → Is B.the-row h (hub-vals h) → (length (h .workers) ≡ 16) × (length (h .times) ≡ 256)
+pub hub-sizes : (h : Hub) → Is B.the-row h (hub-vals h) → HubLong h
 hub-sizes h is =
-    let o = LL.owed B.the-type B′.the-laws h _ is .1 .1 .1 .1 .1 .1 in
-    (sym (length-map (h .workers) _) ∙ o .1 .0 .1 .0 .1, sym (length-map (h .times) _) ∙ o .0 .1 .0 .1)
+    let o = LL.owed B.the-type B′.the-laws h _ is .1 .1 .1 .1 .1 .1 .1 in (
+      sym (length-map (h .workers) _) ∙ o .1 .1 .0 .1 .0 .1,
+      sym (length-map (h .times) _) ∙ o .1 .0 .1 .0 .1,
+      sym (length-map (h .rows) _) ∙ o .0 .1 .0 .1,
+    )

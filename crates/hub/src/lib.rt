@@ -48,10 +48,12 @@ fn zeros() -> [[u64; 5]; 2048]
 
 // ---- one record
 
-// One record, of any bytes and any number of them, on any lent memory.
+// One record, of any bytes and any number of them, on any lent memory. The list of totals, of any bytes too, is for a setup; other records do
+// not look at it.
 pub fn apply(
     slots: &mut [Slot],
     hub: Hub,
+    list: &[u8],
     rec: &[u8],
     newest: &mut [u16; 256],
     free: &mut [u16; 2048],
@@ -70,7 +72,7 @@ pub fn apply(
           lens = now (lens .entry);
           merged = now (merged .entry);
         })
-        (now (rec .entry)) (r .answer)
+        (now (list .entry)) (now (rec .entry)) (r .answer)
         (record {
           hub = r .hub;
           slots = now (slots .exit);
@@ -85,7 +87,18 @@ pub fn apply(
     let mut row = zeros();
     let n = runs::at_most(slots.len(), 2048);
     load_row(slots, &mut row, n);
-    let done = runs::run_one(&mut row, n, hub, rec, newest, free, queue, lens, merged);
+    let done = runs::run_one(
+        &mut row,
+        n,
+        hub,
+        list,
+        rec,
+        newest,
+        free,
+        queue,
+        lens,
+        merged,
+    );
     store_row(&row, slots, n);
     done
 }
@@ -96,6 +109,7 @@ pub fn apply(
 pub fn apply_all(
     slots: &mut [Slot],
     hub: Hub,
+    list: &[u8],
     bytes: &[u8],
     kinds: &mut [u8],
     numbers: &mut [u64],
@@ -117,7 +131,7 @@ pub fn apply_all(
           lens = now (lens .entry);
           merged = now (merged .entry);
         })
-        (now (bytes .entry)) (now (kinds .entry)) (now (numbers .entry)) (r .count)
+        (now (list .entry)) (now (bytes .entry)) (now (kinds .entry)) (now (numbers .entry)) (r .count)
         (record {
           hub = r .hub;
           slots = take 2048 (now (slots .exit));
@@ -137,6 +151,7 @@ pub fn apply_all(
         &mut row,
         n,
         hub,
+        list,
         bytes,
         kinds,
         numbers,
@@ -157,6 +172,7 @@ fn lengths_told(newest: &[u16], free: &[u16], queue: &[u32], lens: &[u32], merge
 pub fn apply_words(
     row: &mut [[u64; 5]],
     hub: Hub,
+    list: &[u8],
     bytes: &[u8],
     kinds: &mut [u8],
     numbers: &mut [u64],
@@ -177,7 +193,7 @@ pub fn apply_words(
           lens = now (lens .entry);
           merged = now (merged .entry);
         })
-        (now (bytes .entry)) (now (kinds .entry)) (now (numbers .entry)) (r .count)
+        (now (list .entry)) (now (bytes .entry)) (now (kinds .entry)) (now (numbers .entry)) (r .count)
         (record {
           hub = r .hub;
           slots = rowOf (now (row .exit));
@@ -196,6 +212,7 @@ pub fn apply_words(
         row,
         n,
         hub,
+        list,
         bytes,
         kinds,
         numbers,
@@ -220,6 +237,7 @@ pub struct Owned {
 pub fn apply_owned(
     row: [Slot; 2048],
     hub: Hub,
+    list: &[u8],
     bytes: &[u8],
     kinds: &mut [u8],
     numbers: &mut [u64],
@@ -240,7 +258,7 @@ pub fn apply_owned(
           lens = now (lens .entry);
           merged = now (merged .entry);
         })
-        (now (bytes .entry)) (now (kinds .entry)) (now (numbers .entry)) (r .count)
+        (now (list .entry)) (now (bytes .entry)) (now (kinds .entry)) (now (numbers .entry)) (r .count)
         (record {
           hub = r .hub;
           slots = r .slots;
@@ -257,6 +275,7 @@ pub fn apply_owned(
     let done = apply_all(
         &mut slots,
         hub,
+        list,
         bytes,
         kinds,
         numbers,
@@ -286,6 +305,7 @@ pub fn apply_row(
     row: [Slot; 2048],
     long: usize,
     hub: Hub,
+    list: &[u8],
     rec: &[u8],
     newest: &mut [u16; 256],
     free: &mut [u16; 2048],
@@ -305,7 +325,7 @@ pub fn apply_row(
           lens = now (lens .entry);
           merged = now (merged .entry);
         })
-        (now (rec .entry)) (r .answer)
+        (now (list .entry)) (now (rec .entry)) (r .answer)
         (record {
           hub = r .hub;
           slots = take (min long 2048) (r .slots);
@@ -322,6 +342,7 @@ pub fn apply_row(
     let done = apply(
         &mut slots[0..n],
         hub,
+        list,
         rec,
         newest,
         free,

@@ -1,12 +1,12 @@
 // Reads records from standard input and writes a line for each (H10). What a read brings is logged at once; the rest of a record waits for the
-// next read. This crate owns the memory of the hub.
+// next read. The first argument names the file with the list of totals. This crate owns the memory of the hub.
 use state::Hub;
 
 fn main() {
-    // A read brings at most 16384 records; the text has room for as many lines of 48 bytes, the longest.
+    // A read brings at most 16384 records; the text has room for as many lines of 49 bytes, the longest.
     let mut block_space = [0u8; 262144];
     let block: &mut [u8] = &mut block_space;
-    let mut text_space = [0u8; 786432];
+    let mut text_space = [0u8; 802816];
     let text: &mut [u8] = &mut text_space;
     let mut kind_space = [0u8; 16384];
     let kinds: &mut [u8] = &mut kind_space;
@@ -17,11 +17,20 @@ fn main() {
     let mut queue = [0u32; 12288];
     let mut lens = [0u32; 4096];
     let mut merged = [0u32; 12288];
+    // The list of totals: one byte more than the longest that a setup accepts.
+    let mut list_space = [0u8; 4097];
+    let list: &mut [u8] = &mut list_space;
+    let listed = input::read_named(1, list);
+    if listed.failed {
+        input::say(b"hublog: cannot read the list of totals\n");
+        return;
+    }
+    let long = listed.n;
     // The slots, five words each.
     let mut row_space = [[0u64; 5]; 2048];
     let row: &mut [[u64; 5]] = &mut row_space;
     // No worker, no register, no slot: memory that counts as not set up.
-    let mut hub = Hub::fresh(0, 0, 0, 0);
+    let mut hub = Hub::fresh(0, 0, 0, 0, 0, [0u32; 1024]);
     // The number of the next record, and how many of its bytes stand at the start of the block.
     let mut first: u64 = 0;
     let mut kept: usize = 0;
@@ -43,6 +52,7 @@ fn main() {
         let done = logs::log_part(
             row,
             hub,
+            &list[0..long],
             &block[0..end],
             first,
             text,

@@ -1,4 +1,4 @@
--- Lines computed: where the number of a record gets one digit more, and the greatest number that 64 bits hold.
+-- Lines computed: where the number of a record gets one digit more, and the greatest number that 64 bits hold, above zero and below.
 use mathlib.Core.Path.{_≡_, refl}
 use Rattle.model.specs.Log.{text, digits, decimal}
 use Rattle.lines.specs.Words.{wordsFrom, lineFrom}
@@ -14,3 +14,7 @@ at-million = refl
 greatest : lineFrom 18446744073709551615 4 18446744073709551615 ≡ text "18446744073709551615 value 18446744073709551615\n"
 unfolding lineFrom wordsFrom text digits decimal
 greatest = refl
+
+longest-line : lineFrom 18446744073709551615 7 18446744073709551615 ≡ text "18446744073709551615 value -18446744073709551615\n"
+unfolding lineFrom wordsFrom text digits decimal
+longest-line = refl

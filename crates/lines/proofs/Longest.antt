@@ -1,4 +1,4 @@
--- How long a line can be: a number has at most twenty digits, an answer's words 26 bytes, and a line 48.
+-- How long a line can be: a number has at most twenty digits, an answer's words 27 bytes, and a line 49.
 use Prim.Native.Nat.{ℕ, zero, suc, _+_, _≤_}
 use mathlib.Core.List.{List}
 use native.Mathlib.Omega.{arith}
@@ -8,7 +8,7 @@ use Rattle.lines.specs.Words.{wordsFrom, lineFrom}
 use Rattle.lines.specs.Written.{Appended, Spills, longest}
 use Rattle.lines.proofs.Decimal.{length-decimal, decimal-least}
 
-pub words-length : (kind x : ℕ) → length (wordsFrom kind x) ≤ 26
+pub words-length : (kind x : ℕ) → length (wordsFrom kind x) ≤ 27
 unfolding wordsFrom text
 words-length zero x = omega arith
 words-length (suc zero) x = omega arith
@@ -16,7 +16,9 @@ words-length (suc (suc zero)) x = omega (arith, length-decimal x)
 words-length (suc (suc (suc zero))) x = omega (arith, length-decimal x)
 words-length (suc (suc (suc (suc zero)))) x = omega (arith, length-decimal x)
 words-length (suc (suc (suc (suc (suc zero))))) x = omega arith
-words-length (suc (suc (suc (suc (suc (suc k)))))) x = omega (arith, length-decimal x)
+words-length (suc (suc (suc (suc (suc (suc zero)))))) x = omega (arith, length-decimal x)
+words-length (suc (suc (suc (suc (suc (suc (suc zero))))))) x = omega (arith, length-decimal x)
+words-length (suc (suc (suc (suc (suc (suc (suc (suc k)))))))) x = omega (arith, length-decimal x)
 
 words-least : (kind x : ℕ) → 2 ≤ length (wordsFrom kind x)
 unfolding wordsFrom text
@@ -26,7 +28,9 @@ words-least (suc (suc zero)) x = omega arith
 words-least (suc (suc (suc zero))) x = omega arith
 words-least (suc (suc (suc (suc zero)))) x = omega arith
 words-least (suc (suc (suc (suc (suc zero))))) x = omega arith
-words-least (suc (suc (suc (suc (suc (suc k)))))) x = omega arith
+words-least (suc (suc (suc (suc (suc (suc zero)))))) x = omega arith
+words-least (suc (suc (suc (suc (suc (suc (suc zero))))))) x = omega arith
+words-least (suc (suc (suc (suc (suc (suc (suc (suc k)))))))) x = omega arith
 
 pub line-length : (n kind x : ℕ) → length (lineFrom n kind x) ≤ longest
 unfolding lineFrom text

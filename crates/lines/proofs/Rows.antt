@@ -5,7 +5,7 @@ use mathlib.Core.List.{List, [], _∷_, _++_, append-assoc, append-nil}
 use Prim.Native.Nat.{ℕ, zero, suc, _+_, _*_, _-_, _%_, _≤_, min}
 use native.Mathlib.Omega.{arith}
 use lib.Dec.{leb}
-use lib.ListN.{length, take, drop, getD, length-append}
+use lib.ListN.{length, take, drop, getD, length-append, length-take}
 use Rattle.model.specs.Log.{text, decimal}
 use Rattle.lists.specs.Over.{overAt}
 use Rattle.lines.specs.Words.{wordsFrom, lineFrom, rows, upToNumber, hasNumber, tailFrom}
@@ -13,34 +13,36 @@ use Rattle.lines.specs.Written.{Appended, Spills}
 use Rattle.lines.proofs.Longest.{words-length}
 use Rattle.lines.proofs.Spilling.{spills-none, spills-then}
 
--- row j is that of kind k: eight bytes, of which the last says how many are the text, and whether a number follows
+-- row j is that of kind k: its text and the rest of eight bytes, and in a byte how many are the text, and whether a number follows
 pub record Row (k j : ℕ) : Type 0 where
   pub rest : List ℕ
   pub few : length rest ≤ 8
   pub is : take 8 (drop (8 * j) rows) ≡ upToNumber k ++ rest
-  pub size : getD rows (8 * j + 7) 0 % 8 ≡ length (upToNumber k)
-  pub mark : leb 8 (getD rows (8 * j + 7) 0) ≡ hasNumber k
+  pub size : getD rows (72 + j) 0 % 16 ≡ length (upToNumber k)
+  pub mark : leb 16 (getD rows (72 + j) 0) ≡ hasNumber k
 
-pub row : (k : ℕ) → Row k (min k 6)
+pub row : (k : ℕ) → Row k (min k 8)
 unfolding rows upToNumber hasNumber text
-row zero = record { rest = 0 ∷ 0 ∷ 0 ∷ 4 ∷ []; few = omega arith; is = refl; size = refl; mark = refl }
-row (suc zero) = record { rest = 7 ∷ []; few = omega arith; is = refl; size = refl; mark = refl }
-row (suc (suc zero)) = record { rest = 15 ∷ []; few = omega arith; is = refl; size = refl; mark = refl }
-row (suc (suc (suc zero))) = record { rest = 0 ∷ 0 ∷ 0 ∷ 12 ∷ []; few = omega arith; is = refl; size = refl; mark = refl }
-row (suc (suc (suc (suc zero)))) = record { rest = 15 ∷ []; few = omega arith; is = refl; size = refl; mark = refl }
-row (suc (suc (suc (suc (suc zero))))) = record { rest = 0 ∷ 6 ∷ []; few = omega arith; is = refl; size = refl; mark = refl }
-row (suc (suc (suc (suc (suc (suc k)))))) =
-    let l = suc (suc (suc (suc (suc (suc k))))) in
-    let m : 6 ≡ min l 6 = omega arith in
-    subst (λ (j : ℕ). Row l j) m (record { rest = 0 ∷ 0 ∷ 0 ∷ 12 ∷ []; few = omega arith; is = refl; size = refl; mark = refl })
+row zero = record { rest = 0 ∷ 0 ∷ 0 ∷ 0 ∷ []; few = omega arith; is = refl; size = refl; mark = refl }
+row (suc zero) = record { rest = 0 ∷ []; few = omega arith; is = refl; size = refl; mark = refl }
+row (suc (suc zero)) = record { rest = 0 ∷ []; few = omega arith; is = refl; size = refl; mark = refl }
+row (suc (suc (suc zero))) = record { rest = 0 ∷ 0 ∷ 0 ∷ 0 ∷ []; few = omega arith; is = refl; size = refl; mark = refl }
+row (suc (suc (suc (suc zero)))) = record { rest = 0 ∷ []; few = omega arith; is = refl; size = refl; mark = refl }
+row (suc (suc (suc (suc (suc zero))))) = record { rest = 0 ∷ 0 ∷ []; few = omega arith; is = refl; size = refl; mark = refl }
+row (suc (suc (suc (suc (suc (suc zero)))))) = record { rest = 0 ∷ 0 ∷ 0 ∷ 0 ∷ []; few = omega arith; is = refl; size = refl; mark = refl }
+row (suc (suc (suc (suc (suc (suc (suc zero))))))) = record { rest = []; few = omega arith; is = refl; size = refl; mark = refl }
+row (suc (suc (suc (suc (suc (suc (suc (suc k)))))))) =
+    let l = suc (suc (suc (suc (suc (suc (suc (suc k))))))) in
+    let m : 8 ≡ min l 8 = omega arith in
+    subst (λ (j : ℕ). Row l j) m (record { rest = 0 ∷ 0 ∷ 0 ∷ 0 ∷ []; few = omega arith; is = refl; size = refl; mark = refl })
 
-module _ (t : List ℕ) (k j : ℕ) (is : t ≡ rows) (at : j ≡ min k 6) where
+module _ (t : List ℕ) (k j : ℕ) (is : t ≡ rows) (at : j ≡ min k 8) where
   here : Row k j
   here = subst (λ (n : ℕ). Row k n) (sym at) (row k)
 
   -- a row was written
   pub spills-row : {d e : List ℕ} {i n : ℕ} → Appended (take (8 * j + 8 - 8 * j) (drop (8 * j) t)) i d e n
-      → Spills (upToNumber k) i d e (i + getD t (8 * j + 7) 0 % 8)
+      → Spills (upToNumber k) i d e (i + getD t (72 + j) 0 % 16)
   spills-row {d} {e} {i} {n} w =
       let m : 8 * j + 8 - 8 * j ≡ 8 = omega arith in
       record {
@@ -48,14 +50,17 @@ module _ (t : List ℕ) (k j : ℕ) (is : t ≡ rows) (at : j ≡ min k 6) where
         few = here .few;
         memory = w .memory ∙ ap (λ (l : List ℕ). overAt i l d)
             (ap (λ (n : ℕ). take n (drop (8 * j) t)) m ∙ ap (λ (l : List ℕ). take 8 (drop (8 * j) l)) is ∙ here .is);
-        next = ap (λ (n : ℕ). i + n) (ap (λ (l : List ℕ). getD l (8 * j + 7) 0 % 8) is ∙ here .size);
+        next = ap (λ (n : ℕ). i + n) (ap (λ (l : List ℕ). getD l (72 + j) 0 % 16) is ∙ here .size);
       }
 
-  pub row-mark : leb 8 (getD t (8 * j + 7) 0) ≡ hasNumber k
-  row-mark = ap (λ (l : List ℕ). leb 8 (getD l (8 * j + 7) 0)) is ∙ here .mark
+  pub row-mark : leb 16 (getD t (72 + j) 0) ≡ hasNumber k
+  row-mark = ap (λ (l : List ℕ). leb 16 (getD l (72 + j) 0)) is ∙ here .mark
 
-pub after-row : (k : ℕ) {i j : ℕ} {d e : List ℕ} → Spills (upToNumber k) i d e j → j ≤ i + 7
-after-row k w = omega (arith, w .next, row k .size)
+pub after-row : (k : ℕ) {i j : ℕ} {d e : List ℕ} → Spills (upToNumber k) i d e j → j ≤ i + 8
+after-row k w =
+    let r = row k in
+    let n : length (take 8 (drop (8 * min k 8) rows)) ≡ length (upToNumber k ++ r .rest) = ap length (r .is) in
+    omega (arith, w .next, n, length-take 8 (drop (8 * min k 8) rows), length-append (upToNumber k) (r .rest))
 
 -- what follows a record's number, by whether a number follows
 pub with-number : (k x : ℕ) {d e f g : List ℕ} {i j n m : ℕ} → hasNumber k ≡ true → i ≤ length d → j ≤ length e → Spills (upToNumber k) i d e j
@@ -75,7 +80,9 @@ tail-parts (suc (suc zero)) x = refl
 tail-parts (suc (suc (suc zero))) x = refl
 tail-parts (suc (suc (suc (suc zero)))) x = refl
 tail-parts (suc (suc (suc (suc (suc zero))))) x = refl
-tail-parts (suc (suc (suc (suc (suc (suc k)))))) x = refl
+tail-parts (suc (suc (suc (suc (suc (suc zero)))))) x = refl
+tail-parts (suc (suc (suc (suc (suc (suc (suc zero))))))) x = refl
+tail-parts (suc (suc (suc (suc (suc (suc (suc (suc k)))))))) x = refl
 
 pub line-parts : (n k x : ℕ) → decimal n ++ tailFrom k x ≡ lineFrom n k x
 unfolding lineFrom
@@ -83,11 +90,11 @@ line-parts n k x =
     ap (λ (l : List ℕ). decimal n ++ l) (tail-parts k x) ∙ sym (append-assoc (decimal n) (text " " ++ wordsFrom k x) (text "\n"))
     ∙ ap (λ (l : List ℕ). l ++ text "\n") (sym (append-assoc (decimal n) (text " ") (wordsFrom k x)))
 
-pub tail-length : (k x : ℕ) → length (tailFrom k x) ≤ 28
+pub tail-length : (k x : ℕ) → length (tailFrom k x) ≤ 29
 unfolding text
 tail-length k x = rw (tail-parts k x) (simp length-append (omega (arith, words-length k x)))
 
-pub after-tail : (k x : ℕ) {i j : ℕ} {d e : List ℕ} → Spills (tailFrom k x) i d e j → j ≤ i + 28
+pub after-tail : (k x : ℕ) {i j : ℕ} {d e : List ℕ} → Spills (tailFrom k x) i d e j → j ≤ i + 29
 after-tail k x w = omega (arith, w .next, tail-length k x)
 
 pub append-line : (n k x : ℕ) {d e : List ℕ} {i j : ℕ} → Appended (decimal n ++ tailFrom k x) i d e j → Appended (lineFrom n k x) i d e j

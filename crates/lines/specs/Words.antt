@@ -16,7 +16,9 @@ wordsFrom (suc (suc zero)) x = text "freed " ++ decimal x
 wordsFrom (suc (suc (suc zero))) x = text "at " ++ decimal x
 wordsFrom (suc (suc (suc (suc zero)))) x = text "value " ++ decimal x
 wordsFrom (suc (suc (suc (suc (suc zero))))) x = text "done"
-wordsFrom (suc (suc (suc (suc (suc (suc k)))))) x = text "no " ++ decimal x
+wordsFrom (suc (suc (suc (suc (suc (suc zero)))))) x = text "no " ++ decimal x
+wordsFrom (suc (suc (suc (suc (suc (suc (suc zero))))))) x = text "value -" ++ decimal x
+wordsFrom (suc (suc (suc (suc (suc (suc (suc (suc k)))))))) x = text "no " ++ decimal x
 
 -- the line of record n with such an answer
 unfoldable pub lineFrom : ℕ → ℕ → ℕ → List ℕ
@@ -30,7 +32,9 @@ upToNumber (suc (suc zero)) = text " freed "
 upToNumber (suc (suc (suc zero))) = text " at "
 upToNumber (suc (suc (suc (suc zero)))) = text " value "
 upToNumber (suc (suc (suc (suc (suc zero))))) = text " done\n"
-upToNumber (suc (suc (suc (suc (suc (suc k)))))) = text " no "
+upToNumber (suc (suc (suc (suc (suc (suc zero)))))) = text " no "
+upToNumber (suc (suc (suc (suc (suc (suc (suc zero))))))) = text " value -"
+upToNumber (suc (suc (suc (suc (suc (suc (suc (suc k)))))))) = text " no "
 
 unfoldable pub hasNumber : ℕ → Bool
 hasNumber zero = false
@@ -39,23 +43,28 @@ hasNumber (suc (suc zero)) = true
 hasNumber (suc (suc (suc zero))) = true
 hasNumber (suc (suc (suc (suc zero)))) = true
 hasNumber (suc (suc (suc (suc (suc zero))))) = false
-hasNumber (suc (suc (suc (suc (suc (suc k)))))) = true
+hasNumber (suc (suc (suc (suc (suc (suc zero)))))) = true
+hasNumber (suc (suc (suc (suc (suc (suc (suc zero))))))) = true
+hasNumber (suc (suc (suc (suc (suc (suc (suc (suc k)))))))) = true
 
 -- the whole part of a line after the record's number
 unfoldable pub tailFrom : ℕ → ℕ → List ℕ
 tailFrom kind x = upToNumber kind ++ cond (hasNumber kind) (decimal x ++ text "\n") []
 
--- a row of eight bytes for each kind: the part of the line up to the number, and in the last byte its length, and 8 more where there is a
--- number
+-- a row of eight bytes for each kind, the last for every further one: the part of the line up to the number; then a byte for each, its length,
+-- and 16 more where there is a number
 unfoldable pub rows : List ℕ
 rows =
-    text " ok\n" ++ (0 ∷ 0 ∷ 0 ∷ 4 ∷ [])
-    ++ text " going\n" ++ (7 ∷ [])
-    ++ text " freed " ++ (15 ∷ [])
-    ++ text " at " ++ (0 ∷ 0 ∷ 0 ∷ 12 ∷ [])
-    ++ text " value " ++ (15 ∷ [])
-    ++ text " done\n" ++ (0 ∷ 6 ∷ [])
-    ++ text " no " ++ (0 ∷ 0 ∷ 0 ∷ 12 ∷ [])
+    text " ok\n" ++ (0 ∷ 0 ∷ 0 ∷ 0 ∷ [])
+    ++ text " going\n" ++ (0 ∷ [])
+    ++ text " freed " ++ (0 ∷ [])
+    ++ text " at " ++ (0 ∷ 0 ∷ 0 ∷ 0 ∷ [])
+    ++ text " value " ++ (0 ∷ [])
+    ++ text " done\n" ++ (0 ∷ 0 ∷ [])
+    ++ text " no " ++ (0 ∷ 0 ∷ 0 ∷ 0 ∷ [])
+    ++ text " value -"
+    ++ text " no " ++ (0 ∷ 0 ∷ 0 ∷ 0 ∷ [])
+    ++ (4 ∷ 7 ∷ 23 ∷ 20 ∷ 23 ∷ 6 ∷ 20 ∷ 24 ∷ 20 ∷ [])
 
 -- the words from an answer's own kind and number are the model's
 abbrev pub SameWords : Type 0

@@ -24,9 +24,9 @@ pub record Spills (p : List ℕ) (i : ℕ) (d e : List ℕ) (j : ℕ) : Type 0 w
   pub memory : e ≡ overAt i (p ++ spilled) d
   pub next : j ≡ i + length p
 
--- the length of the longest line: twenty digits, a space, `value ` with twenty digits, and the line's end
+-- the length of the longest line: twenty digits, a space, `value -` with twenty digits, and the line's end
 abbrev pub longest : ℕ
-longest = 48
+longest = 49
 
 -- the longest line fits from index `at` on
 unfoldable pub room : List ℕ → ℕ → Bool

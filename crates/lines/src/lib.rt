@@ -8,10 +8,10 @@ ghost use Rattle.lines.specs.Digits.{Spelled, tensOf, leadOf};
 ghost use Rattle.lines.specs.Words.{rows, upToNumber, hasNumber, tailFrom};
 ghost use Rattle.lines.specs.Written.{Appended, Spills, LineAppended, LinesWritten, Partly};
 
-// A row of eight bytes for each kind: a space and the words, up to their number or with the line's end, and in the last byte the length of
-// this text, and 8 more where a number follows.
-const ROWS: [u8; 56] =
-    *b" ok\n\0\0\0\x04 going\n\x07 freed \x0f at \0\0\0\x0c value \x0f done\n\0\x06 no \0\0\0\x0c";
+// A row of eight bytes for each kind, the last for every further one: a space and the words, up to their number or with the line's end. Then a
+// byte for each row: the length of this text, and 16 more where a number follows.
+const ROWS: [u8; 81] =
+    *b" ok\n\0\0\0\0 going\n\0 freed \0 at \0\0\0\0 value \0 done\n\0\0 no \0\0\0\0 value - no \0\0\0\0\x04\x07\x17\x14\x17\x06\x14\x18\x14";
 
 // Writes a text at index `at` of out; answers the index after it.
 fn put_text(out: &mut [u8], at: usize, t: &[u8]) -> usize
@@ -152,24 +152,24 @@ fn put_number(out: &mut [u8], at: usize, head: &[u8; 20], n: usize, last: u8) ->
 }
 
 // Writes the row of a kind at index `at` of out, in one move; answers the index after the text in it. The rest of the row spills.
-fn put_row(out: &mut [u8], at: usize, table: &[u8; 56], kind: u8) -> usize
+fn put_row(out: &mut [u8], at: usize, table: &[u8; 81], kind: u8) -> usize
     requires { ⌜ (now table ≡ rows) × (at + 8 ≤ length (now out)) ⌝ }
     ensures { λ r. ⌜ Spills (upToNumber kind) at (now (out .entry)) (now (out .exit)) r ⌝ }
 {
     let all = &table[..];
-    let i = 8 * least(kind as usize, 6);
+    let k = least(kind as usize, 8);
+    let i = 8 * k;
     let e = i + 8;
     put_text(out, at, &all[i..e]);
-    at + (table[i + 7] % 8) as usize
+    at + (table[72 + k] % 16) as usize
 }
 
 // Whether a number follows in the line of an answer of this kind.
-fn numbered(table: &[u8; 56], kind: u8) -> bool
+fn numbered(table: &[u8; 81], kind: u8) -> bool
     requires { ⌜ now table ≡ rows ⌝ }
     ensures { λ r. ⌜ r ≡ hasNumber kind ⌝ }
 {
-    let i = 8 * least(kind as usize, 6);
-    table[i + 7] >= 8
+    table[72 + least(kind as usize, 8)] >= 16
 }
 
 // Writes the digit of x at a unit at index `at` of out; answers the index after it. Where it is a zero before x's digits it spills, and the
@@ -215,8 +215,8 @@ fn spill_decimal(out: &mut [u8], at: usize, x: u64) -> usize
 }
 
 // Writes what follows a record's number in its line at index `at` of out; answers the index after it. A few bytes spill.
-fn spill_tail(out: &mut [u8], at: usize, table: &[u8; 56], kind: u8, number: u64) -> usize
-    requires { ⌜ (now table ≡ rows) × (at + 28 ≤ length (now out)) ⌝ }
+fn spill_tail(out: &mut [u8], at: usize, table: &[u8; 81], kind: u8, number: u64) -> usize
+    requires { ⌜ (now table ≡ rows) × (at + 29 ≤ length (now out)) ⌝ }
     ensures { λ r. ⌜ Spills (tailFrom kind number) at (now (out .entry)) (now (out .exit)) r ⌝ }
 {
     let next = put_row(out, at, table, kind);
@@ -232,14 +232,14 @@ fn spill_tail(out: &mut [u8], at: usize, table: &[u8; 56], kind: u8, number: u64
 fn spill_line(
     out: &mut [u8],
     at: usize,
-    table: &[u8; 56],
+    table: &[u8; 81],
     head: &[u8; 20],
     n: usize,
     last: u8,
     kind: u8,
     number: u64,
 ) -> usize
-    requires { ⌜ (now table ≡ rows) × (n ≤ 8) × (at + 48 ≤ length (now out)) ⌝ }
+    requires { ⌜ (now table ≡ rows) × (n ≤ 8) × (at + 49 ≤ length (now out)) ⌝ }
     ensures { λ r. ⌜ Spills (take n (now (head .entry)) ++ (last ∷ []) ++ tailFrom kind number) at (now (out .entry)) (now (out .exit)) r ⌝ }
 {
     let space = put_number(out, at, head, n, last);
@@ -248,18 +248,18 @@ fn spill_line(
 
 // Writes what follows a record's number in its line at index `at` of out, and nothing after it; answers the index after it.
 fn put_tail(out: &mut [u8], at: usize, kind: u8, number: u64) -> usize
-    requires { ⌜ at + 28 ≤ length (now out) ⌝ }
+    requires { ⌜ at + 29 ≤ length (now out) ⌝ }
     ensures { λ r. ⌜ Appended (tailFrom kind number) at (now (out .entry)) (now (out .exit)) r ⌝ }
 {
     let table = ROWS;
-    let mut tail = [0u8; 28];
+    let mut tail = [0u8; 29];
     let n = spill_tail(&mut tail, 0, &table, kind, number);
     let all = &tail[..];
     put_text(out, at, &all[0..n])
 }
 
 // Writes the line of the record whose number the places spell, with its answer's kind and number, at index `at` of out; answers the index
-// after it. Where fewer than 48 bytes, the longest line, are left from `at` on, writes nothing and answers `at`.
+// after it. Where fewer than 49 bytes, the longest line, are left from `at` on, writes nothing and answers `at`.
 fn write_line(
     out: &mut [u8],
     at: usize,
@@ -274,7 +274,7 @@ fn write_line(
     if out.len() < at {
         return at;
     }
-    if out.len() - at < 48 {
+    if out.len() - at < 49 {
         return at;
     }
     let space = put_digits(out, at, places, start);
@@ -313,7 +313,7 @@ fn begin_lines(out: &mut [u8], first: u64, kinds: &[u8], numbers: &[u64], most: 
     ensures { λ r. ⌜ Partly (now (out .entry)) first (now (kinds .entry)) (now (numbers .entry)) most (now (out .exit)) (r .at) (r .done) ⌝ }
     ensures { λ r. ⌜ first + r .done < 18446744073709551616 ⌝ }
 {
-    if ((most < 3) | (4294967295 < most)) | ((out.len() < 144) | (4294967295 < first)) {
+    if ((most < 3) | (4294967295 < most)) | ((out.len() < 147) | (4294967295 < first)) {
         return Part { done: 0, at: 0 };
     }
     let table = ROWS;
@@ -323,7 +323,7 @@ fn begin_lines(out: &mut [u8], first: u64, kinds: &[u8], numbers: &[u64], most: 
     let mut n = put_tens(&mut head, &places, start, first);
     let mut last = 48 + (first % 10) as u8;
     let stop = most - 2;
-    let limit = out.len() - 144;
+    let limit = out.len() - 147;
     let mut at = 0;
     let mut k = 0;
     while ((k < stop) & (at <= limit)) & (n <= 8) {

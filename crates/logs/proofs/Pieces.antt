@@ -50,6 +50,6 @@ together (r ∷ rs) kept =
     ∙ append-assoc kept r (flatten rs)
 
 pub any-reads : AnyReads
-any-reads m ps rs e parted H =
-    whole-file m ps e (subst CutBetweenRecords (sym parted) (between rs [])) H
-    ∙ ap (logOf inForce (map slotOf (m .slots))) (ap flatten parted ∙ together rs [])
+any-reads m list ps rs e parted H =
+    whole-file m list ps e (subst CutBetweenRecords (sym parted) (between rs [])) H
+    ∙ ap (logOf (inForce list) (map slotOf (m .slots))) (ap flatten parted ∙ together rs [])

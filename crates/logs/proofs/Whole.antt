@@ -43,32 +43,32 @@ unfolding firstOf upFrom
 first-up f zero = refl
 first-up f (suc k) = ap (λ (l : List _). l ++ (f k ∷ [])) (first-up f k) ∙ sym (map-last f k)
 
-module _ (h : Hub) (m : Memory) (bytes : List ℕ) (first : ℕ) (printed : List ℕ) (n : ℕ) (m′ : Memory) (H : Holds h m)
-    (C : Call m bytes first printed n m′) where
+module _ (h : Hub) (m : Memory) (list bytes : List ℕ) (first : ℕ) (printed : List ℕ) (n : ℕ) (m′ : Memory) (H : Holds h m)
+    (C : Call m list bytes first printed n m′) where
   -- every record has room
   all-bytes : inRoom bytes (C .text) ≡ bytes
-  all-bytes = take-all (16 * (length (C .text) / 48)) bytes (omega (arith, C .room .forText))
+  all-bytes = take-all (16 * (length (C .text) / 49)) bytes (omega (arith, C .room .forText))
 
   all-records : n ≡ recordsIn bytes
   all-records = omega (arith, C .logs .applied .count, ap length all-bytes, C .room .forKinds, C .room .forNumbers)
 
-  applies : Applies m bytes (C .kinds) (C .numbers) n m′ (C .kinds′) (C .numbers′)
-  applies = subst (λ (l : List ℕ). Applies m l (C .kinds) (C .numbers) n m′ (C .kinds′) (C .numbers′)) all-bytes (C .logs .applied)
+  applies : Applies m list bytes (C .kinds) (C .numbers) n m′ (C .kinds′) (C .numbers′)
+  applies = subst (λ (l : List ℕ). Applies m list l (C .kinds) (C .numbers) n m′ (C .kinds′) (C .numbers′)) all-bytes (C .logs .applied)
 
   -- what was sent and answered, as the model has it
   abbrev answerOn : ℕ → Answer
   answerOn = answerAt (C .kinds′) (C .numbers′)
 
   abbrev es : List Exchange
-  es = map (exchangeAt bytes (C .kinds′) (C .numbers′)) (upFrom 0 n)
+  es = map (exchangeAt list bytes (C .kinds′) (C .numbers′)) (upFrom 0 n)
 
   asModel : AsModel h m es m′
   asModel = applies .asModel h H
 
-  sent-is : sent es ≡ allUnder inForce (recordsOf bytes)
-  sent-is = ap (allUnder inForce) (call-records (ForBuffer bytes (C .kinds) (C .numbers) n (C .kinds′) (C .numbers′) m′) all-records)
+  sent-is : sent es ≡ allUnder (inForce list) (recordsOf bytes)
+  sent-is = call-records (ForBuffer list bytes (C .kinds) (C .numbers) n (C .kinds′) (C .numbers′) m′) all-records
 
-  answered : map (λ (e : Exchange). e .answer) es ≡ answersTo h (allUnder inForce (recordsOf bytes))
+  answered : map (λ (e : Exchange). e .answer) es ≡ answersTo h (allUnder (inForce list) (recordsOf bytes))
   answered =
       ap (map (λ (e : Exchange). e .answer)) (asModel .answers)
       ∙ sym (map-map (λ (e : Exchange). e .answer) exchange (events h (sent es)))
@@ -94,14 +94,14 @@ module _ (h : Hub) (m : Memory) (bytes : List ℕ) (first : ℕ) (printed : List
       ∙ ap (lines first)
       (ap (map answerOf) (first-up answerOn n)
       ∙ sym (map-map answerOf answerOn (upFrom 0 n))
-      ∙ map-map (λ (e : Exchange). e .answer) (exchangeAt bytes (C .kinds′) (C .numbers′)) (upFrom 0 n))
+      ∙ map-map (λ (e : Exchange). e .answer) (exchangeAt list bytes (C .kinds′) (C .numbers′)) (upFrom 0 n))
 
   printed-is : printed ≡ linesFrom first (C .kinds′) (C .numbers′) n
   printed-is =
       let l : List ℕ = linesFrom first (C .kinds′) (C .numbers′) n in
       C .prints ∙ ap (take (C .used)) (C .logs .written) ∙ take-over l (C .text) (C .used) (sym (C .logs .bytesUsed))
 
-  part-logged : LoggedAs h m bytes first printed n m′
+  part-logged : LoggedAs h m list bytes first printed n m′
   part-logged =
       record {
         count = all-records;
@@ -137,20 +137,20 @@ unfolding CutBetweenRecords flatten recordsOf cut
 records-parts p [] c = ap recordsOf (append-nil p) ∙ sym (append-nil (recordsOf p))
 records-parts p (q ∷ ps) c = in-parts p (flatten (q ∷ ps)) (inl (c .0))
 
-parts : (ps : List Part) (h : Hub) (m : Memory) (first : ℕ) → Holds h m → CutBetweenRecords (parted ps) → HandedIn m first ps
-    → printedOf ps ≡ lines first (answersTo h (allUnder inForce (recordsOf (bytesOf ps))))
+parts : (list : List ℕ) (ps : List Part) (h : Hub) (m : Memory) (first : ℕ) → Holds h m → CutBetweenRecords (parted ps) → HandedIn list m first ps
+    → printedOf ps ≡ lines first (answersTo h (allUnder (inForce list) (recordsOf (bytesOf ps))))
 unfolding HandedIn flatten recordsOf cut answersTo lines
-parts [] h m first L c H = refl
-parts (p ∷ ps) h m first L c H =
-    let a : List Ruled = allUnder inForce (recordsOf (p .bytes)) in
-    let b : List Ruled = allUnder inForce (recordsOf (bytesOf ps)) in
-    let o = one-part h m (p .bytes) first (p .printed) (p .count) (p .after) L (H .0) in
-    let rest = parts ps (hubAfter h a) (p .after) (first + p .count) (o .holds) (cut-rest (p .bytes) (parted ps) c) (H .1) in
+parts list [] h m first L c H = refl
+parts list (p ∷ ps) h m first L c H =
+    let a : List Ruled = allUnder (inForce list) (recordsOf (p .bytes)) in
+    let b : List Ruled = allUnder (inForce list) (recordsOf (bytesOf ps)) in
+    let o = one-part h m list (p .bytes) first (p .printed) (p .count) (p .after) L (H .0) in
+    let rest = parts list ps (hubAfter h a) (p .after) (first + p .count) (o .holds) (cut-rest (p .bytes) (parted ps) c) (H .1) in
     let count : length (answersTo h a) ≡ p .count =
-    answers-length h a ∙ length-map (recordsOf (p .bytes)) (under inForce) ∙ sym (ap length (whole (p .bytes)))
+    answers-length h a ∙ length-map (recordsOf (p .bytes)) (under (inForce list)) ∙ sym (ap length (whole (p .bytes)))
     ∙ map-long (recordAt (p .bytes)) (recordsIn (p .bytes)) ∙ sym (o .count) in
-    let all : allUnder inForce (recordsOf (bytesOf (p ∷ ps))) ≡ a ++ b =
-    ap (allUnder inForce) (records-parts (p .bytes) (parted ps) c) ∙ under-append inForce (recordsOf (p .bytes)) (recordsOf (bytesOf ps)) in
+    let all : allUnder (inForce list) (recordsOf (bytesOf (p ∷ ps))) ≡ a ++ b =
+    ap (allUnder (inForce list)) (records-parts (p .bytes) (parted ps) c) ∙ under-append (inForce list) (recordsOf (p .bytes)) (recordsOf (bytesOf ps)) in
     (λ i. o .text i ++ rest i)
     ∙ ap (λ (n : ℕ). lines first (answersTo h a) ++ lines (first + n) (answersTo (hubAfter h a) b)) (sym count)
     ∙ sym (lines-append first (answersTo h a) (answersTo (hubAfter h a) b))
@@ -159,4 +159,4 @@ parts (p ∷ ps) h m first L c H =
 
 pub whole-file : WholeFile
 unfolding logOf
-whole-file m ps e c H = parts ps (blank (map slotOf (m .slots))) m 0 (e, refl) c H
+whole-file m list ps e c H = parts list ps (blank (map slotOf (m .slots))) m 0 (e, refl) c H

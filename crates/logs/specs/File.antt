@@ -9,7 +9,7 @@ use Rattle.model.specs.Rules.{inForce}
 use Rattle.model.specs.Log.{logOf}
 use Rattle.slots.specs.Slots.{slotOf}
 use Rattle.slots.specs.declared.Slot.{Slot}
-use Rattle.state.specs.State.{freshHub}
+use Rattle.state.specs.State.{emptyHub}
 use Rattle.simulation.specs.Memory.{Memory, memory}
 use Rattle.simulation.specs.Left.{ready}
 use Rattle.logs.specs.OnePart.{Call}
@@ -22,11 +22,11 @@ pub record Part : Type 0 where
   pub count : ℕ
   pub after : Memory
 
--- the parts of a file handed in one after the other, from the memory m and the number n on: each meets the memory as the last one left it, and
--- has the number of its first record. A call takes a number of 64 bits, so fewer than 2^64 records come before the last part.
-unfoldable pub HandedIn : Memory → ℕ → List Part → Type 0
-HandedIn m n [] = Unit {0}
-HandedIn m n (p ∷ ps) = Call m (p .bytes) n (p .printed) (p .count) (p .after) × HandedIn (p .after) (n + p .count) ps
+-- the parts of a file handed in one after the other, all with the same list, from the memory m and the number n on: each meets the memory as
+-- the last one left it, and has the number of its first record. A call takes a number of 64 bits, so fewer than 2^64 records come before the last part.
+unfoldable pub HandedIn : List ℕ → Memory → ℕ → List Part → Type 0
+HandedIn list m n [] = Unit {0}
+HandedIn list m n (p ∷ ps) = Call m list (p .bytes) n (p .printed) (p .count) (p .after) × HandedIn list (p .after) (n + p .count) ps
 
 -- a list of parts is cut between records: every part but the last is a multiple of sixteen bytes
 unfoldable pub CutBetweenRecords : List (List ℕ) → Type 0
@@ -34,15 +34,15 @@ CutBetweenRecords [] = Unit {0}
 CutBetweenRecords (p ∷ []) = Unit {0}
 CutBetweenRecords (p ∷ q ∷ ps) = (length p % 16 ≡ 0) × CutBetweenRecords (q ∷ ps)
 
--- Any file, cut anywhere between records and handed in part by part from memory that does not count as set up: what was printed is, put together,
+-- Any file, cut anywhere between records and handed in part by part with any list, from memory that does not count as set up: what was printed is, put together,
 -- the model's log of the file.
 abbrev pub WholeFile : Type 0
 WholeFile =
-    (m : Memory) (ps : List Part)
+    (m : Memory) (list : List ℕ) (ps : List Part)
     → ready m ≡ false
     → CutBetweenRecords (map (λ p. p .bytes) ps)
-    → HandedIn m 0 ps
-    → flatten (map (λ p. p .printed) ps) ≡ logOf inForce (map slotOf (m .slots)) (flatten (map (λ p. p .bytes) ps))
+    → HandedIn list m 0 ps
+    → flatten (map (λ p. p .printed) ps) ≡ logOf (inForce list) (map slotOf (m .slots)) (flatten (map (λ p. p .bytes) ps))
 
 ------------------------------------------------------------------------
 -- How `hublog` meets this
@@ -51,7 +51,7 @@ WholeFile =
 abbrev pub StartsBlank : Type 0
 StartsBlank =
     (slots : List Slot) (newest free queue lens merged : List ℕ)
-    → ready (memory (freshHub 0 0 0 0) slots newest free queue lens merged) ≡ false
+    → ready (memory emptyHub slots newest free queue lens merged) ≡ false
 
 -- the last part: what is kept at the end of the input, if there is any
 abbrev pub lastPart : List ℕ → List (List ℕ)
@@ -69,8 +69,8 @@ partsOf kept (r ∷ rs) =
 -- Whatever the reads bring, what was printed for these parts is, put together, the model's log of what was read.
 abbrev pub AnyReads : Type 0
 AnyReads =
-    (m : Memory) (ps : List Part) (rs : List (List ℕ))
+    (m : Memory) (list : List ℕ) (ps : List Part) (rs : List (List ℕ))
     → ready m ≡ false
     → map (λ p. p .bytes) ps ≡ partsOf [] rs
-    → HandedIn m 0 ps
-    → flatten (map (λ p. p .printed) ps) ≡ logOf inForce (map slotOf (m .slots)) (flatten rs)
+    → HandedIn list m 0 ps
+    → flatten (map (λ p. p .printed) ps) ≡ logOf (inForce list) (map slotOf (m .slots)) (flatten rs)

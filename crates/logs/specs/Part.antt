@@ -12,16 +12,16 @@ use Rattle.lines.specs.Written.{longest, linesFrom}
 abbrev pub wholeRecords : ℕ → ℕ
 wholeRecords n = 16 * (n / 16)
 
--- the bytes of the records for whose lines there is room in the text, sixteen bytes a record (H3.1) and 48 a line
+-- the bytes of the records for whose lines there is room in the text, sixteen bytes a record (H3.1) and 49 a line
 abbrev pub inRoom : List ℕ → List ℕ → List ℕ
 inRoom bytes text = take (16 * (length text / longest)) bytes
 
--- A part of the input met the memory m; its first record has the number `first`. The memory m′ was left, n records were applied, and `used`
+-- A part of the input met the memory m, with the list lent; its first record has the number `first`. The memory m′ was left, n records were applied, and `used`
 -- bytes of text were written.
-pub record Logs (m : Memory) (bytes : List ℕ) (first : ℕ) (text kinds numbers : List ℕ) (n used : ℕ) (m′ : Memory) (text′ kinds′ numbers′ : List ℕ)
-    : Type 0 where
+pub record Logs (m : Memory) (list bytes : List ℕ) (first : ℕ) (text kinds numbers : List ℕ) (n used : ℕ) (m′ : Memory)
+    (text′ kinds′ numbers′ : List ℕ) : Type 0 where
   -- As many records were applied as there is room for, and their answers written over the two rows.
-  pub applied : Applies m (inRoom bytes text) kinds numbers n m′ kinds′ numbers′
+  pub applied : Applies m list (inRoom bytes text) kinds numbers n m′ kinds′ numbers′
   -- The text begins with the lines of these answers, and its other bytes keep their contents.
   pub written : text′ ≡ over (linesFrom first kinds′ numbers′ n) text
   pub bytesUsed : used ≡ length (linesFrom first kinds′ numbers′ n)

@@ -36,9 +36,9 @@ pub fn keep_rest(buf: &mut [u8], from: usize, n: usize) -> usize
 
 // How many of so many bytes belong to records for whose lines there is room in `room` bytes of text.
 fn fitting(bytes: usize, room: usize) -> usize
-    ensures { λ r. ⌜ r ≡ min bytes (16 * (room / 48)) ⌝ }
+    ensures { λ r. ⌜ r ≡ min bytes (16 * (room / 49)) ⌝ }
 {
-    let most = 16 * (room / 48);
+    let most = 16 * (room / 49);
     if bytes < most {
         return bytes;
     }
@@ -54,10 +54,11 @@ pub struct Logged {
 
 // Applies the records of a part of the input, the first of which has the number `first`, and writes their lines from the start of the text. The
 // slots are a lent row of words.
-// No line is lost: as many records are applied as there is room for, with 48 bytes of text, a kind and a number for each.
+// No line is lost: as many records are applied as there is room for, with 49 bytes of text, a kind and a number for each.
 pub fn log_part(
     row: &mut [[u64; 5]],
     hub: Hub,
+    list: &[u8],
     bytes: &[u8],
     first: u64,
     text: &mut [u8],
@@ -80,7 +81,7 @@ pub fn log_part(
           lens = now (lens .entry);
           merged = now (merged .entry);
         })
-        (now (bytes .entry)) first (now (text .entry)) (now (kinds .entry)) (now (numbers .entry)) (r .count) (r .used)
+        (now (list .entry)) (now (bytes .entry)) first (now (text .entry)) (now (kinds .entry)) (now (numbers .entry)) (r .count) (r .used)
         (record {
           hub = r .hub;
           slots = rowOf (now (row .exit));
@@ -98,6 +99,7 @@ pub fn log_part(
     let done = hub::apply_words(
         row,
         hub,
+        list,
         &bytes[0..n],
         kinds,
         numbers,

@@ -65,7 +65,7 @@ fn main() {
     let mut queue = [0u32; 12288];
     let mut lens = [0u32; 4096];
     let mut merged = [0u32; 12288];
-    let hub = Hub::fresh(0, 0, 0, 0);
+    let hub = Hub::fresh(0, 0, 0, 0, 0, [0u32; 1024]);
     let mut kind_space = [0u8; 22];
     let kinds: &mut [u8] = &mut kind_space;
     let mut number_space = [0u64; 22];
@@ -73,6 +73,7 @@ fn main() {
     let done = hub::apply_owned(
         slots,
         hub,
+        &[],
         bytes,
         kinds,
         numbers,
@@ -83,8 +84,8 @@ fn main() {
         &mut merged,
     );
 
-    // 22 lines of at most 48 bytes.
-    let mut text_space = [0u8; 1056];
+    // 22 lines of at most 49 bytes.
+    let mut text_space = [0u8; 1078];
     let text: &mut [u8] = &mut text_space;
     let used = lines::write_lines(text, 0, kinds, numbers, done.count);
     let log = &text[..];

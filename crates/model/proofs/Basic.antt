@@ -123,6 +123,10 @@ All-get P (d ∷ l) t c h = go (eq-cases d c) (λ z. All-get P l (t .1) c z)
     go (inl e) f = subst P (e .0) (t .0)
     go (inr e) f = f (omega (arith, hit-other d c (e .0)))
 
+pub All-from : {A : Type 0} (P : A → Type 0) (d : A) (l : List A) → ((i : ℕ) → i < length l → P (getD l i d)) → All P l
+All-from P d [] f = tt
+All-from P d (x ∷ l) f = (f 0 (omega arith), All-from P d l (λ i b. f (suc i) (omega (arith, b))))
+
 pub map-app {ℓ ℓ′} : {A : Type ℓ} {B : Type ℓ′} (f : A → B) (a b : List A) → map f (a ++ b) ≡ map f a ++ map f b
 map-app f [] b = refl
 map-app f (x ∷ a) b = ap (λ l. f x ∷ l) (map-app f a b)

@@ -13,10 +13,11 @@ use Rattle.model.specs.Answer.{Stepped}
 use Rattle.model.specs.Versions.{stamp}
 use Rattle.model.specs.Ranges.{needed, filter, mergeInto, merge, firstTwo, neededPools, joining, queuedPool}
 use Rattle.model.specs.Steps.{putPublish, putStamp, putHandIn, flushTake, readTimes, flushSplit, flushRead, moveOff, workerOff, flushFree, openAnnounce, openPass, readEnter, readStand, getShow, closeWithdraw, timeStep, stepAt}
-use Rattle.model.specs.Record.{Operation, Put, Open, Read, Close, Get, Collect}
+use Rattle.model.specs.Record.{Operation, Put, Open, Read, Close, Get, Collect, Total}
 use Rattle.model.specs.Apply.{terms}
 use Rattle.model.specs.Demand.{All}
 use Rattle.model.proofs.View.{off-keeps}
+use Rattle.model.proofs.Found.{found-by}
 use Rattle.model.proofs.Basic.{cond-both, All-append, All-nth, All-set, All-drop, All-through}
 
 ------------------------------------------------------------------------
@@ -123,6 +124,10 @@ module _ (s : Store) (pos : 0 < s .site .B) (W : Within (s .site .B) s) (w : ℕ
   to : (y : Worker) → FitW b y → All (FitW b) (set (s .workers) w y)
   to y a = All-set (FitW b) (s .workers) w y a (W .workers)
 
+  -- at another place, with the same pool
+  at : (d : Doing) → Fit b n d → Within b (place s w d)
+  at d f = record { workers = to (withDoing (workerAt s w) d) f; pools = W .pools }
+
   put-within : (r : ℕ) (y : Reading) → workerAt s w .doing ≡ PutPublish r y → (l : List ℕ) → Within b (putPublish s w r y l .store)
   unfolding putPublish stamp
   put-within r y e [] = record { workers = to (withDoing (workerAt s w) Idle) (own (PutPublish r y) e); pools = W .pools }
@@ -201,7 +206,8 @@ module _ (s : Store) (pos : 0 < s .site .B) (W : Within (s .site .B) s) (w : ℕ
   step-within (ReadEnter g) e = record { workers = to (withDoing (workerAt s w) (ReadStand g _)) (own (ReadEnter g) e); pools = W .pools }
   step-within (ReadStand g c) e =
       cond-both (λ (q : Stepped). Within b (q .store)) (leb (slotAt s c .low) (workerAt s w .announced)) _ _
-      (λ u. record { workers = to (withDoing (workerAt s w) Idle) (own (ReadStand g c) e); pools = W .pools })
+      (λ u. found-by (λ (q : Stepped). Within b (q .store)) s w (g .purpose) (slotAt s c .value)
+      (λ a T. at Idle (own (ReadStand g c) e)) (at Idle (own (ReadStand g c) e)) (λ g′. at (ReadEnter g′) (own (ReadStand g c) e)))
       (λ u. record { workers = to (withDoing (workerAt s w) (ReadStand g (slotAt s c .older))) (own (ReadStand g c) e); pools = W .pools })
   step-within (OnTime CloseWithdraw) e =
       record {
@@ -211,10 +217,11 @@ module _ (s : Store) (pos : 0 < s .site .B) (W : Within (s .site .B) s) (w : ℕ
       }
   step-within (GetShow r) e = record { workers = to (withDoing (workerAt s w) Idle) (own (GetShow r) e); pools = W .pools }
 
-  pub begin-within : (c : Operation) → workerAt s w .doing ≡ Idle → Within b (place s w (terms c .first))
+  pub begin-within : (c : Operation) → workerAt s w .doing ≡ Idle → Within b (place s w (terms (s .site .rows) c .first))
   begin-within (Put r y) e = record { workers = to (withDoing (workerAt s w) (PutPublish r y)) (own Idle e); pools = W .pools }
   begin-within Open e = record { workers = to (withDoing (workerAt s w) (OnTime OpenAnnounce)) (own Idle e); pools = W .pools }
   begin-within (Read r) e = record { workers = to (withDoing (workerAt s w) (ReadEnter _)) (own Idle e); pools = W .pools }
   begin-within Close e = record { workers = to (withDoing (workerAt s w) (OnTime CloseWithdraw)) (own Idle e); pools = W .pools }
   begin-within (Get r) e = record { workers = to (withDoing (workerAt s w) (GetShow r)) (own Idle e); pools = W .pools }
   begin-within Collect e = record { workers = to (withDoing (workerAt s w) FlushTake) (omega (arith, own Idle e)); pools = W .pools }
+  begin-within (Total g) e = record { workers = to (withDoing (workerAt s w) (ReadEnter _)) (own Idle e); pools = W .pools }

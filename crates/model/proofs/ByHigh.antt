@@ -21,8 +21,9 @@ use Rattle.model.specs.Record.{Operation}
 use Rattle.model.specs.Apply.{terms}
 use Rattle.model.specs.Demand.{Call, Plain, All}
 use Rattle.model.specs.Figure.{ByHigh, HandByHigh, WorkerByHigh, StoreByHigh}
+use Rattle.model.proofs.Found.{found-by}
 use Rattle.model.proofs.Basic.{cond-both, eq-cases, lt-cases, All-map, All-append, All-nth, All-set, All-take, All-drop, All-through}
-use Rattle.model.proofs.View.{off-keeps, first-about}
+use Rattle.model.proofs.View.{off-keeps, first-hand}
 use Rattle.model.proofs.Slots.{nth, change-part, unlink-part}
 use Rattle.model.proofs.Count.{All-merge, All-keep, firstTwo-has, pools-have, joining-has, queued-has}
 use Rattle.model.proofs.Invariant.{Inv}
@@ -273,13 +274,15 @@ module _ (now : ℕ) (s : Store) (olds : List (List ℕ)) (h : List Call) (o : L
   step-byHigh (ReadEnter g) e = stamped (g .register) (ReadStand g (newestOf s (g .register))) tt
   step-byHigh (ReadStand g c) e =
       cond-both (λ (q : Stepped). StoreByHigh (q .store)) (leb (slotAt s c .low) (workerAt s w .announced)) _ _
-      (λ u. placed Idle tt)
+      (λ u. found-by (λ (q : Stepped). StoreByHigh (q .store)) s w (g .purpose) (slotAt s c .value)
+      (λ a T. placed Idle tt) (placed Idle tt) (λ g′. placed (ReadEnter g′) tt))
       (λ u. placed (ReadStand g (slotAt s c .older)) tt)
   step-byHigh (OnTime CloseWithdraw) e = record { queued = S .queued; workers = to _ (record { local = own .local; hand = tt }) }
   step-byHigh (GetShow r) e = stamped r Idle tt
 
-  pub begin-byHigh : (c : Operation) → StoreByHigh (place s w (terms c .first))
-  begin-byHigh c = placed (terms c .first) (subst (λ y. HandByHigh (s .slots) (workerAt s w .pool) (y .hand)) (sym (first-about c)) tt)
+  pub begin-byHigh : (c : Operation) → StoreByHigh (place s w (terms (s .site .rows) c .first))
+  begin-byHigh c =
+      placed (terms (s .site .rows) c .first) (subst (HandByHigh (s .slots) (workerAt s w .pool)) (sym (first-hand (s .site .rows) c)) tt)
 
 ------------------------------------------------------------------------
 -- At setup

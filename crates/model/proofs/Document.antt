@@ -2,6 +2,7 @@
 -- that they differ in refusal 16 alone is seen where the tests of a begin are: the rules in force have one test more.
 use mathlib.Core.Bool.{Bool, true, false, cond, _&&_}
 use mathlib.Core.Path.{_≡_, refl, sym, subst}
+use mathlib.Core.List.{List}
 use mathlib.Core.Logic.{_⊎_, inl, inr, ⊎-elim}
 use Prim.Native.Nat.{ℕ, zero, suc, _≤_}
 use native.Mathlib.Omega.{arith}
@@ -12,7 +13,7 @@ use Rattle.model.specs.Batch.{leastFrom, logUp, batchOf}
 use Rattle.model.specs.Rules.{Rules, document01, inForce, Allowed, under, allUnder}
 use Rattle.model.specs.Answer.{Applied}
 use Rattle.model.specs.Record.{SetUp, Begin, Step, Decoded, Asks, Refuses, decode}
-use Rattle.model.specs.Apply.{refuse, setUp, terms, registerBelow, valueWithin, begin, obey, applyDecoded, apply}
+use Rattle.model.specs.Apply.{refuse, setUp, terms, registerBelow, groupThere, valueWithin, begin, obey, applyDecoded, apply}
 use Rattle.model.specs.Document.{Theorems, Document}
 use Rattle.model.proofs.Basic.{eq-cases, and-both}
 use Rattle.model.proofs.Main.{demand}
@@ -56,30 +57,35 @@ theorems rules e =
     }
 
 -- two lists of tests that differ in one
-one-test : (a b c : Bool) (x₀ x₁ x₂ y : Applied)
-    → (cond a (cond b (cond c y x₂) x₁) x₀ ≡ x₂) ⊎ (cond a (cond b (cond c y x₂) x₁) x₀ ≡ cond a (cond b y x₁) x₀)
-one-test true true true x₀ x₁ x₂ y = inr refl
-one-test true true false x₀ x₁ x₂ y = inl refl
-one-test true false c x₀ x₁ x₂ y = inr refl
-one-test false b c x₀ x₁ x₂ y = inr refl
+one-test : (a b c d : Bool) (x₀ x₁ x₂ x₃ y : Applied)
+    → (cond a (cond b (cond c (cond d y x₃) x₂) x₁) x₀ ≡ x₃)
+    ⊎ (cond a (cond b (cond c (cond d y x₃) x₂) x₁) x₀ ≡ cond a (cond b (cond c y x₂) x₁) x₀)
+one-test true true true true x₀ x₁ x₂ x₃ y = inr refl
+one-test true true true false x₀ x₁ x₂ x₃ y = inl refl
+one-test true true false d x₀ x₁ x₂ x₃ y = inr refl
+one-test true false c d x₀ x₁ x₂ x₃ y = inr refl
+one-test false b c d x₀ x₁ x₂ x₃ y = inr refl
 
-only-16 : (h : Hub) (d : Decoded) → (applyDecoded inForce h d ≡ refuse h 16) ⊎ (applyDecoded inForce h d ≡ applyDecoded document01 h d)
+only-16 : (l : List ℕ) (h : Hub) (d : Decoded)
+    → (applyDecoded (inForce l) h d ≡ refuse h 16) ⊎ (applyDecoded (inForce l) h d ≡ applyDecoded (document01 l) h d)
 unfolding applyDecoded obey setUp begin
-only-16 (blank row) (Asks (SetUp z)) = inr refl
-only-16 (up s) (Asks (SetUp z)) = inr refl
-only-16 (blank row) (Asks (Begin w o)) = inr refl
-only-16 (up s) (Asks (Begin w o)) =
-    one-test (ltb w (s .site .P)) (registerBelow (s .site .V') (terms o .register)) (valueWithin (inForce .limit) (terms o .value)) _ _ _ _
-only-16 (blank row) (Asks (Step w)) = inr refl
-only-16 (up s) (Asks (Step w)) = inr refl
-only-16 h (Refuses k) = inr refl
+only-16 l (blank row) (Asks (SetUp z)) = inr refl
+only-16 l (up s) (Asks (SetUp z)) = inr refl
+only-16 l (blank row) (Asks (Begin w o)) = inr refl
+only-16 l (up s) (Asks (Begin w o)) =
+    let x = terms (s .site .rows) o in
+    one-test (ltb w (s .site .P)) (registerBelow (s .site .V') (x .register)) (groupThere (s .site .rows) (x .group))
+    (valueWithin (inForce l .limit) (x .value)) _ _ _ _ _
+only-16 l (blank row) (Asks (Step w)) = inr refl
+only-16 l (up s) (Asks (Step w)) = inr refl
+only-16 l h (Refuses k) = inr refl
 
 pub document : Document
 unfolding apply
 document =
     record {
-      in-force = theorems inForce refl;
-      earlier = theorems document01 refl;
+      in-force = λ l. theorems (inForce l) refl;
+      earlier = λ l. theorems (document01 l) refl;
       changing = demand;
-      refusal-16 = λ h b. only-16 h (decode b);
+      refusal-16 = λ l h b. only-16 l h (decode b);
     }

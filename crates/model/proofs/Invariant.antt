@@ -9,13 +9,15 @@ use mathlib.Core.Bool.{Bool, true, false, cond}
 use mathlib.Core.Logic.{_⊎_}
 use mathlib.Core.List.{List, [], _∷_}
 use mathlib.Core.Option.{some}
-use Prim.Native.Nat.{ℕ, _+_, _≤_, _<_}
+use Prim.Native.Nat.{ℕ, _+_, _*_, _≤_, _<_}
 use lib.Dec.{ltb}
-use lib.ListN.{length, getD}
-use Rattle.model.specs.Store.{absent, Reading, Slot, Range, TimeStep, OpenAnnounce, OpenPass, CloseWithdraw, Doing, Idle, PutPublish, PutStamp, PutHandIn, FlushTake, FlushRead, FlushFree, OnTime, ReadEnter, ReadStand, GetShow, Worker, Store, workerAt, newestOf, holders, held}
+use lib.ListN.{length, getD, take}
+use Rattle.model.specs.Totals.{groupOf, registerOf, rowAt, ofGroup, follow}
+use Rattle.model.specs.Rules.{twelveDigits}
+use Rattle.model.specs.Store.{absent, Reading, Slot, Range, TimeStep, OpenAnnounce, OpenPass, CloseWithdraw, Purpose, Single, Totaling, Goal, Doing, Idle, PutPublish, PutStamp, PutHandIn, FlushTake, FlushRead, FlushFree, OnTime, ReadEnter, ReadStand, GetShow, Worker, Store, workerAt, newestOf, holders, held}
 use Rattle.model.specs.About.{Hand, Empty, Covered, Merged, Needless, about}
-use Rattle.model.specs.Record.{Operation, Put, Open, Read, Close, Get, Collect}
-use Rattle.model.specs.Demand.{Unfinished, Call, Plain, occurrences, All, callAt}
+use Rattle.model.specs.Record.{Operation, Put, Open, Read, Close, Get, Collect, Total}
+use Rattle.model.specs.Demand.{Unfinished, Call, Plain, sumOver, occurrences, All, callAt}
 use Rattle.model.specs.Reached.{sumBy}
 use Rattle.model.proofs.Basic.{hit}
 use Rattle.model.proofs.Linear.{Lin}
@@ -32,10 +34,20 @@ pub record Ctx : Type 0 where
   pub held : ℕ → ℕ
   pub registers : ℕ
   pub holders : ℕ
+  pub rows : List ℕ
 
 abbrev pub ctx : Store → List (List ℕ) → Ctx
 ctx s olds =
-    record { slots = s .slots; clock = s .clock; newest = s .newest; olds = olds; held = held s; registers = s .site .V'; holders = holders s }
+    record {
+      slots = s .slots;
+      clock = s .clock;
+      newest = s .newest;
+      olds = olds;
+      held = held s;
+      registers = s .site .V';
+      holders = holders s;
+      rows = s .site .rows;
+    }
 
 -- the slot of register r's newest version
 abbrev pub top : Ctx → ℕ → ℕ
@@ -99,6 +111,20 @@ Spared x ρ = (v : ℕ) → v < x .holders → x .held v < absent → ρ .low �
 abbrev pub Snap : Ctx → Plain → ℕ → ℕ → Type 0
 Snap x p w t = (f : ℕ → Reading) × (p .copy w ≡ some f) × ((r : ℕ) → r < x .registers → Sees (x .slots) t (f r) (chain x r))
 
+-- Where a value of register r is read for a total: the register is that of its row, which is one of its group; the sums are those of the rows of
+-- the group before it over the worker's copy, and each value was one of twelve digits.
+abbrev pub Summed : List ℕ → Plain → ℕ → ℕ → Purpose → Type 0
+Summed rows p w r Single = Unit {0}
+Summed rows p w r (Totaling g i y) =
+    (i < length rows)
+    × (r ≡ registerOf (rowAt rows i))
+    × (groupOf (rowAt rows i) ≡ g)
+    × (y .plus + y .minus ≤ twelveDigits * length (ofGroup g (take i rows)))
+    × ((f : ℕ → Reading) × (p .copy w ≡ some f) × (y ≡ sumOver f (ofGroup g (take i rows))))
+
+abbrev pub SummedFor : Ctx → Plain → ℕ → Goal → Type 0
+SummedFor x p w g = Summed (x .rows) p w (g .register) (g .purpose)
+
 -- what holds of the announced time t before a step that moves it
 abbrev pub TimeHolds : Ctx → ℕ → TimeStep → Type 0
 TimeHolds x t OpenAnnounce = t ≡ absent
@@ -115,11 +141,12 @@ PlaceHolds x p w t FlushTake = Settled x t
 PlaceHolds x p w t (FlushRead m ts) = Settled x t × All (Good x) m × (length ts ≤ x .holders) × All (Asked x ts) m
 PlaceHolds x p w t (FlushFree m) = Settled x t × All (Good x) m × All (Spared x) m
 PlaceHolds x p w t (OnTime y) = TimeHolds x t y
-PlaceHolds x p w t (ReadEnter g) = (g .register < x .registers) × (t < x .clock)
+PlaceHolds x p w t (ReadEnter g) = (g .register < x .registers) × (t < x .clock) × SummedFor x p w g
 PlaceHolds x p w t (ReadStand g c) =
     (g .register < x .registers)
     × (t < x .clock)
     × ((f : ℕ → Reading) × (p .copy w ≡ some f) × On (x .slots) t c (f (g .register)) (chain x (g .register)))
+    × SummedFor x p w g
 PlaceHolds x p w t (GetShow r) = (r < x .registers) × Settled x t
 
 -- call k is the one that worker w is performing
@@ -147,6 +174,11 @@ FitsTime x t c CloseWithdraw n = (c ≡ Close) × (n ≡ 0)
 abbrev pub FitsFlush : Operation → ℕ → Type 0
 FitsFlush c n = (IsPut c × (n ≡ 1)) ⊎ ((c ≡ Collect) × (n ≡ 0))
 
+-- a read's value, or one of a total
+abbrev pub Serves : Operation → ℕ → Purpose → Type 0
+Serves c r Single = c ≡ Read r
+Serves c r (Totaling g i y) = c ≡ Total g
+
 abbrev pub Fits : Ctx → ℕ → Operation → Doing → ℕ → Type 0
 Fits x t c Idle n = ⊥
 Fits x t c (PutPublish r y) n = (c ≡ Put r y) × (n ≡ 0)
@@ -160,8 +192,8 @@ Fits x t c FlushTake n = FitsFlush c n
 Fits x t c (FlushRead m ts) n = FitsFlush c n
 Fits x t c (FlushFree m) n = FitsFlush c n
 Fits x t c (OnTime y) n = FitsTime x t c y n
-Fits x t c (ReadEnter g) n = (c ≡ Read (g .register)) × (n ≡ 0)
-Fits x t c (ReadStand g d) n = (c ≡ Read (g .register)) × (n ≡ 0)
+Fits x t c (ReadEnter g) n = Serves c (g .register) (g .purpose) × (n ≡ 0)
+Fits x t c (ReadStand g d) n = Serves c (g .register) (g .purpose) × (n ≡ 0)
 Fits x t c (GetShow r) n = (c ≡ Get r) × (n ≡ 0)
 
 -- a worker that is not idle performs a call that fits its place
@@ -220,4 +252,6 @@ pub record Inv (now : ℕ) (s : Store) (olds : List (List ℕ)) (h : List Call) 
   -- only the hub's workers perform calls
   pub outside : (w : ℕ) → s .site .P ≤ w → NoneRunning h w
   -- the calls' order so far is one, and has led to the plain registers p
-  pub linear : Lin now h o p
+  pub linear : Lin (s .site .rows) now h o p
+  -- the rows of totals are those of a list that a setup accepts
+  pub rowsFit : follow (s .site .V') 0 0 (s .site .rows) ≡ true

@@ -1,5 +1,7 @@
 pub mod Cases
 pub mod Basic
+pub mod Totals
+pub mod Found
 pub mod View
 pub mod Begin
 pub mod Linear
@@ -19,6 +21,7 @@ pub mod Link
 pub mod Unlink
 pub mod Tick
 pub mod Step
+pub mod Site
 pub mod Record
 pub mod Setup
 pub mod Main

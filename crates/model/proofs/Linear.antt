@@ -10,11 +10,9 @@ use lib.Dec.{ltb, eqb}
 use lib.ListN.{length, length-append, length-map, List·getD-append}
 use lib.Seq.{getD-append-seam}
 use borrow.Author.Tests.{eqb-true, eq-eqb}
-use Rattle.model.specs.Store.{Reading}
 use Rattle.model.specs.Answer.{Answer, said}
-use Rattle.model.specs.Steps.{answerFor}
 use Rattle.model.specs.Record.{Operation}
-use Rattle.model.specs.Demand.{Ending, Unfinished, RefusedAt, FinishedAt, Call, endAs, endOnce, endFor, Plain, plain₀, feed, shows, call₀, finishes, occurrences, All, Stands, EndsBefore, Ordered, Agrees, RegistersAgree, IsOrder, callAt, endBy, showing, AgreesIf}
+use Rattle.model.specs.Demand.{Ending, Unfinished, RefusedAt, FinishedAt, Call, endAs, endOnce, endFor, Plain, plain₀, feed, shows, call₀, occurrences, All, Stands, EndsBefore, Ordered, Agrees, RegistersAgree, IsOrder, callAt, endBy, showing, AgreesIf}
 use Rattle.model.proofs.Basic.{hit-same, hit-other, occurrences-snoc, eq-cases, lt-cases, All-append, getD-map}
 
 unfoldable pub after : List Call → Plain → List ℕ → Plain
@@ -58,18 +56,18 @@ after-mono h h′ p (i ∷ o) c =
     let e = c i (omega (arith, hit-same i)) in
     rw (e .0, e .1) (after-mono h h′ (feed p (callAt h i .worker) (callAt h i .operation)) o (λ j x. c j (omega arith)))
 
-pub RegistersAgree-mono : (h h′ : List Call) (p : Plain) (o : List ℕ)
+pub RegistersAgree-mono : (rows : List ℕ) (h h′ : List Call) (p : Plain) (o : List ℕ)
     → ((i : ℕ) → 0 < occurrences i o → (callAt h′ i .operation ≡ callAt h i .operation) × (callAt h′ i .worker ≡ callAt h i .worker))
-    → ((i : ℕ) (s : Option Reading) → 0 < occurrences i o → Agrees (callAt h i .operation) (callAt h i .ending) s
+    → ((i : ℕ) (s : Option Answer) → 0 < occurrences i o → Agrees (callAt h i .operation) (callAt h i .ending) s
     → Agrees (callAt h i .operation) (callAt h′ i .ending) s)
-    → RegistersAgree h p o → RegistersAgree h′ p o
+    → RegistersAgree rows h p o → RegistersAgree rows h′ p o
 unfolding RegistersAgree occurrences
-RegistersAgree-mono h h′ p [] c a t = tt
-RegistersAgree-mono h h′ p (i ∷ o) c a t =
+RegistersAgree-mono rows h h′ p [] c a t = tt
+RegistersAgree-mono rows h h′ p (i ∷ o) c a t =
     let e = c i (omega (arith, hit-same i)) in
     rw (e .0, e .1) (
       a i _ (omega (arith, hit-same i)) (t .0),
-      RegistersAgree-mono h h′ (feed p (callAt h i .worker) (callAt h i .operation)) o
+      RegistersAgree-mono rows h h′ (feed p (callAt h i .worker) (callAt h i .operation)) o
           (λ j x. c j (omega arith)) (λ j s x. a j s (omega arith)) (t .1),
     )
 
@@ -90,58 +88,45 @@ unfolding after
 after-snoc h p [] k = refl
 after-snoc h p (i ∷ o) k = after-snoc h (feed p (callAt h i .worker) (callAt h i .operation)) o k
 
-pub RegistersAgree-snoc : (h : List Call) (p : Plain) (o : List ℕ) (k : ℕ)
-    → Agrees (callAt h k .operation) (callAt h k .ending) (shows (after h p o) (callAt h k .worker) (callAt h k .operation))
-    → RegistersAgree h p o → RegistersAgree h p (o ++ (k ∷ []))
+pub RegistersAgree-snoc : (rows : List ℕ) (h : List Call) (p : Plain) (o : List ℕ) (k : ℕ)
+    → Agrees (callAt h k .operation) (callAt h k .ending) (shows rows (after h p o) (callAt h k .worker) (callAt h k .operation))
+    → RegistersAgree rows h p o → RegistersAgree rows h p (o ++ (k ∷ []))
 unfolding RegistersAgree after
-RegistersAgree-snoc h p [] k a t = (a, tt)
-RegistersAgree-snoc h p (i ∷ o) k a t = (t .0, RegistersAgree-snoc h (feed p (callAt h i .worker) (callAt h i .operation)) o k a (t .1))
+RegistersAgree-snoc rows h p [] k a t = (a, tt)
+RegistersAgree-snoc rows h p (i ∷ o) k a t = (t .0, RegistersAgree-snoc rows h (feed p (callAt h i .worker) (callAt h i .operation)) o k a (t .1))
 
 ------------------------------------------------------------------------
--- The order so far: of the operations h, with the plain registers p that it has come to, before record `now`
+-- The order so far: of the operations h, with the plain registers p that it has come to, before record `now`, on a hub with these rows of totals
 
-pub record Lin (now : ℕ) (h : List Call) (o : List ℕ) (p : Plain) : Type 0 where
-  pub isOrder : IsOrder h o
+pub record Lin (rows : List ℕ) (now : ℕ) (h : List Call) (o : List ℕ) (p : Plain) : Type 0 where
+  pub isOrder : IsOrder rows h o
   pub early : (i : ℕ) → i < length h → callAt h i .begun < now
   pub come : after h plain₀ o ≡ p
 
 -- nothing happened to the operations
-pub lin-skip : {now : ℕ} {h : List Call} {o : List ℕ} {p : Plain} → Lin now h o p → Lin (now + 1) h o p
+pub lin-skip : {rows : List ℕ} {now : ℕ} {h : List Call} {o : List ℕ} {p : Plain} → Lin rows now h o p → Lin rows (now + 1) h o p
 lin-skip L = record { isOrder = L .isOrder; early = λ i x. omega (arith, L .early i x); come = L .come }
 
-agrees-unended : (c : Operation) (s : Option Reading) → Agrees c Unfinished s
+agrees-unended : (c : Operation) (s : Option Answer) → Agrees c Unfinished s
 agrees-unended c s = go (showing c)
   where
     go : (b : Bool) → AgreesIf b Unfinished s
     go true = tt
     go false = tt
 
-pub agrees-refused : (c : Operation) (i : ℕ) (s : Option Reading) → Agrees c (RefusedAt i) s
+pub agrees-refused : (c : Operation) (i : ℕ) (s : Option Answer) → Agrees c (RefusedAt i) s
 agrees-refused c i s = go (showing c)
   where
     go : (b : Bool) → AgreesIf b (RefusedAt i) s
     go true = tt
     go false = tt
 
--- an answer that shows a reading ends its operation as finished, and frees nothing
-pub answerFor-ends : (x : Reading) → said (answerFor x) .ends ≡ true
-unfolding answerFor
-answerFor-ends x = refl
-
-pub answerFor-finishes : (x : Reading) → finishes (answerFor x) ≡ true
-unfolding answerFor
-answerFor-finishes x = refl
-
-pub answerFor-end : (i : ℕ) (x : Reading) → endAs i (answerFor x) ≡ FinishedAt i (answerFor x)
-unfolding answerFor
-answerFor-end i x = refl
-
-module _ {now : ℕ} {h : List Call} {o : List ℕ} {p : Plain} (L : Lin now h o p) where
+module _ {rows : List ℕ} {now : ℕ} {h : List Call} {o : List ℕ} {p : Plain} (L : Lin rows now h o p) where
   pub inside : (i : ℕ) → 0 < occurrences i o → i < length h
   inside i x = ⊎-elim (λ u. u .0) (λ u. absurd (omega (arith, L .isOrder .within i (u .0)))) (lt-cases i (length h))
 
   -- an operation begins
-  pub lin-begin : (d : Call) → d .begun ≡ now → d .ending ≡ Unfinished → Lin (now + 1) (h ++ (d ∷ [])) o p
+  pub lin-begin : (d : Call) → d .begun ≡ now → d .ending ≡ Unfinished → Lin rows (now + 1) (h ++ (d ∷ [])) o p
   lin-begin d b u =
       record {
         isOrder =
@@ -152,7 +137,7 @@ module _ {now : ℕ} {h : List Call} {o : List ℕ} {p : Plain} (L : Lin now h o
                   Ordered-mono h h′ o (λ i x. ap (λ (v : Call). v .begun) (keep i x))
                   (λ i j x y z. subst (λ (v : Call). EndsBefore (callAt h i .begun) (v .ending)) (keep j y) z) (L .isOrder .ordered);
               registersAgree =
-                  RegistersAgree-mono h h′ plain₀ o (λ i x. (ap (λ (v : Call). v .operation) (keep i x), ap (λ (v : Call). v .worker) (keep i x)))
+                  RegistersAgree-mono rows h h′ plain₀ o (λ i x. (ap (λ (v : Call). v .operation) (keep i x), ap (λ (v : Call). v .worker) (keep i x)))
                   (λ i s x. subst (λ (v : Call). Agrees (callAt h i .operation) (v .ending) s) (sym (keep i x))) (L .isOrder .registersAgree);
             };
         early =
@@ -180,7 +165,7 @@ module _ {now : ℕ} {h : List Call} {o : List ℕ} {p : Plain} (L : Lin now h o
 
   -- operation k, which has not ended, takes effect
   pub lin-effect : (k : ℕ) → k < length h → callAt h k .ending ≡ Unfinished → occurrences k o ≡ 0
-      → Lin now h (o ++ (k ∷ [])) (feed p (callAt h k .worker) (callAt h k .operation))
+      → Lin rows now h (o ++ (k ∷ [])) (feed p (callAt h k .worker) (callAt h k .operation))
   lin-effect k x u z =
       record {
         isOrder =
@@ -188,7 +173,7 @@ module _ {now : ℕ} {h : List Call} {o : List ℕ} {p : Plain} (L : Lin now h o
               within = λ i y. omega (arith, occurrences-snoc i o k, L .isOrder .within i y, hit-other k i (omega arith));
               stands = λ i y. ⊎-elim (own i) (other i y) (eq-cases k i);
               ordered = Ordered-snoc h o k (λ i y e. subst (EndsBefore (callAt h i .begun)) u e) (L .isOrder .ordered);
-              registersAgree = RegistersAgree-snoc h plain₀ o k (rw u (agrees-unended (callAt h k .operation) _)) (L .isOrder .registersAgree);
+              registersAgree = RegistersAgree-snoc rows h plain₀ o k (rw u (agrees-unended (callAt h k .operation) _)) (L .isOrder .registersAgree);
             };
         early = L .early;
         come = after-snoc h plain₀ o k ∙ ap (λ (q : Plain). feed q (callAt h k .worker) (callAt h k .operation)) (L .come);
@@ -256,7 +241,7 @@ module _ (now w : ℕ) (a : Answer) (h : List Call) (k : ℕ) (kin : k < length 
       go none z = omega arith
       go (some k) z = omega arith
 
-  module _ (o : List ℕ) (p : Plain) (L : Lin now h o p) where
+  module _ {rows : List ℕ} (o : List ℕ) (p : Plain) (L : Lin rows now h o p) where
     earlyE : (i : ℕ) → i < length ended → callAt ended i .begun < now + 1
     earlyE i x = let y : i < length h = omega (arith, ended-length) in omega (arith, ended-begun i y, L .early i y)
 
@@ -274,8 +259,8 @@ module _ (now w : ℕ) (a : Answer) (h : List Call) (k : ℕ) (kin : k < length 
     comeE = after-mono h ended plain₀ o (λ i x. ended-same i (inside L i x)) ∙ L .come
 
     -- it shows nothing, or is refused: it stands in the order as its ending says
-    pub lin-end : Stands (endAs now a) (occurrences k o) → ((s : Option Reading) → Agrees (callAt h k .operation) (endAs now a) s)
-        → Lin (now + 1) ended o p
+    pub lin-end : Stands (endAs now a) (occurrences k o) → ((s : Option Answer) → Agrees (callAt h k .operation) (endAs now a) s)
+        → Lin rows (now + 1) ended o p
     lin-end st ag =
         record {
           isOrder =
@@ -289,7 +274,7 @@ module _ (now w : ℕ) (a : Answer) (h : List Call) (k : ℕ) (kin : k < length 
                     (eq-cases k i);
                 ordered = orderedE;
                 registersAgree =
-                    RegistersAgree-mono h ended plain₀ o (λ i x. ended-same i (inside L i x))
+                    RegistersAgree-mono rows h ended plain₀ o (λ i x. ended-same i (inside L i x))
                     (λ i s x z. ⊎-elim
                     (λ e. subst (λ (q : ℕ). Agrees (callAt h q .operation) (callAt ended q .ending) s) (e .0)
                     (subst (λ (q : Ending). Agrees (callAt h k .operation) q s) (sym ended-own) (ag s)))
@@ -303,8 +288,8 @@ module _ (now w : ℕ) (a : Answer) (h : List Call) (k : ℕ) (kin : k < length 
 
     -- it takes effect at its end, and what it answers is what is shown
     pub lin-end-agree : occurrences k o ≡ 0 → Stands (endAs now a) 1
-        → Agrees (callAt h k .operation) (endAs now a) (shows p w (callAt h k .operation))
-        → Lin (now + 1) ended (o ++ (k ∷ [])) (feed p w (callAt h k .operation))
+        → Agrees (callAt h k .operation) (endAs now a) (shows rows p w (callAt h k .operation))
+        → Lin rows (now + 1) ended (o ++ (k ∷ [])) (feed p w (callAt h k .operation))
     lin-end-agree z st ag =
         record {
           isOrder =
@@ -331,9 +316,9 @@ module _ (now w : ℕ) (a : Answer) (h : List Call) (k : ℕ) (kin : k < length 
                     (subst (λ (q : ℕ). EndsBefore q (callAt ended k .ending)) (ended-begun i (inside L i x)) e)))
                     orderedE;
                 registersAgree =
-                    RegistersAgree-snoc ended plain₀ o k
+                    RegistersAgree-snoc rows ended plain₀ o k
                     (rw (comeE, ended-own, ended-same k kin .0, ended-same k kin .1, kw) ag)
-                    (RegistersAgree-mono h ended plain₀ o (λ i x. ended-same i (inside L i x))
+                    (RegistersAgree-mono rows h ended plain₀ o (λ i x. ended-same i (inside L i x))
                     (λ i s x g. subst (λ (q : Ending). Agrees (callAt h i .operation) q s)
                     (sym (ended-other i (inside L i x) (λ e. omega (arith, z, subst (λ (q : ℕ). 0 < occurrences q o) (sym e) x)))) g)
                     (L .isOrder .registersAgree));

@@ -255,6 +255,7 @@ module _ (now : ℕ) (s : Store) (olds : List (List ℕ)) (h : List Call) (o : L
             tick = omega arith;
             reg = λ q z. z;
             nhd = refl;
+            sameRows = refl;
             good = λ ρ z. good ρ (work-f v vb (ρ .slot) (omega (arith, z)));
             times′ = λ i z. inl (still i);
             mem = λ q c z u k. mem q c k;
@@ -374,6 +375,7 @@ module _ (now : ℕ) (s : Store) (olds : List (List ℕ)) (h : List Call) (o : L
                   (eq-cases q r);
               outside = I .outside;
               linear = lin-skip (I .linear);
+              rowsFit = I .rowsFit;
             };
       }
     where

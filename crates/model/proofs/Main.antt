@@ -6,31 +6,31 @@ use Prim.Native.Nat.{ℕ, zero, suc, _+_, _<_}
 use native.Mathlib.Nat.{not-suc-le-zero, le-of-suc-le-suc}
 use native.Mathlib.Omega.{arith}
 use lib.ListN.{length, getD}
-use Rattle.model.specs.Store.{Store, Hub, up}
+use Rattle.model.specs.Store.{Site, Store, Hub, up}
 use Rattle.model.specs.Rules.{Ruled}
 use Rattle.model.specs.Answer.{Answer, Freed}
-use Rattle.model.specs.Record.{decode}
+use Rattle.model.specs.Record.{decode, rowsOf}
 use Rattle.model.specs.Apply.{fresh, applyRuled, answersTo}
-use Rattle.model.specs.Demand.{Event, events, Call, observe, history, StepsTaken, Plain, plain₀, effects, order, occurrences, All, IsOrder, FreesNothingNeeded, TookBy, Took, event₀, FreedOnce, Demand3, Demand, exchange}
+use Rattle.model.specs.Demand.{Event, events, Call, observe, history, StepsTaken, Plain, plain₀, effects, order, occurrences, All, IsOrder, FreesNothingNeeded, TookBy, Took, event₀, FreedOnce, Demand3, rowsIn, Demand, exchange}
 use Rattle.model.proofs.Invariant.{Inv}
 use Rattle.model.proofs.Record.{Holds, apply-holds, step-taken}
 use Rattle.model.proofs.Setup.{accepts, accepted-inv}
 
--- what is shown of the records from number `now` on, which find the free slots `free`, the operations h and the order o
-record Result (now : ℕ) (free : List ℕ) (es : List Event) (h : List Call) (o : List ℕ) : Type 0 where
+-- what is shown of the records from number `now` on, which find the rows of totals, the free slots `free`, the operations h and the order o
+record Result (rows : List ℕ) (now : ℕ) (free : List ℕ) (es : List Event) (h : List Call) (o : List ℕ) : Type 0 where
   taken : StepsTaken now es h
-  isOrder : IsOrder (history now (map exchange es) h) (o ++ order now es h)
+  isOrder : IsOrder rows (history now (map exchange es) h) (o ++ order now es h)
   safe : All (λ (e : Event). FreesNothingNeeded (e .before) (e .answer)) es
   again : (c j : ℕ) → 0 < occurrences c free → j < length es → getD es j event₀ .answer ≡ Freed c → (k : ℕ) × (k < j) × Took c (getD es k event₀)
   once : FreedOnce es
 
 run : (bs : List Ruled) (now : ℕ) (s : Store) (olds : List (List ℕ)) (h : List Call) (o : List ℕ) (p : Plain) → Inv now s olds h o p
-    → Result now (s .free) (events (up s) bs) h o
+    → Result (s .site .rows) now (s .free) (events (up s) bs) h o
 unfolding events history StepsTaken order
 run [] now s olds h o p I =
     record {
       taken = tt;
-      isOrder = subst (IsOrder h) (sym (append-nil o)) (I .linear .isOrder);
+      isOrder = subst (IsOrder (s .site .rows) h) (sym (append-nil o)) (I .linear .isOrder);
       safe = tt;
       again = λ c j z b. absurd (not-suc-le-zero b);
       once = λ c i j z b. absurd (not-suc-le-zero b);
@@ -51,14 +51,15 @@ run (b ∷ bs) now s olds h o p I = join (run bs (now + 1) (A .store) (A .kept .
     es = events (applyRuled (up s) b .hub) bs
 
     e₀ : Event
-    e₀ = record { bytes = b .bytes; before = up s; answer = applyRuled (up s) b .answer; after = applyRuled (up s) b .hub }
+    e₀ = record { list = b .rules .list; bytes = b .bytes; before = up s; answer = applyRuled (up s) b .answer; after = applyRuled (up s) b .hub }
 
-    join : Result (now + 1) (A .store .free) (events (up (A .store)) bs) h′ o′ → Result now (s .free) (e₀ ∷ es) h o
+    join : Result (A .store .site .rows) (now + 1) (A .store .free) (events (up (A .store)) bs) h′ o′
+        → Result (s .site .rows) now (s .free) (e₀ ∷ es) h o
     join R₀ =
         record {
           taken = (step-taken now s olds h o p I (decode (b .bytes)), R .taken);
           isOrder =
-              subst (IsOrder (history (now + 1) (map exchange es) h′))
+              subst (IsOrder (s .site .rows) (history (now + 1) (map exchange es) h′))
               (append-assoc o (effects h (decode (b .bytes)) (up s) (applyRuled (up s) b .answer) (up (A .store))) (order (now + 1) es h′)
               ∙ ap (λ (q : Hub). o ++ (effects h (decode (b .bytes)) (up s) (applyRuled (up s) b .answer) q ++ order (now + 1) es h′)) (sym (A .is)))
               (R .isOrder);
@@ -67,8 +68,10 @@ run (b ∷ bs) now s olds h o p I = join (run bs (now + 1) (A .store) (A .kept .
           once = once;
         }
       where
-        R : Result (now + 1) (A .store .free) es h′ o′
-        R = subst (λ (q : Hub). Result (now + 1) (A .store .free) (events q bs) h′ o′) (sym (A .is)) R₀
+        R : Result (s .site .rows) (now + 1) (A .store .free) es h′ o′
+        R =
+            subst (λ (q : Hub). Result (s .site .rows) (now + 1) (A .store .free) (events q bs) h′ o′) (sym (A .is))
+            (subst (λ (q : Site). Result (q .rows) (now + 1) (A .store .free) (events (up (A .store)) bs) h′ o′) (A .site) R₀)
 
         again : (c j : ℕ) → 0 < occurrences c (s .free) → j < length (e₀ ∷ es) → getD (e₀ ∷ es) j event₀ .answer ≡ Freed c
             → (k : ℕ) × (k < j) × Took c (getD (e₀ ∷ es) k event₀)
@@ -92,10 +95,10 @@ run (b ∷ bs) now s olds h o p I = join (run bs (now + 1) (A .store) (A .kept .
 pub demand : Demand
 demand row b e bs =
     let A = accepts (b .rules) row (b .bytes) e in
-    subst (λ (q : Hub). Demand3 (events q bs)) (sym (A .is))
-    (whole (run bs 0 (fresh (b .rules .batch (A .sizes .P)) (A .sizes) (A .row)) _ [] [] plain₀ (accepted-inv (b .rules) A)))
+    subst (λ (q : Hub). Demand3 (rowsIn q) (events q bs)) (sym (A .is))
+    (whole (run bs 0 (fresh (b .rules .batch (A .sizes .P)) (A .sizes) (rowsOf (b .rules .list)) (A .row)) _ [] [] plain₀ (accepted-inv (b .rules) A)))
   where
-    whole : {free : List ℕ} {es : List Event} → Result 0 free es [] [] → Demand3 es
+    whole : {rows free : List ℕ} {es : List Event} → Result rows 0 free es [] [] → Demand3 rows es
     whole R = record { stepsTaken = R .taken; isOrder = R .isOrder; freesNothingNeeded = R .safe; freedOnce = R .once }
 
 -- the answers that the log shows are those of the events

@@ -1,30 +1,34 @@
 -- The steps that change one worker's record, and perhaps the queue, and no slot.
 use mathlib.Core.Path.{_≡_, refl, sym, ap, _∙_, subst}
-use mathlib.Core.Bool.{Bool, true, false, not, true≢false}
+use mathlib.Core.Bool.{Bool, true, false, not, _&&_, true≢false}
 use mathlib.Core.Logic.{_≢_, _⊎_, inl, inr, ⊎-elim}
 use mathlib.Core.List.{List, [], _∷_, _++_, map, append-nil}
-use mathlib.Core.Option.{Option}
-use Prim.Native.Nat.{ℕ, zero, suc, _+_, _-_, _≤_, _<_}
+use mathlib.Core.Option.{Option, some}
+use Prim.Native.Nat.{ℕ, zero, suc, _+_, _*_, _-_, _≤_, _<_}
 use native.Mathlib.Omega.{arith}
 use native.Mathlib.Nat.{not-suc-le-zero}
-use lib.Dec.{ltb}
-use lib.ListN.{length, getD, drop, length-append}
+use lib.Dec.{ltb, leb}
+use lib.ListN.{length, getD, take, drop, length-append}
 use borrow.Author.Tests as Tests
-use Rattle.model.specs.Store.{absent, Reading, Slot, Range, OpenAnnounce, OpenPass, CloseWithdraw, Goal, Doing, Idle, PutPublish, PutStamp, PutHandIn, FlushTake, FlushRead, FlushFree, OnTime, ReadEnter, ReadStand, GetShow, Worker, Store, workerAt, slotAt, newestOf, holders, held, rangeOf, withQueue, withWorker, withDoing, place}
+use Rattle.model.specs.Store.{absent, Reading, Slot, Range, OpenAnnounce, OpenPass, CloseWithdraw, Purpose, Single, Totaling, Goal, Doing, Idle, PutPublish, PutStamp, PutHandIn, FlushTake, FlushRead, FlushFree, OnTime, ReadEnter, ReadStand, GetShow, Worker, Store, workerAt, slotAt, newestOf, holders, held, rangeOf, withQueue, withWorker, withDoing, place}
 use Rattle.model.specs.About.{Effect, NoEffect, ByStamp, ByClock, about}
-use Rattle.model.specs.Answer.{Done, No}
+use Rattle.model.specs.Answer.{Answer, Done, No}
 use Rattle.model.specs.Ranges.{needed, filter, merge, firstTwo, neededPools, joining, queuedPool}
-use Rattle.model.specs.Steps.{readTimes, answerFor}
-use Rattle.model.specs.Record.{Operation, Put, Open, Read, Close, Get, Collect}
-use Rattle.model.specs.Apply.{terms, registerBelow, mayOpen, mayUseTime}
-use Rattle.model.specs.Demand.{Ending, Unfinished, FinishedAt, Call, endFor, Plain, feed, inCopy, shows, atEnd, endEffects, occurrences, All, Stands, Agrees, callAt}
+use Rattle.model.specs.Totals.{groupOf, signOf, registerOf, rowAt, ofGroup, firstOf, goesOn, addRow, Sum, sum₀}
+use Rattle.model.specs.Rules.{twelveDigits}
+use Rattle.model.specs.Steps.{readTimes, answerFor, signed, goalAt}
+use Rattle.model.specs.Record.{Operation, Put, Open, Read, Close, Get, Collect, Total}
+use Rattle.model.specs.Apply.{terms, registerBelow, groupThere, mayOpen, mayUseTime}
+use Rattle.model.specs.Demand.{Ending, Unfinished, FinishedAt, Call, endFor, Plain, feed, inCopy, sumOver, shows, atEnd, endEffects, occurrences, All, Stands, showing, AgreesIf, Agrees, callAt}
 use Rattle.model.specs.Reached.{sumBy}
-use Rattle.model.proofs.Basic.{lt-cases, All-append, All-get, All-map, All-take, All-drop, occurrences-append, occurrences-at}
-use Rattle.model.proofs.Linear.{agrees-refused, answerFor-end, answerFor-finishes}
+use Rattle.model.proofs.Basic.{and-both, lt-cases, All-append, All-get, All-map, All-take, All-drop, occurrences-append, occurrences-at}
+use Rattle.model.proofs.Totals.{own-next, first-none, first-own, sum-next, sum-grows, row-fits, last-own, goes, goes-not}
+use Rattle.model.proofs.Found.{Tells, answerFor-tells, signed-tells, tells-finishes, tells-end}
+use Rattle.model.proofs.Linear.{agrees-refused}
 use Rattle.model.proofs.Slots.{nth}
 use Rattle.model.proofs.Chain.{On-found, On-on, Fine, Past}
 use Rattle.model.proofs.Count.{cnt, sumBy-append, cnt-append, cnt-merge, cnt-split, cnt-queued, cnt-firstTwo, cnt-sent, All-merge, All-keep, firstTwo-has, pools-have, joining-has, queued-has, All-kept, not-needed}
-use Rattle.model.proofs.Invariant.{Ctx, ctx, old, chain, inDoing, pendW, Good, Settled, Asked, Spared, PlaceHolds, Running, NoneRunning, IsPut, Fits, Busy, Current, Works, Inv}
+use Rattle.model.proofs.Invariant.{Ctx, ctx, old, chain, inDoing, pendW, Good, Settled, Asked, Spared, Summed, PlaceHolds, Running, NoneRunning, IsPut, Serves, Fits, Busy, Current, Works, Inv}
 use Rattle.model.proofs.Effect.{own-not, own-is}
 use Rattle.model.proofs.Transport.{asked, spared}
 use Rattle.model.proofs.Stamp.{put-at-other, next-open, next-low, next-high}
@@ -52,6 +56,27 @@ pub fine-high : (s : List Slot) (t : ℕ) (x : Reading) (n c : ℕ) (l : List �
 fine-high s t x n c l f z e =
     ⊎-elim (λ u. All-get (Past s t) l (u .2) c z .1)
     (λ u. next-high s t x c l (u .1) z (λ v. e (ap (λ (i : ℕ). nth s i .high) (sym v) ∙ next-open s t x l (u .1)))) (f .1)
+
+-- an operation that shows something and changes nothing
+pub record Looks (c : Operation) : Type 0 where
+  pub end : atEnd c ≡ true
+  pub shown : showing c ≡ true
+  pub feeds : (p : Plain) (w : ℕ) → feed p w c ≡ p
+
+pub looks-read : (r : ℕ) → Looks (Read r)
+unfolding atEnd feed
+looks-read r = record { end = refl; shown = refl; feeds = λ p w. refl }
+
+pub looks-get : (r : ℕ) → Looks (Get r)
+unfolding atEnd feed
+looks-get r = record { end = refl; shown = refl; feeds = λ p w. refl }
+
+pub looks-total : (g : ℕ) → Looks (Total g)
+unfolding atEnd feed
+looks-total g = record { end = refl; shown = refl; feeds = λ p w. refl }
+
+some-inj : {f g : ℕ → Reading} → some f ≡ some g → f ≡ g
+some-inj e = cc
 
 -- a flush's step reads the next holders' times
 abbrev Reads : Store → ℕ → Type 0
@@ -88,7 +113,7 @@ module _ (now : ℕ) (s : Store) (olds : List (List ℕ)) (h : List Call) (o : L
 
   -- the worker goes on to place d, its time and its pool as before
   pub place-inv : (d d′ : Doing) → workerAt s w .doing ≡ d → ((c : ℕ) → inDoing c d′ ≡ inDoing c d) → Calm
-      → (h′ : List Call) (o′ : List ℕ) (p′ : Plain) → Hist (now + 1) w h o p h′ o′ p′ → p′ .copy w ≡ p .copy w
+      → (h′ : List Call) (o′ : List ℕ) (p′ : Plain) → Hist (s .site .rows) (now + 1) w h o p h′ o′ p′ → p′ .copy w ≡ p .copy w
       → PlaceHolds (ctx (to d′) olds) p′ w t d′ → Current (ctx (to d′) olds) h′ o′ w t d′ → Kept now (to d′) h′ o′
   place-inv d d′ e m nc h′ o′ p′ H cp dk ck =
       record {
@@ -121,7 +146,7 @@ module _ (now : ℕ) (s : Store) (olds : List (List ℕ)) (h : List Call) (o : L
   pub calm : (d : Doing) → Plainly d → workerAt s w .doing ≡ d → Calm
   calm d a e r c z y = subst Plainly (sym e ∙ z) a
 
-  skip : Hist (now + 1) w h o p h o p
+  skip : Hist (s .site .rows) (now + 1) w h o p h o p
   skip = hist-skip now w h o p (I .linear)
 
   ------------------------------------------------------------------------
@@ -130,10 +155,24 @@ module _ (now : ℕ) (s : Store) (olds : List (List ℕ)) (h : List Call) (o : L
   has-time : ltb t absent ≡ true → Settled x t → t < s .clock
   has-time e = ⊎-elim (λ u. absurd (omega (arith, u, Tests.ltb-true t absent e))) (λ u. u)
 
-  pub begin-kept : (c : Operation) → workerAt s w .doing ≡ Idle → registerBelow (s .site .V') (terms c .register) ≡ true
-      → mayOpen (terms c .time) (ltb t absent) ≡ true → mayUseTime (terms c .time) (ltb t absent) ≡ true
-      → Kept now (place s w (terms c .first)) (h ++ (record { operation = c; worker = w; begun = now; ending = Unfinished } ∷ [])) o
-  begin-kept c e rg fresh has = go c rg (ltb t absent) refl fresh has
+  abbrev rows : List ℕ
+  rows = s .site .rows
+
+  register-fits : (i : ℕ) → i < length rows → registerOf (rowAt rows i) < s .site .V'
+  register-fits i b =
+      let row = rowAt rows i in
+      Tests.ltb-true (registerOf row) (s .site .V')
+      (and-both (leb (groupOf row) 31 && leb (signOf row) 1) _ (row-fits (s .site .V') 0 0 rows (I .rowsFit) i b) .1)
+
+  none-yet : (f : ℕ → Reading) (g : ℕ) → sum₀ ≡ sumOver f (ofGroup g (take (firstOf g rows) rows))
+  unfolding sumOver
+  none-yet f g = ap (sumOver f) (sym (first-none g rows))
+
+  pub begin-kept : (c : Operation) → workerAt s w .doing ≡ Idle → registerBelow (s .site .V') (terms rows c .register) ≡ true
+      → groupThere rows (terms rows c .group) ≡ true
+      → mayOpen (terms rows c .time) (ltb t absent) ≡ true → mayUseTime (terms rows c .time) (ltb t absent) ≡ true
+      → Kept now (place s w (terms rows c .first)) (h ++ (record { operation = c; worker = w; begun = now; ending = Unfinished } ∷ [])) o
+  begin-kept c e rg gr fresh has = go c rg gr (ltb t absent) refl fresh has
     where
       st : Settled x t
       st = doing-is Idle e
@@ -155,22 +194,37 @@ module _ (now : ℕ) (s : Store) (olds : List (List ℕ)) (h : List Call) (o : L
                 (subst (Fits (ctx (to d) olds) t c d) (sym (begin-not now w h o p (I .linear) c)) ft),
           ))
 
-      go : (c : Operation) → registerBelow (s .site .V') (terms c .register) ≡ true → (b : Bool) → ltb t absent ≡ b
-          → mayOpen (terms c .time) b ≡ true → mayUseTime (terms c .time) b ≡ true
-          → Kept now (place s w (terms c .first)) (h ++ (record { operation = c; worker = w; begun = now; ending = Unfinished } ∷ [])) o
-      go (Put r y) rg b eb fresh has = begun (Put r y) (PutPublish r y) (λ i. refl) (Tests.ltb-true r (s .site .V') rg, st) (λ a. a) (refl, refl)
-      go Open rg true eb fresh has = absurd (true≢false (sym fresh))
-      go Open rg false eb fresh has =
+      -- a total at the first row of its group
+      at-first : (g : ℕ) → firstOf g rows < length rows → t < s .clock
+          → PlaceHolds (ctx (to (ReadEnter (goalAt rows g (firstOf g rows) sum₀))) olds) p w t (ReadEnter (goalAt rows g (firstOf g rows) sum₀))
+      at-first g b k =
+          let f = I .workers w wb .snapshot k in (
+            register-fits (firstOf g rows) b,
+            k,
+            (b, refl, first-own g rows b, omega arith, (f .0, f .1, none-yet (f .0) g)),
+          )
+
+      go : (c : Operation) → registerBelow (s .site .V') (terms rows c .register) ≡ true → groupThere rows (terms rows c .group) ≡ true
+          → (b : Bool) → ltb t absent ≡ b → mayOpen (terms rows c .time) b ≡ true → mayUseTime (terms rows c .time) b ≡ true
+          → Kept now (place s w (terms rows c .first)) (h ++ (record { operation = c; worker = w; begun = now; ending = Unfinished } ∷ [])) o
+      go (Put r y) rg gr b eb fresh has = begun (Put r y) (PutPublish r y) (λ i. refl) (Tests.ltb-true r (s .site .V') rg, st) (λ a. a) (refl, refl)
+      go Open rg gr true eb fresh has = absurd (true≢false (sym fresh))
+      go Open rg gr false eb fresh has =
           begun Open (OnTime OpenAnnounce) (λ i. refl)
           (⊎-elim (λ u. u) (λ u. absurd (omega (arith, u, I .clockFits, Tests.ltb-false t absent eb))) st)
           (λ a. a) (refl, refl)
-      go (Read r) rg true eb fresh has =
-          begun (Read r) (ReadEnter (record { register = r })) (λ i. refl) (Tests.ltb-true r (s .site .V') rg, has-time eb st) (λ a. a) (refl, refl)
-      go (Read r) rg false eb fresh has = absurd (true≢false (sym has))
-      go Close rg true eb fresh has = begun Close (OnTime CloseWithdraw) (λ i. refl) (has-time eb st) (λ a. a) (refl, refl)
-      go Close rg false eb fresh has = absurd (true≢false (sym has))
-      go (Get r) rg b eb fresh has = begun (Get r) (GetShow r) (λ i. refl) (Tests.ltb-true r (s .site .V') rg, st) (λ a. a) (refl, refl)
-      go Collect rg b eb fresh has = begun Collect FlushTake (λ i. refl) st (λ a. a) (inr (refl, refl))
+      go (Read r) rg gr true eb fresh has =
+          begun (Read r) (ReadEnter (record { register = r; purpose = Single })) (λ i. refl)
+          (Tests.ltb-true r (s .site .V') rg, has-time eb st, tt) (λ a. a) (refl, refl)
+      go (Read r) rg gr false eb fresh has = absurd (true≢false (sym has))
+      go Close rg gr true eb fresh has = begun Close (OnTime CloseWithdraw) (λ i. refl) (has-time eb st) (λ a. a) (refl, refl)
+      go Close rg gr false eb fresh has = absurd (true≢false (sym has))
+      go (Get r) rg gr b eb fresh has = begun (Get r) (GetShow r) (λ i. refl) (Tests.ltb-true r (s .site .V') rg, st) (λ a. a) (refl, refl)
+      go Collect rg gr b eb fresh has = begun Collect FlushTake (λ i. refl) st (λ a. a) (inr (refl, refl))
+      go (Total g) rg gr true eb fresh has =
+          begun (Total g) (ReadEnter (goalAt rows g (firstOf g rows) sum₀)) (λ i. refl)
+          (at-first g (Tests.ltb-true (firstOf g rows) (length rows) gr) (has-time eb st)) (λ a. a) (refl, refl)
+      go (Total g) rg gr false eb fresh has = absurd (true≢false (sym has))
 
   ------------------------------------------------------------------------
   -- Ends
@@ -194,7 +248,7 @@ module _ (now : ℕ) (s : Store) (olds : List (List ℕ)) (h : List Call) (o : L
       (a .0, a .1, a .2 .1)
 
   -- a put or a collect is done
-  put-agrees : (c : Operation) → IsPut c → (e : Ending) (q : Option Reading) → Agrees c e q
+  put-agrees : (c : Operation) → IsPut c → (e : Ending) (q : Option Answer) → Agrees c e q
   put-agrees c i e q = subst (λ (z : Operation). Agrees z e q) (sym (i .2)) tt
 
   -- what a flush ends with: nothing is left to free
@@ -219,7 +273,7 @@ module _ (now : ℕ) (s : Store) (olds : List (List ℕ)) (h : List Call) (o : L
           one-more o (endEffects h w Done) (a .0) (own-is (a .1) Done refl (ap atEnd (u .0)))
           (place-inv (FlushFree []) Idle e (λ c. refl) (calm (FlushFree []) tt e) _ (o ++ (a .0 ∷ [])) (feed p w (callAt h (a .0) .operation))
           (hist-show now w h o p (I .linear) Done (a .0) (a .1) (u .1) refl
-          (subst (λ (z : Operation). Agrees z (FinishedAt now Done) (shows p w z)) (sym (u .0)) tt)
+          (subst (λ (z : Operation). Agrees z (FinishedAt now Done) (shows rows p w z)) (sym (u .0)) tt)
           (λ r. rw (u .0)) (λ v n. rw (u .0)))
           (rw (u .0)) (doing-is (FlushFree []) e .0) (end-shut now w h o p (I .linear) Done (a .0) (a .1)))
 
@@ -474,7 +528,7 @@ module _ (now : ℕ) (s : Store) (olds : List (List ℕ)) (h : List Call) (o : L
             (now + 1) _ (o ++ (a .0 ∷ [])) (feed p w (callAt h (a .0) .operation))
             (λ c. omega (arith, ap (inDoing c) e)) (I .queue) (inr (inl refl)) (calm (OnTime CloseWithdraw) tt e)
             (hist-show now w h o p (I .linear) Done (a .0) (a .1) (a .2 .1) refl
-            (subst (λ (z : Operation). Agrees z (FinishedAt now Done) (shows p w z)) (sym (a .2 .0)) tt)
+            (subst (λ (z : Operation). Agrees z (FinishedAt now Done) (shows rows p w z)) (sym (a .2 .0)) tt)
             (λ r. rw (a .2 .0)) (λ v n. rw (a .2 .0) (put-at-other (p .copy) w mathlib.Core.Option.none v n)))
             (record {
               pool = I .workers w wb .pool;
@@ -485,33 +539,109 @@ module _ (now : ℕ) (s : Store) (olds : List (List ℕ)) (h : List Call) (o : L
             });
       })
 
+  -- an operation that shows something ends
+  pub shown-kept : (d : Doing) → workerAt s w .doing ≡ d → Plainly d → ((c : ℕ) → inDoing c d ≡ 0) → Settled x t
+      → (k : ℕ) → Running h w k → occurrences k o ≡ 0 → Looks (callAt h k .operation)
+      → (a : Answer) → Tells a → shows rows p w (callAt h k .operation) ≡ some a
+      → Kept now (to Idle) (map (endFor now w a) h) (o ++ endEffects h w a)
+  shown-kept d e pl m st k K n L a T sh =
+      one-more o (endEffects h w a) k (own-is K a (tells-finishes T) (L .end))
+      (place-inv d Idle e (λ i. sym (m i)) (calm d pl e) _ (o ++ (k ∷ [])) (feed p w (callAt h k .operation))
+      (hist-show now w h o p (I .linear) a k K n
+      (subst (λ (q : Ending). Stands q 1) (sym (tells-end now T)) refl)
+      (subst (λ (q : Ending). Agrees (callAt h k .operation) q (shows rows p w (callAt h k .operation))) (sym (tells-end now T))
+      (subst (λ (q : Bool). AgreesIf q (FinishedAt now a) (shows rows p w (callAt h k .operation))) (sym (L .shown)) sh))
+      (λ i. ap (λ (q : Plain). q .registers i) (L .feeds p w)) (λ v z. ap (λ (q : Plain). q .copy v) (L .feeds p w)))
+      (ap (λ (q : Plain). q .copy w) (L .feeds p w)) st (end-shut now w h o p (I .linear) a k K))
+
   module _ (g : Goal) (c : ℕ) (e : workerAt s w .doing ≡ ReadStand g c) where
     abbrev r : ℕ
     r = g .register
 
-    pub found-kept : slotAt s c .low ≤ t → Kept now (to Idle) (map (endFor now w (answerFor (slotAt s c .value))) h)
-        (o ++ endEffects h w (answerFor (slotAt s c .value)))
-    unfolding feed shows inCopy atEnd answerFor
-    found-kept z =
+    abbrev v : Reading
+    v = slotAt s c .value
+
+    -- the copy has the value that is found
+    found-in : slotAt s c .low ≤ t → (f : ℕ → Reading) → p .copy w ≡ some f → v ≡ f r
+    found-in z f q =
+        let d = doing-is (ReadStand g c) e in
+        let i : d .2 .0 ≡ f = some-inj (sym (d .2 .1) ∙ q) in
+        On-found (s .slots) t c (d .2 .0 r) (chain x r) (d .2 .2) z ∙ ap (λ (q : ℕ → Reading). q r) i
+
+    pub found-kept : slotAt s c .low ≤ t → g .purpose ≡ Single
+        → Kept now (to Idle) (map (endFor now w (answerFor v)) h) (o ++ endEffects h w (answerFor v))
+    unfolding shows inCopy
+    found-kept z single =
         let a = cur-is (ReadStand g c) e in
         let d = doing-is (ReadStand g c) e in
-        let f = d .2 in
-        one-more o (endEffects h w (answerFor (slotAt s c .value))) (a .0)
-        (own-is (a .1) (answerFor (slotAt s c .value)) (answerFor-finishes (slotAt s c .value)) (ap atEnd (a .2 .0)))
-        (place-inv (ReadStand g c) Idle e (λ i. refl) (calm (ReadStand g c) tt e) _ (o ++ (a .0 ∷ [])) (feed p w (callAt h (a .0) .operation))
-        (hist-show now w h o p (I .linear) (answerFor (slotAt s c .value)) (a .0) (a .1) (a .2 .1)
-        (subst (λ (q : Ending). Stands q 1) (sym (answerFor-end now (slotAt s c .value))) refl)
-        (subst (λ (q : Ending). Agrees (callAt h (a .0) .operation) q (shows p w (callAt h (a .0) .operation)))
-        (sym (answerFor-end now (slotAt s c .value)))
-        (subst (λ (q : Operation). Agrees q (FinishedAt now (answerFor (slotAt s c .value))) (shows p w q)) (sym (a .2 .0))
-        (f .0 r, ap (λ q. inCopy q r) (f .1), ap answerFor (On-found (s .slots) t c (f .0 r) (chain x r) (f .2) z))))
-        (λ i. rw (a .2 .0)) (λ v n. rw (a .2 .0)))
-        (rw (a .2 .0)) (inr (d .1)) (end-shut now w h o p (I .linear) (answerFor (slotAt s c .value)) (a .0) (a .1)))
+        let i : callAt h (a .0) .operation ≡ Read r = subst (Serves (callAt h (a .0) .operation) r) single (a .2 .0) in
+        shown-kept (ReadStand g c) e tt (λ i. refl) (inr (d .1)) (a .0) (a .1) (a .2 .1) (subst Looks (sym i) (looks-read r))
+        (answerFor v) (answerFor-tells v)
+        (rw (i, d .2 .1) (ap (λ (q : Reading). some (answerFor q)) (sym (found-in z (d .2 .0) (d .2 .1)))))
+
+    module _ (j i : ℕ) (y : Sum) (total : g .purpose ≡ Totaling j i y) (z : slotAt s c .low ≤ t) where
+      abbrev more : Sum
+      more = addRow y (rowAt rows i) (v .count)
+
+      call : (k : ℕ) × Running h w k × (callAt h k .operation ≡ Total j) × (occurrences k o ≡ 0)
+      call =
+          let a = cur-is (ReadStand g c) e in
+          (a .0, a .1, subst (Serves (callAt h (a .0) .operation) r) total (a .2 .0), a .2 .1)
+
+      settled : Settled x t
+      settled = inr (doing-is (ReadStand g c) e .1)
+
+      so-far : Summed rows p w r (Totaling j i y)
+      so-far = subst (Summed rows p w r) total (doing-is (ReadStand g c) e .3)
+
+      -- the sums with this row are those over the copy
+      more-is : more ≡ sumOver (so-far .4 .0) (ofGroup j (take (i + 1) rows))
+      more-is =
+          let f = so-far .4 .0 in
+          let q : v ≡ f (registerOf (rowAt rows i)) = found-in z f (so-far .4 .1) ∙ ap f (so-far .1) in
+          ap (λ (k : Reading). addRow y (rowAt rows i) (k .count)) q
+          ∙ ap (λ (k : Sum). addRow k (rowAt rows i) (f (registerOf (rowAt rows i)) .count)) (so-far .4 .2)
+          ∙ sym (sum-next f (ofGroup j (take i rows)) (rowAt rows i))
+          ∙ ap (sumOver f) (sym (own-next j rows i (so-far .0) (so-far .2)))
+
+      -- 18
+      pub over-kept : Kept now (to Idle) (map (endFor now w (No 18)) h) o
+      over-kept = refuse-kept 18 (ReadStand g c) e tt (λ i. refl) settled (call .0, call .1, call .3)
+
+      -- the last row of its group
+      pub total-kept : goesOn rows j i ≡ false
+          → Kept now (to Idle) (map (endFor now w (signed more)) h) (o ++ endEffects h w (signed more))
+      unfolding shows inCopy
+      total-kept n =
+          let all : ofGroup j (take (i + 1) rows) ≡ ofGroup j rows =
+          last-own (s .site .V') rows (I .rowsFit) i j (so-far .0) (so-far .2) (goes-not rows j i n) in
+          shown-kept (ReadStand g c) e tt (λ i. refl) settled (call .0) (call .1) (call .3) (subst Looks (sym (call .2)) (looks-total j))
+          (signed more) (signed-tells more)
+          (rw (call .2, so-far .4 .1) (ap (λ (k : Sum). some (signed k)) (sym (more-is ∙ ap (sumOver (so-far .4 .0)) all))))
+
+      -- another row follows
+      pub next-kept : v .count ≤ twelveDigits → goesOn rows j i ≡ true → Kept now (to (ReadEnter (goalAt rows j (i + 1) more))) h o
+      next-kept few n =
+          let k = goes rows j i n in
+          let own : length (ofGroup j (take (i + 1) rows)) ≡ length (ofGroup j (take i rows)) + 1 =
+          ap length (own-next j rows i (so-far .0) (so-far .2)) ∙ length-append (ofGroup j (take i rows)) (rowAt rows i ∷ []) in
+          place-inv (ReadStand g c) (ReadEnter (goalAt rows j (i + 1) more)) e (λ i. refl) (calm (ReadStand g c) tt e) h o p skip refl (
+            register-fits (i + 1) (k .0),
+            doing-is (ReadStand g c) e .1,
+            (
+              k .0,
+              refl,
+              k .1,
+              omega (arith, sum-grows y (rowAt rows i) (v .count), so-far .3, own, few),
+              (so-far .4 .0, so-far .4 .1, more-is),
+            ),
+          )
+          (call .0, call .1, (call .2, call .3))
 
     pub on-kept : t < slotAt s c .low → Kept now (to (ReadStand g (slotAt s c .older))) h o
     on-kept z =
         let a = cur-is (ReadStand g c) e in
         let d = doing-is (ReadStand g c) e in
         place-inv (ReadStand g c) (ReadStand g (slotAt s c .older)) e (λ i. refl) (calm (ReadStand g c) tt e) h o p skip refl
-        (d .0, d .1, (d .2 .0, d .2 .1, On-on (s .slots) absent t c (d .2 .0 r) (chain x r) (I .linked r (d .0)) (d .2 .2) z))
+        (d .0, d .1, (d .2 .0, d .2 .1, On-on (s .slots) absent t c (d .2 .0 r) (chain x r) (I .linked r (d .0)) (d .2 .2) z), d .3)
         (a .0, a .1, a .2)

@@ -1,27 +1,30 @@
 -- Every hub that records leave after an accepted setup satisfies the invariant and the bounds, and its pools are sorted by high, by induction over
 -- the records; and what specs/Reached.antt and specs/Figure.antt claim of such a hub follows.
-use mathlib.Core.Path.{_≡_, refl, sym, _∙_, subst}
+use mathlib.Core.Path.{_≡_, refl, sym, ap, _∙_, subst}
 use mathlib.Core.List.{List, [], _∷_, _++_}
 use Prim.Native.Nat.{ℕ, zero, suc, _+_, _*_, _≤_, _<_}
 use native.Mathlib.Omega.{arith}
 use lib.Dec.{ltb, leb, eqb}
-use lib.ListN.{length, replicate}
+use lib.ListN.{length, getD, take, replicate, length-append}
 use borrow.Author.Tests as Tests
-use Rattle.model.specs.Store.{absent, lastClock, Reading, Slot, Range, OpenAnnounce, OpenPass, CloseWithdraw, Doing, Idle, PutPublish, PutStamp, PutHandIn, FlushTake, FlushRead, FlushFree, OnTime, ReadEnter, ReadStand, GetShow, startWorker, Site, Store, Hub, blank, up, workerAt, slotAt, place}
+use Rattle.model.specs.Store.{absent, lastClock, Reading, Slot, Range, OpenAnnounce, OpenPass, CloseWithdraw, Purpose, Single, Totaling, Doing, Idle, PutPublish, PutStamp, PutHandIn, FlushTake, FlushRead, FlushFree, OnTime, ReadEnter, ReadStand, GetShow, startWorker, Site, Store, Hub, blank, up, workerAt, slotAt, place}
+use Rattle.model.specs.Totals.{rowAt, ofGroup}
 use Rattle.model.specs.About.{about}
 use Rattle.model.specs.Rules.{Rules, Allowed, Ruled}
 use Rattle.model.specs.Answer.{Ok, Stepped, Applied}
 use Rattle.model.specs.Versions.{stamp}
 use Rattle.model.specs.Steps.{putPublish, putStamp, putHandIn, flushTake, flushSplit, flushRead, flushFree, openAnnounce, openPass, readEnter, readStand, getShow, closeWithdraw, timeStep, stepAt}
-use Rattle.model.specs.Record.{SetUp, Begin, Step, Decoded, Asks, Refuses, decode}
+use Rattle.model.specs.Record.{SetUp, Begin, Step, Decoded, Asks, Refuses, decode, rowsOf}
 use Rattle.model.specs.Apply.{refuse, fresh, setUp, terms, step, obey, applyDecoded, apply, applyRuled}
 use Rattle.model.specs.Demand.{Call, Plain, plain₀, events, observe, effects, All}
-use Rattle.model.specs.Reached.{sumBy, inHand, Bounds, SoundHub, Throughout, Sound}
+use Rattle.model.specs.Reached.{sumBy, inHand, TotalFits, Bounds, SoundHub, Throughout, Sound}
 use Rattle.model.specs.Figure.{HandByHigh, WorkerByHigh, StoreByHigh, FigureHub, AsPublished}
-use Rattle.model.proofs.Basic.{cond-both, All-map, All-nth, up-inj}
+use Rattle.model.proofs.Basic.{cond-both, All-from, All-map, All-nth, up-inj}
 use Rattle.model.proofs.Begin.{begin-by}
-use Rattle.model.proofs.Invariant.{Inv}
+use Rattle.model.proofs.Totals.{own-next, own-few, few, few-rows}
+use Rattle.model.proofs.Invariant.{ctx, Summed, PlaceHolds, Inv}
 use Rattle.model.proofs.View.{idle-is}
+use Rattle.model.proofs.Site.{SameSite, step-site}
 use Rattle.model.proofs.Record.{Holds, apply-holds}
 use Rattle.model.proofs.Setup.{Accepted, accepts, accepted-inv}
 use Rattle.model.proofs.Bounds.{Sized, Within, Fit, FitW, step-within, begin-within}
@@ -29,39 +32,6 @@ use Rattle.model.proofs.Total.{total}
 use Rattle.model.proofs.Full.{refuses-14}
 use Rattle.model.proofs.ByHigh.{step-byHigh, begin-byHigh, start-byHigh}
 use Rattle.model.proofs.Figure.{split-is-figure}
-
-------------------------------------------------------------------------
--- The site never changes
-
-abbrev SameSite : Store → Store → Type 0
-SameSite s t = t .site ≡ s .site
-
-put-site : (s : Store) (w r : ℕ) (x : Reading) (l : List ℕ) → SameSite s (putPublish s w r x l .store)
-unfolding putPublish stamp
-put-site s w r x [] = refl
-put-site s w r x (f ∷ l) = refl
-
-free-site : (s : Store) (w : ℕ) (m : List Range) → SameSite s (flushFree s w m .store)
-unfolding flushFree
-free-site s w [] = refl
-free-site s w (ρ ∷ m) = refl
-
-pub step-site : (s : Store) (w : ℕ) (d : Doing) → SameSite s (stepAt s w d .store)
-unfolding stepAt timeStep putStamp putHandIn flushTake flushRead flushSplit openAnnounce openPass readEnter readStand getShow closeWithdraw stamp
-step-site s w Idle = refl
-step-site s w (PutPublish r x) = put-site s w r x (s .free)
-step-site s w (PutStamp r c) = cond-both (SameSite s) (eqb (slotAt s c .high) absent) (stamp s r) s (λ u. refl) (λ u. refl)
-step-site s w (PutHandIn r c) = refl
-step-site s w FlushTake = refl
-step-site s w (FlushRead m ts) = cond-both (λ (q : Stepped). SameSite s (q .store)) (ltb (length ts) (s .site .P)) _ _ (λ u. refl) (λ u. refl)
-step-site s w (FlushFree m) = free-site s w m
-step-site s w (OnTime OpenAnnounce) = cond-both (λ (q : Stepped). SameSite s (q .store)) (eqb (s .clock) lastClock) _ _ (λ u. refl) (λ u. refl)
-step-site s w (OnTime OpenPass) = refl
-step-site s w (ReadEnter g) = refl
-step-site s w (ReadStand g c) =
-    cond-both (λ (q : Stepped). SameSite s (q .store)) (leb (slotAt s c .low) (workerAt s w .announced)) _ _ (λ u. refl) (λ u. refl)
-step-site s w (OnTime CloseWithdraw) = refl
-step-site s w (GetShow r) = refl
 
 ------------------------------------------------------------------------
 -- One record keeps the bounds, and the pools sorted
@@ -80,7 +50,7 @@ module _ (now : ℕ) (s : Store) (olds : List (List ℕ)) (h : List Call) (o : L
   decoded-bounded rules (Asks (Begin w c)) =
       begin-by Bounded rules s w c (λ k n. unchanged k)
       (λ t. (
-        place s w (terms c .first),
+        place s w (terms (s .site .rows) c .first),
         refl,
         refl,
         begin-within s pos W w c (idle-is (workerAt s w .doing) (t .idle)),
@@ -179,7 +149,7 @@ all-start b (suc n) h = (h, all-start b n h)
 
 -- the store that an accepted setup leaves
 pub reached-start : (rules : Rules) → Allowed rules → {hub : Hub} (A : Accepted rules hub)
-    → Reached rules (fresh (rules .batch (A .sizes .P)) (A .sizes) (A .row))
+    → Reached rules (fresh (rules .batch (A .sizes .P)) (A .sizes) (rowsOf (rules .list)) (A .row))
 unfolding fresh
 reached-start rules allowed A =
     let size = allowed (A .sizes .P) (A .fits .one≤P) (A .fits .P≤16) in
@@ -212,7 +182,7 @@ pub reached : (row : List Slot) (setup : Ruled) → Allowed (setup .rules) → a
 reached row b allowed e bs =
     let A = accepts (b .rules) row (b .bytes) e in
     subst (λ (q : Hub). Throughout (ReachedHub (b .rules)) (events q bs)) (sym (A .is))
-    (reached-all bs (fresh (b .rules .batch (A .sizes .P)) (A .sizes) (A .row)) (reached-start (b .rules) allowed A))
+    (reached-all bs (fresh (b .rules .batch (A .sizes .P)) (A .sizes) (rowsOf (b .rules .list)) (A .row)) (reached-start (b .rules) allowed A))
 
 ------------------------------------------------------------------------
 -- What specs/Reached.antt claims
@@ -236,6 +206,31 @@ module _ (b : ℕ) where
   pools-few [] t = omega arith
   pools-few (l ∷ q) t = omega (arith, t .0 .0, pools-few q (t .1))
 
+-- the sums of a total
+module _ {now : ℕ} {s : Store} {olds : List (List ℕ)} {h : List Call} {o : List ℕ} {p : Plain} (I : Inv now s olds h o p) where
+  summed-fits : (w r : ℕ) (y : Purpose) → Summed (s .site .rows) p w r y → TotalFits (s .site .rows) y
+  summed-fits w r Single a = tt
+  summed-fits w r (Totaling g i y) a =
+      let own = ap length (own-next g (s .site .rows) i (a .0) (a .2))
+      ∙ length-append (ofGroup g (take i (s .site .rows))) (rowAt (s .site .rows) i ∷ []) in (
+        a .0,
+        a .2,
+        omega (arith, a .3, own, own-few g (s .site .rows) (i + 1), few (s .site .V') 0 0 (s .site .rows) (I .rowsFit) (omega arith) g),
+      )
+
+  place-fits : (w t : ℕ) (d : Doing) → PlaceHolds (ctx s olds) p w t d → TotalFits (s .site .rows) (about d .purpose)
+  place-fits w t Idle a = tt
+  place-fits w t (PutPublish r x) a = tt
+  place-fits w t (PutStamp r c) a = tt
+  place-fits w t (PutHandIn r c) a = tt
+  place-fits w t FlushTake a = tt
+  place-fits w t (FlushRead m ts) a = tt
+  place-fits w t (FlushFree m) a = tt
+  place-fits w t (OnTime y) a = tt
+  place-fits w t (ReadEnter g) a = summed-fits w (g .register) (g .purpose) (a .2)
+  place-fits w t (ReadStand g c) a = summed-fits w (g .register) (g .purpose) (a .3)
+  place-fits w t (GetShow r) a = tt
+
 pub bounds : {rules : Rules} (s : Store) → Reached rules s → Bounds s
 bounds s R =
     record {
@@ -249,6 +244,12 @@ bounds s R =
       queued = R .within .pools;
       total = total (R .inv);
       pools = omega (arith, total (R .inv), pools-few (s .site .B) (s .queue) (R .within .pools));
+      rows = (R .inv .rowsFit, omega (arith, few-rows (s .site .V') 0 0 (s .site .rows) (R .inv .rowsFit) (omega arith) (omega arith)));
+      group = few (s .site .V') 0 0 (s .site .rows) (R .inv .rowsFit) (omega arith);
+      totals =
+          All-from (λ x. TotalFits (s .site .rows) (about (x .doing) .purpose)) startWorker (s .workers)
+          (λ w b. place-fits (R .inv) w (workerAt s w .announced) (workerAt s w .doing)
+          (R .inv .workers w (omega (arith, b, R .inv .workersLength)) .doing));
     }
 
 pub sound : Sound

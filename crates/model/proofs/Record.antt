@@ -15,6 +15,7 @@ use Rattle.model.specs.Apply.{refuse, setUp, isIdle, terms, begin, step,
 use Rattle.model.specs.Demand.{Call, observe, Performs, StepTaken, Plain, endEffects, stepEffects, effects, occurrences, FreesNothingNeeded, TookBy}
 use Rattle.model.proofs.Basic.{cond-both}
 use Rattle.model.proofs.Begin.{begin-by}
+use Rattle.model.proofs.Site.{SameSite, step-site}
 use Rattle.model.proofs.Invariant.{NoneRunning, Inv}
 use Rattle.model.proofs.View.{idle-is}
 use Rattle.model.proofs.Places.{Kept, none-more, cur-is, begin-kept}
@@ -25,6 +26,7 @@ use Rattle.model.proofs.Step.{NotFreed, inv-skip, step-after, change-st
 pub record Holds (now : ℕ) (s : Store) (d : Decoded) (h : List Call) (o : List ℕ) (a : Applied) : Type 0 where
   pub store : Store
   pub is : a .hub ≡ up store
+  pub site : SameSite s store
   pub kept : Kept now store (observe now d (a .answer) h) (o ++ effects h d (up s) (a .answer) (up store))
   pub safe : FreesNothingNeeded (up s) (a .answer)
   pub frees : (c : ℕ) → a .answer ≡ Freed c → (occurrences c (s .free) ≡ 0) × (0 < occurrences c (store .free))
@@ -37,6 +39,7 @@ module _ (now : ℕ) (s : Store) (olds : List (List ℕ)) (h : List Call) (o : L
       record {
         store = s;
         is = refl;
+        site = refl;
         kept = none-more o _ f (subst (λ (q : List Call). Kept now s q o) (sym e) (inv-skip now s olds h o p I));
         safe = λ c z. absurd (subst NotFreed z tt);
         frees = λ c z. absurd (subst NotFreed z tt);
@@ -53,12 +56,13 @@ module _ (now : ℕ) (s : Store) (olds : List (List ℕ)) (h : List Call) (o : L
       begin-by (Holds now s (Asks (Begin w c)) h o) rules s w c (λ k n. not-begun w c k)
       (λ t.
       record {
-        store = place s w (terms c .first);
+        store = place s w (terms (s .site .rows) c .first);
         is = refl;
+        site = refl;
         kept =
             none-more o [] refl
             (begin-kept now s olds h o p I w (Tests.ltb-true w (s .site .P) (t .worker)) c (idle-is (workerAt s w .doing) (t .idle))
-            (t .register) (t .opens) (t .time));
+            (t .register) (t .group) (t .opens) (t .time));
         safe = λ i z. absurd (subst NotFreed z tt);
         frees = λ i z. absurd (subst NotFreed z tt);
         stays = λ i z. inl z;
@@ -73,6 +77,7 @@ module _ (now : ℕ) (s : Store) (olds : List (List ℕ)) (h : List Call) (o : L
       record {
         store = stepAt s w (workerAt s w .doing) .store;
         is = refl;
+        site = step-site s w (workerAt s w .doing);
         kept = A .kept;
         safe = A .safe;
         frees = A .frees;

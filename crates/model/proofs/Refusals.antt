@@ -10,12 +10,13 @@ use Rattle.model.specs.Store.{lastClock, Reading, Slot, Range, OpenAnnou
 use Rattle.model.specs.Rules.{Rules}
 use Rattle.model.specs.Answer.{Going, Done, No, Stepped, Applied}
 use Rattle.model.specs.Steps.{putPublish, putStamp, putHandIn, flushTake, flushSplit, flushRead, flushFree, openAnnounce, openPass, answerFor, readEnter, readStand, getShow, closeWithdraw, timeStep, stepAt}
-use Rattle.model.specs.Record.{Operation, Sizes, SetUp, Begin, Step, Decoded, Asks, Refuses, decode, commandOf, unusedZero}
+use Rattle.model.specs.Record.{Operation, Sizes, SetUp, Begin, Step, Decoded, Asks, Refuses, decode, commandOf, unusedZero, listFits}
 use Rattle.model.specs.Apply.{inRanges, setUp, isIdle, begin, step, takesStep, obey, applyDecoded, apply}
 use Rattle.model.specs.Demand.{occurrences}
 use Rattle.model.specs.Refusals.{onReading, atStep, idled, Refused, EndsWell, Demand1}
 use Rattle.model.proofs.Basic.{cond-both}
 use Rattle.model.proofs.Begin.{begin-by}
+use Rattle.model.proofs.Found.{found-by}
 
 -- a refusal on reading
 on-reading : (h : Hub) (d : Decoded) (k : ℕ) → takesStep h d ≡ false → 0 < occurrences k onReading → Refused h d k h
@@ -71,7 +72,10 @@ module _ (s : Store) (w : ℕ) (wb : ltb w (s .site .P) ≡ true) where
       cond-both Well (eqb (s .clock) lastClock) _ _ (λ u. at-step 15 (takes (OnTime OpenAnnounce) e) (omega arith)) (λ u. tt)
   step-well (OnTime OpenPass) e = tt
   step-well (ReadEnter g) e = tt
-  step-well (ReadStand g c) e = cond-both Well (leb (slotAt s c .low) (workerAt s w .announced)) _ _ (λ u. tt) (λ u. tt)
+  step-well (ReadStand g c) e =
+      cond-both Well (leb (slotAt s c .low) (workerAt s w .announced)) _ _
+      (λ u. found-by Well s w (g .purpose) (slotAt s c .value) (λ a T. rw (T .refusal) tt) (at-step 18 (takes (ReadStand g c) e) (omega arith)) (λ g′. tt))
+      (λ u. tt)
   step-well (OnTime CloseWithdraw) e = tt
   step-well (GetShow r) e = tt
 
@@ -84,7 +88,7 @@ Ends h d a = EndsWell h d (a .answer) (a .hub)
 setup-well : (rules : Rules) (row : List Slot) (z : Sizes) → Ends (blank row) (Asks (SetUp z)) (setUp rules (blank row) z)
 unfolding setUp takesStep occurrences
 setup-well rules row z =
-    cond-both (Ends (blank row) (Asks (SetUp z))) (inRanges z && leb (z .N) (length row)) _ _ (λ e. tt)
+    cond-both (Ends (blank row) (Asks (SetUp z))) (inRanges z && leb (z .N) (length row) && listFits (z .V') (rules .list)) _ _ (λ e. tt)
     (λ e. on-reading (blank row) (Asks (SetUp z)) 5 refl (omega arith))
 
 begin-well : (rules : Rules) (s : Store) (w : ℕ) (c : Operation) → Ends (up s) (Asks (Begin w c)) (begin rules s w c)
@@ -101,7 +105,7 @@ decode-read : (b : List ℕ) → Read (decode b)
 unfolding decode occurrences
 decode-read b =
     cond-both Read (ltb (length b) 16) (Refuses 6) _ (λ e. refusal 6 (omega arith))
-    (λ e. cond-both Read (ltb 7 (getD b 0 0)) (Refuses 1) _ (λ f. refusal 1 (omega arith))
+    (λ e. cond-both Read (ltb 8 (getD b 0 0)) (Refuses 1) _ (λ f. refusal 1 (omega arith))
     (λ f. cond-both Read (unusedZero b (commandOf b (getD b 0 0))) (Asks (commandOf b (getD b 0 0))) (Refuses 2) (λ g. tt)
     (λ g. refusal 2 (omega arith))))
   where

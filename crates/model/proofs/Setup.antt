@@ -3,17 +3,18 @@ use mathlib.Core.Path.{_≡_, refl, sym, ap, _∙_, subst}
 use mathlib.Core.Bool.{Bool, true, false, cond, _&&_}
 use mathlib.Core.Logic.{_⊎_, inl, inr, ⊎-elim}
 use mathlib.Core.List.{List, [], _∷_}
-use Prim.Native.Nat.{ℕ, zero, suc, _+_, _-_, _≤_, _<_}
+use Prim.Native.Nat.{ℕ, zero, suc, _+_, _-_, _%_, _≤_, _<_}
 use native.Mathlib.Nat.{not-suc-le-zero, le-of-suc-le-suc}
 use native.Mathlib.Omega.{arith}
-use lib.Dec.{ltb, leb}
+use lib.Dec.{ltb, leb, eqb}
 use lib.Seq.{length-take-le}
 use lib.ListN.{length, getD, take, replicate, length-replicate, getD-replicate}
 use borrow.Author.Tests as Tests
 use Rattle.model.specs.Store.{absent, lastClock, reading₀, Slot, startWorker, Hub, blank, up, upFrom}
 use Rattle.model.specs.Rules.{Rules}
 use Rattle.model.specs.Answer.{Ok, Applied}
-use Rattle.model.specs.Record.{Sizes, SetUp, Begin, Step, Decoded, Asks, Refuses, decode}
+use Rattle.model.specs.Totals.{follow}
+use Rattle.model.specs.Record.{Sizes, SetUp, Begin, Step, Decoded, Asks, Refuses, decode, rowsOf, listFits}
 use Rattle.model.specs.Apply.{refuse, inRanges, firstSlots, fresh, setUp, obey, applyDecoded, apply}
 use Rattle.model.specs.Demand.{plain₀, occurrences, Ordered, RegistersAgree}
 use Rattle.model.specs.Reached.{sumBy}
@@ -83,7 +84,7 @@ sum-replicate f a e zero = refl
 sum-replicate f a e (suc n) = omega (arith, e, sum-replicate f a e n)
 
 -- what `inRanges` and the row's length give
-module _ (size : ℕ) (z : Sizes) (row : List Slot) (long : z .N ≤ length row) (v≤n : z .V' ≤ z .N) (n≤ : z .N ≤ 2048) (c< : z .clock < absent) where
+module _ (size : ℕ) (z : Sizes) (rows : List ℕ) (row : List Slot) (rf : follow (z .V') 0 0 rows ≡ true) (long : z .N ≤ length row) (v≤n : z .V' ≤ z .N) (n≤ : z .N ≤ 2048) (c< : z .clock < absent) where
   abbrev p : ℕ
   p = z .P
 
@@ -99,7 +100,7 @@ module _ (size : ℕ) (z : Sizes) (row : List Slot) (long : z .N ≤ length row)
   abbrev olds : List (List ℕ)
   olds = replicate v []
 
-  pub start-inv : Inv 0 (fresh size z row) olds [] [] plain₀
+  pub start-inv : Inv 0 (fresh size z rows row) olds [] [] plain₀
   unfolding fresh occurrences sumBy cnt
   start-inv =
       record {
@@ -120,7 +121,7 @@ module _ (size : ℕ) (z : Sizes) (row : List Slot) (long : z .N ≤ length row)
             (ap (λ (z : Slot). z .high) (at r b), inl (omega (arith, ap (λ (z : Slot). z .low) (at r b)), ap (λ (z : Slot). z .value) (at r b), tt));
         queue = tt;
         workers =
-            λ w b. subst (Works (ctx (fresh size z row) olds) [] [] plain₀ w) (sym (getD-replicate p w startWorker startWorker b))
+            λ w b. subst (Works (ctx (fresh size z rows row) olds) [] [] plain₀ w) (sym (getD-replicate p w startWorker startWorker b))
             (record {
               pool = tt;
               announced = inl refl;
@@ -139,6 +140,7 @@ module _ (size : ℕ) (z : Sizes) (row : List Slot) (long : z .N ≤ length row)
             ));
         outside = λ w b i z. absurd (not-suc-le-zero z);
         linear = first-lin;
+        rowsFit = rf;
       }
     where
       none-pend : (i : ℕ) → pend i (replicate p startWorker) [] ≡ 0
@@ -185,13 +187,13 @@ module _ (size : ℕ) (z : Sizes) (row : List Slot) (long : z .N ≤ length row)
       top-is : (r : ℕ) → r < v → getD (upFrom 0 v) r absent ≡ r
       top-is r b = omega (arith, up-at 0 v r b)
 
-      chain-is : (r : ℕ) → r < v → chain (ctx (fresh size z row) olds) r ≡ r ∷ []
-      chain-is r b = ap (λ (i : ℕ). i ∷ old (ctx (fresh size z row) olds) r) (top-is r b) ∙ ap (λ (l : List ℕ). r ∷ l) (getD-replicate v r [] [] b)
+      chain-is : (r : ℕ) → r < v → chain (ctx (fresh size z rows row) olds) r ≡ r ∷ []
+      chain-is r b = ap (λ (i : ℕ). i ∷ old (ctx (fresh size z rows row) olds) r) (top-is r b) ∙ ap (λ (l : List ℕ). r ∷ l) (getD-replicate v r [] [] b)
 
       at : (r : ℕ) → r < v → nth (firstSlots v (take n row)) r ≡ record { value = reading₀; low = 0; high = absent; older = absent; newer = absent }
       at r b = first-at v (take n row) r b (omega (arith, length-take-le n row long))
 
-      first-lin : Lin 0 [] [] plain₀
+      first-lin : Lin rows 0 [] [] plain₀
       first-lin =
           record {
             isOrder =
@@ -245,9 +247,10 @@ in-ranges z e =
 pub record Accepted (rules : Rules) (hub : Hub) : Type 0 where
   pub sizes : Sizes
   pub row : List Slot
-  pub is : hub ≡ up (fresh (rules .batch (sizes .P)) sizes row)
+  pub is : hub ≡ up (fresh (rules .batch (sizes .P)) sizes (rowsOf (rules .list)) row)
   pub long : sizes .N ≤ length row
   pub fits : InRanges sizes
+  pub rows : follow (sizes .V') 0 0 (rowsOf (rules .list)) ≡ true
 
 abbrev Accepts : Rules → Applied → Type 0
 Accepts rules a = a .answer ≡ Ok → Accepted rules (a .hub)
@@ -256,17 +259,19 @@ refuses : (rules : Rules) (h : Hub) (k : ℕ) → Accepts rules (refuse h k)
 refuses rules h k e = absurd (let z : _≡_ {A = ℕ} 0 1 = cc in omega arith)
 
 obeys : (rules : Rules) (row : List Slot) (d : Decoded) → Accepts rules (applyDecoded rules (blank row) d)
-unfolding applyDecoded obey setUp
+unfolding applyDecoded obey setUp listFits
 obeys rules row (Asks (SetUp z)) =
-    cond-both (Accepts rules) (inRanges z && leb (z .N) (length row)) _ _
+    cond-both (Accepts rules) (inRanges z && leb (z .N) (length row) && listFits (z .V') (rules .list)) _ _
     (λ e o.
-    let w = and-both (inRanges z) (leb (z .N) (length row)) e in
+    let t = and-both (inRanges z && leb (z .N) (length row)) _ e in
+    let w = and-both (inRanges z) (leb (z .N) (length row)) (t .0) in
     record {
       sizes = z;
       row = row;
       is = refl;
       long = Tests.leb-true (z .N) (length row) (w .1);
       fits = in-ranges z (w .0);
+      rows = and-both (eqb (length (rules .list) % 4) 0) _ (t .1) .1;
     })
     (λ e. refuses rules (blank row) 5)
 obeys rules row (Asks (Begin w o)) = refuses rules (blank row) 8
@@ -280,6 +285,6 @@ accepts rules row b = obeys rules row (decode b)
 
 -- its store meets the invariant
 pub accepted-inv : (rules : Rules) {hub : Hub} (A : Accepted rules hub)
-    → Inv 0 (fresh (rules .batch (A .sizes .P)) (A .sizes) (A .row)) (replicate (A .sizes .V') []) [] [] plain₀
+    → Inv 0 (fresh (rules .batch (A .sizes .P)) (A .sizes) (rowsOf (rules .list)) (A .row)) (replicate (A .sizes .V') []) [] [] plain₀
 accepted-inv rules A =
-    start-inv (rules .batch (A .sizes .P)) (A .sizes) (A .row) (A .long) (A .fits .V≤N) (A .fits .N≤2048) (omega (arith, A .fits .clock≤last))
+    start-inv (rules .batch (A .sizes .P)) (A .sizes) (rowsOf (rules .list)) (A .row) (A .rows) (A .long) (A .fits .V≤N) (A .fits .N≤2048) (omega (arith, A .fits .clock≤last))

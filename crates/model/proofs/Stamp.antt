@@ -169,10 +169,10 @@ module _ (now : ℕ) (s : Store) (olds : List (List ℕ)) (h : List Call) (o : L
       g .3,
     )
 
-    lin : Lin now h o′ p′
+    lin : Lin (s .site .rows) now h o′ p′
     unfolding feed
     lin =
-        subst (λ (q : Plain). Lin now h o′ q) (ap (λ (q : Operation). feed p (callAt h k .worker) q) kCall)
+        subst (λ (q : Plain). Lin (s .site .rows) now h o′ q) (ap (λ (q : Operation). feed p (callAt h k .worker) q) kCall)
         (lin-effect (I .linear) k (kOpen .within) (kOpen .unfinished) kNot)
 
     fine-own : Fine sl′ ck (p′ .registers r) (chain x r)
@@ -211,6 +211,7 @@ module _ (now : ℕ) (s : Store) (olds : List (List ℕ)) (h : List Call) (o : L
           tick = omega arith;
           reg = λ q z. z;
           nhd = refl;
+          sameRows = refl;
           good = λ ρ z. good ρ;
           times′ = λ v z. inl refl;
           mem = λ q i z u v. v;
@@ -340,6 +341,7 @@ module _ (now : ℕ) (s : Store) (olds : List (List ℕ)) (h : List Call) (o : L
                 stamper = owner;
                 outside = I .outside;
                 linear = lin;
+                rowsFit = I .rowsFit;
               };
           low = omega (arith, low-n);
         }

@@ -3,6 +3,7 @@ use mathlib.Core.Path.{_≡_, refl, sym, ap, _∙_, subst}
 use mathlib.Core.Bool.{cond}
 use mathlib.Core.Logic.{_≢_, inl, ⊎-elim}
 use mathlib.Core.List.{List, [], _∷_, _++_, map, append-assoc}
+use mathlib.Core.Option.{some}
 use Prim.Native.Nat.{ℕ, _≤_, _<_}
 use native.Mathlib.Omega.{arith}
 use lib.Dec.{eqb}
@@ -13,13 +14,13 @@ use Rattle.model.specs.Record.{Operation}
 use Rattle.model.specs.Demand.{Ending, FinishedAt, Call, endFor, Plain, feed, shows, changeEffects, atEnd, endEffects, Stands, Agrees, callAt}
 use Rattle.model.proofs.Basic.{eq-cases, All-get}
 use Rattle.model.proofs.Effect.{own-is, change-none}
-use Rattle.model.proofs.Linear.{answerFor-end, answerFor-finishes}
+use Rattle.model.proofs.Found.{answerFor-tells}
 use Rattle.model.proofs.Slots.{nth, stamp-value}
 use Rattle.model.proofs.Chain.{Past}
 use Rattle.model.proofs.Invariant.{ctx, old, Snap, PlaceHolds, Inv}
 use Rattle.model.proofs.Stamp.{Stamped, stamp-inv}
 use Rattle.model.proofs.History.{hist-skip, hist-show, end-shut}
-use Rattle.model.proofs.Places.{Kept, none-more, one-more, place-inv, doing-is, cur-is, calm, fine-high}
+use Rattle.model.proofs.Places.{Kept, none-more, one-more, place-inv, doing-is, cur-is, calm, fine-high, Looks, looks-get, shown-kept}
 
 -- the covered version is stamped: on to the hand-in
 cover-on : (now : ℕ) (s : Store) (olds : List (List ℕ)) (h : List Call) (o : List ℕ) (p : Plain) → Inv now s olds h o p → (w : ℕ) → w < s .site .P
@@ -69,7 +70,7 @@ module _ (now : ℕ) (s : Store) (olds : List (List ℕ)) (h : List Call) (o : L
       (place-inv now (stamp s r) olds h (T .o) (T .p) (T .inv) w wb (ReadEnter g) (ReadStand g (newestOf s r)) e (λ i. refl)
       (calm now (stamp s r) olds h (T .o) (T .p) (T .inv) w wb (ReadEnter g) tt e)
       h (T .o) (T .p) (hist-skip now w h (T .o) (T .p) (T .inv .linear)) refl
-      (d .0, d .1, (S .0, S .1, inl (refl, S .2 r (d .0))))
+      (d .0, d .1, (S .0, S .1, inl (refl, S .2 r (d .0))), D .2)
       (a .0, a .1, a .2))
     where
       r : ℕ
@@ -81,29 +82,24 @@ module _ (now : ℕ) (s : Store) (olds : List (List ℕ)) (h : List Call) (o : L
       T : Stamped now s r olds h o
       T = stamp-inv now s olds h o p I r (d .0)
 
+      D : PlaceHolds (ctx (stamp s r) olds) (T .p) w (workerAt s w .announced) (ReadEnter g)
+      D = doing-is now (stamp s r) olds h (T .o) (T .p) (T .inv) w wb (ReadEnter g) e
+
       S : Snap (ctx (stamp s r) olds) (T .p) w (workerAt s w .announced)
       S = T .inv .workers w wb .snapshot (d .1)
 
   pub show-kept : (r : ℕ) → workerAt s w .doing ≡ GetShow r
       → Kept now (place (stamp s r) w Idle) (map (endFor now w (answerFor (slotAt s (newestOf s r) .value))) h)
       (o ++ (changeEffects h s (stamp s r) ++ endEffects h w (answerFor (slotAt s (newestOf s r) .value))))
-  unfolding stamp feed shows atEnd answerFor
+  unfolding stamp shows
   show-kept r e =
       let a = cur-is now (stamp s r) olds h (T .o) (T .p) (T .inv) w wb (GetShow r) e in
       subst (Kept now (place (stamp s r) w Idle) (map (endFor now w (answerFor v)) h))
       (append-assoc o (changeEffects h s (stamp s r)) (endEffects h w (answerFor v)))
       (subst (λ (q : List ℕ). Kept now (place (stamp s r) w Idle) (map (endFor now w (answerFor v)) h) (q ++ endEffects h w (answerFor v))) (T .grown)
-      (one-more (T .o) (endEffects h w (answerFor v)) (a .0) (own-is (a .1) (answerFor v) (answerFor-finishes v) (ap atEnd (a .2 .0)))
-      (place-inv now (stamp s r) olds h (T .o) (T .p) (T .inv) w wb (GetShow r) Idle e (λ i. refl)
-      (calm now (stamp s r) olds h (T .o) (T .p) (T .inv) w wb (GetShow r) tt e)
-      _ (T .o ++ (a .0 ∷ [])) (feed (T .p) w (callAt h (a .0) .operation))
-      (hist-show now w h (T .o) (T .p) (T .inv .linear) (answerFor v) (a .0) (a .1) (a .2 .1)
-      (subst (λ (q : Ending). Stands q 1) (sym (answerFor-end now v)) refl)
-      (subst (λ (q : Ending). Agrees (callAt h (a .0) .operation) q (shows (T .p) w (callAt h (a .0) .operation))) (sym (answerFor-end now v))
-      (subst (λ (q : Operation). Agrees q (FinishedAt now (answerFor v)) (shows (T .p) w q)) (sym (a .2 .0))
-      (T .p .registers r, refl, ap answerFor val)))
-      (λ i. rw (a .2 .0)) (λ i n. rw (a .2 .0)))
-      (rw (a .2 .0)) (d .1) (end-shut now w h (T .o) (T .p) (T .inv .linear) (answerFor v) (a .0) (a .1)))))
+      (shown-kept now (stamp s r) olds h (T .o) (T .p) (T .inv) w wb (GetShow r) e tt (λ i. refl) (d .1) (a .0) (a .1) (a .2 .1)
+      (subst Looks (sym (a .2 .0)) (looks-get r)) (answerFor v) (answerFor-tells v)
+      (rw (a .2 .0) (ap (λ (q : Reading). some (answerFor q)) (sym val)))))
     where
       v : Reading
       v = slotAt s (newestOf s r) .value

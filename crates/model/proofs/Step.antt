@@ -10,20 +10,23 @@ use lib.Dec.{ltb, leb, eqb}
 use lib.ListN.{length}
 use lib.Seq.{getD-set-same}
 use borrow.Author.Tests as Tests
-use Rattle.model.specs.Store.{absent, Reading, Slot, Range, OpenAnnounce, OpenPass, CloseWithdraw, Doing, Idle, PutPublish, PutStamp, PutHandIn, FlushTake, FlushRead, FlushFree, OnTime, ReadEnter, ReadStand, GetShow, Store, workerAt, slotAt, newestOf, holders, rangeOf, withWorker, place, up}
+use Rattle.model.specs.Store.{absent, Reading, Slot, Range, OpenAnnounce, OpenPass, CloseWithdraw, Purpose, Single, Totaling, Goal, Doing, Idle, PutPublish, PutStamp, PutHandIn, FlushTake, FlushRead, FlushFree, OnTime, ReadEnter, ReadStand, GetShow, Store, workerAt, slotAt, newestOf, holders, rangeOf, withWorker, place, up}
+use Rattle.model.specs.Totals.{goesOn}
+use Rattle.model.specs.Rules.{twelveDigits}
 use Rattle.model.specs.Answer.{Answer, Going, Freed, Done, No, Stepped, said}
 use Rattle.model.specs.Versions.{stamp}
-use Rattle.model.specs.Steps.{putPublish, putStamp, putHandIn, flushTake, flushSplit, flushRead, flushFree, openAnnounce, openPass, answerFor, readEnter, readStand, getShow, closeWithdraw, timeStep, stepAt}
+use Rattle.model.specs.Steps.{putPublish, putStamp, putHandIn, flushTake, flushSplit, flushRead, flushFree, openAnnounce, openPass, answerFor, totalFound, found, readEnter, readStand, getShow, closeWithdraw, timeStep, stepAt}
 use Rattle.model.specs.Demand.{Call, endFor, Plain, changeEffects, endEffects, occurrences, FreesNothingNeeded, TookIn}
 use Rattle.model.proofs.Basic.{hit-same, hit-other, eq-cases, cond-both}
 use Rattle.model.proofs.Slots.{nth, link-new, unlink-part}
 use Rattle.model.proofs.Effect.{change-none, change-same}
-use Rattle.model.proofs.Linear.{lin-skip, answerFor-ends}
+use Rattle.model.proofs.Found.{Tells, answerFor-tells, signed-tells}
+use Rattle.model.proofs.Linear.{lin-skip}
 use Rattle.model.proofs.Invariant.{Inv, inDoing, NoneRunning}
 use Rattle.model.proofs.History.{ended-none}
 use Rattle.model.proofs.Apart.{below≤1, free-in}
 use Rattle.model.proofs.Stamp.{Stamped, stamp-inv}
-use Rattle.model.proofs.Places.{Kept, none-more, doing-is, cur-is, refuse-put, refuse-open, flush-done, hand-done, hand-full, take-kept, ask-kept, split-kept, announce-kept, withdraw-kept, found-kept, on-kept}
+use Rattle.model.proofs.Places.{Kept, none-more, doing-is, cur-is, refuse-put, refuse-open, flush-done, hand-done, hand-full, take-kept, ask-kept, split-kept, announce-kept, withdraw-kept, found-kept, over-kept, total-kept, next-kept, on-kept}
 use Rattle.model.proofs.Stamping.{cover-kept, enter-kept, show-kept}
 use Rattle.model.proofs.Link.{link-kept, linked-store, highs, work-f}
 use Rattle.model.proofs.Unlink.{unlink-kept, freed-store, not-needed, c-pend}
@@ -58,10 +61,6 @@ quiet K e n =
       stays = λ c z. inl (subst (λ (l : List ℕ). 0 < occurrences c l) (sym e) z);
     }
 
-answerFor-frees-not : (x : Reading) → NotFreed (answerFor x)
-unfolding answerFor
-answerFor-frees-not x = tt
-
 -- the slots and the clock are as they were
 pub change-still : (h : List Call) (s t : Store) → t .clock ≡ s .clock → t .slots ≡ s .slots → changeEffects h s t ≡ []
 change-still h s t k e = change-none h s t k (λ v r c z y. ap (λ (l : List Slot). nth l c .high) e)
@@ -85,12 +84,20 @@ module _ {now : ℕ} (s : Store) {w : ℕ} {h : List Call} {o : List ℕ} where
       quiet (subst (λ (q : List ℕ). Kept now t (seen now w a h) (o ++ q))
       (sym (ap (λ (q : List ℕ). changeEffects h s t ++ q) y ∙ append-nil (changeEffects h s t))) K) e n
 
-  -- a step that shows a reading
-  shows-it : (x : Reading) (t : Store) → Kept now t (map (endFor now w (answerFor x)) h) (o ++ (changeEffects h s t ++ endEffects h w (answerFor x)))
-      → t .free ≡ s .free → After now s w h o (record { store = t; answer = answerFor x })
-  shows-it x t K e =
-      quiet (subst (λ (b : Bool). Kept now t (cond b (map (endFor now w (answerFor x)) h) h)
-      (o ++ (changeEffects h s t ++ endEffects h w (answerFor x)))) (sym (answerFor-ends x)) K) e (answerFor-frees-not x)
+  -- a step that shows something
+  shows-it : (a : Answer) → Tells a → (t : Store) → Kept now t (map (endFor now w a) h) (o ++ (changeEffects h s t ++ endEffects h w a))
+      → t .free ≡ s .free → After now s w h o (record { store = t; answer = a })
+  shows-it a T t K e =
+      quiet (subst (λ (b : Bool). Kept now t (cond b (map (endFor now w a) h) h) (o ++ (changeEffects h s t ++ endEffects h w a)))
+      (sym (T .ends)) K) e (subst IsNone (sym (T .freed)) tt)
+
+  -- and no more than that
+  shows-only : (a : Answer) → Tells a → Kept now (place s w Idle) (map (endFor now w a) h) (o ++ endEffects h w a)
+      → After now s w h o (record { store = place s w Idle; answer = a })
+  shows-only a T K =
+      shows-it a T (place s w Idle)
+      (subst (λ (q : List ℕ). Kept now (place s w Idle) (map (endFor now w a) h) (o ++ (q ++ endEffects h w a)))
+      (sym (change-still h s (place s w Idle) refl refl)) K) refl
 
 own-going : (h : List Call) (w : ℕ) → endEffects h w Going ≡ []
 unfolding endEffects
@@ -127,6 +134,7 @@ inv-skip now s olds h o p I =
             stamper = I .stamper;
             outside = I .outside;
             linear = lin-skip (I .linear);
+            rowsFit = I .rowsFit;
           };
     }
 
@@ -238,6 +246,18 @@ module _ (now : ℕ) (s : Store) (olds : List (List ℕ)) (h : List Call) (o : L
         stays = λ c z. inl (omega (arith, z));
       }
 
+  found-after : (g : Goal) (c : ℕ) → workerAt s w .doing ≡ ReadStand g c → slotAt s c .low ≤ workerAt s w .announced
+      → (y : Purpose) → g .purpose ≡ y → After now s w h o (found s w y (slotAt s c .value))
+  unfolding found totalFound
+  found-after g c e z Single q = shows-only s _ (answerFor-tells _) (found-kept now s olds h o p I w wb g c e z q)
+  found-after g c e z (Totaling j i y) q =
+      cond-both (After now s w h o) (leb (slotAt s c .value .count) twelveDigits) _ _
+      (λ few. cond-both (After now s w h o) (goesOn (s .site .rows) j i) _ _
+      (λ n. plain s _ Going refl refl (own-going h w)
+      (next-kept now s olds h o p I w wb g c e j i y q z (Tests.leb-true (slotAt s c .value .count) twelveDigits few) n) refl tt)
+      (λ n. shows-only s _ (signed-tells _) (total-kept now s olds h o p I w wb g c e j i y q z n)))
+      (λ many. plain s _ (No 18) refl refl (own-refused h w 18) (over-kept now s olds h o p I w wb g c e j i y q z) refl tt)
+
   pub step-after : (d : Doing) → workerAt s w .doing ≡ d → After now s w h o (stepAt s w d)
   unfolding stepAt timeStep putStamp flushTake flushRead flushSplit openAnnounce openPass readEnter readStand getShow closeWithdraw stamp
   step-after Idle e =
@@ -261,12 +281,8 @@ module _ (now : ℕ) (s : Store) (olds : List (List ℕ)) (h : List Call) (o : L
   step-after (ReadEnter g) e = spreads s _ Going (own-going h w) (enter-kept now s olds h o p I w wb g e) refl tt
   step-after (ReadStand g c) e =
       cond-both (After now s w h o) (leb (slotAt s c .low) (workerAt s w .announced)) _ _
-      (λ u. shows-it s (slotAt s c .value) (place s w Idle)
-      (subst (λ (q : List ℕ). Kept now (place s w Idle) (map (endFor now w (answerFor (slotAt s c .value))) h)
-      (o ++ (q ++ endEffects h w (answerFor (slotAt s c .value))))) (sym (change-still h s (place s w Idle) refl refl))
-      (found-kept now s olds h o p I w wb g c e (Tests.leb-true (slotAt s c .low) (workerAt s w .announced) u)))
-      refl)
+      (λ u. found-after g c e (Tests.leb-true (slotAt s c .low) (workerAt s w .announced) u) (g .purpose) refl)
       (λ u. plain s _ Going refl refl (own-going h w) (on-kept now s olds h o p I w wb g c e
       (Tests.leb-false (slotAt s c .low) (workerAt s w .announced) u)) refl tt)
   step-after (OnTime CloseWithdraw) e = ended s _ Done refl refl (withdraw-kept now s olds h o p I w wb e) refl tt
-  step-after (GetShow r) e = shows-it s (slotAt s (newestOf s r) .value) (place (stamp s r) w Idle) (show-kept now s olds h o p I w wb r e) refl
+  step-after (GetShow r) e = shows-it s _ (answerFor-tells _) (place (stamp s r) w Idle) (show-kept now s olds h o p I w wb r e) refl

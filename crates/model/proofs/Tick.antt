@@ -123,7 +123,7 @@ module _ (now : ℕ) (s : Store) (olds : List (List ℕ)) (h : List Call) (o : L
     pub o′ : List ℕ
     pub grown : o′ ≡ o ++ map (runningOf h) (filterBelow (takes s s⁺) m)
     pub p′ : Plain
-    pub linear : Lin now h o′ p′
+    pub linear : Lin (s .site .rows) now h o′ p′
     pub registers : (r : ℕ) → p′ .registers r ≡ p .registers r
     pub did : (v : ℕ) → v < s .site .P → v < m → Ready v
         → ((f : ℕ → Reading) × (p′ .copy v ≡ some f) × ((r : ℕ) → f r ≡ p .registers r)) × ((k : ℕ) → Running h v k → occurrences k o′ ≡ 1)
@@ -172,7 +172,7 @@ module _ (now : ℕ) (s : Store) (olds : List (List ℕ)) (h : List Call) (o : L
                 ∙ ap (λ (t : Bool). o ++ map (runningOf h) (filterBelow (takes s s⁺) m ++ cond t (m ∷ []) [])) (sym (takes-ready m g));
             p′ = p⁺;
             linear =
-                subst (λ (q : Plain). Lin now h o⁺ q) (ap (λ (i : ℕ). feed (T .p′) i (callAt h k .operation)) (K .own) ∙ ap (feed (T .p′) m) (F .0))
+                subst (λ (q : Plain). Lin (s .site .rows) now h o⁺ q) (ap (λ (i : ℕ). feed (T .p′) i (callAt h k .operation)) (K .own) ∙ ap (feed (T .p′) m) (F .0))
                 (lin-effect (T .linear) k (K .within) (K .unfinished) k-not);
             registers = λ r. regs⁺ (T .p′) r ∙ T .registers r;
             did = λ v vb z y.
@@ -251,6 +251,7 @@ module _ (now : ℕ) (s : Store) (olds : List (List ℕ)) (h : List Call) (o : L
       stamper = I .stamper;
       outside = I .outside;
       linear = T .linear;
+      rowsFit = I .rowsFit;
     },
     T .grown,
   )
@@ -303,6 +304,7 @@ module _ (now : ℕ) (s : Store) (olds : List (List ℕ)) (h : List Call) (o : L
                 tick = omega arith;
                 reg = λ q z. z;
                 nhd = refl;
+                sameRows = refl;
                 good = λ ρ z. good ρ;
                 times′ = λ i z. inl refl;
                 mem = λ q c z u k. k;

@@ -6,7 +6,7 @@ use mathlib.Core.List.{List, [], _∷_}
 use Prim.Native.Nat.{ℕ, _≤_, _<_}
 use native.Mathlib.Omega.{arith}
 use lib.ListN.{length}
-use Rattle.model.specs.Store.{absent, Reading, Slot, Range, TimeStep, OpenAnnounce, OpenPass, CloseWithdraw, Goal, Doing, Idle, PutPublish, PutStamp, PutHandIn, FlushTake, FlushRead, FlushFree, OnTime, ReadEnter, ReadStand, GetShow}
+use Rattle.model.specs.Store.{absent, Reading, Slot, Range, TimeStep, OpenAnnounce, OpenPass, CloseWithdraw, Purpose, Single, Totaling, Goal, Doing, Idle, PutPublish, PutStamp, PutHandIn, FlushTake, FlushRead, FlushFree, OnTime, ReadEnter, ReadStand, GetShow}
 use Rattle.model.specs.About.{about}
 use Rattle.model.specs.Record.{Operation}
 use Rattle.model.specs.Demand.{Call, Plain, occurrences, All, callAt}
@@ -14,7 +14,7 @@ use Rattle.model.proofs.Basic.{hit-same}
 use Rattle.model.proofs.Slots.{nth}
 use Rattle.model.proofs.Chain.{On, Fine, Past, Next}
 use Rattle.model.proofs.Count.{cnt}
-use Rattle.model.proofs.Invariant.{Ctx, top, old, chain, inDoing, Good, Settled, Asked, Spared, TimeHolds, PlaceHolds, Running, NoneRunning, FitsTime, FitsFlush, Fits, CurrentOf, Current}
+use Rattle.model.proofs.Invariant.{Ctx, top, old, chain, inDoing, Good, Settled, Asked, Spared, Summed, TimeHolds, PlaceHolds, Running, NoneRunning, FitsTime, FitsFlush, Fits, CurrentOf, Current}
 
 -- what holds of the ranges of a list may be shown of each with its slot counted
 pub All-cnt : {P Q : Range → Type 0} (m : List Range) → ((ρ : Range) → 0 < cnt (ρ .slot) m → P ρ → Q ρ) → All P m → All Q m
@@ -26,6 +26,7 @@ pub record Moves (x x′ : Ctx) (t : ℕ) (d : Doing) : Type 0 where
   pub tick : x .clock ≤ x′ .clock
   pub reg : (r : ℕ) → r < x .registers → r < x′ .registers
   pub nhd : x′ .holders ≡ x .holders
+  pub sameRows : x′ .rows ≡ x .rows
   pub good : (ρ : Range) → 0 < inDoing (ρ .slot) d → Good x ρ → Good x′ ρ
   pub times′ : (v : ℕ) → v < x .holders → (x′ .held v ≡ x .held v) ⊎ ((x′ .held v ≡ absent) ⊎ (x .clock ≤ x′ .held v))
   pub mem : (r c : ℕ) → r < x .registers → 0 < inDoing c d → 0 < occurrences c (old x r) → 0 < occurrences c (old x′ r)
@@ -61,6 +62,12 @@ module _ (x x′ : Ctx) where
   time-map k t OpenPass a = (omega (arith, k, a .0), a .1)
   time-map k t CloseWithdraw a = omega (arith, k)
 
+  summed-map : (p p′ : Plain) (w : ℕ) → p′ .copy w ≡ p .copy w → x′ .rows ≡ x .rows → (r : ℕ) (y : Purpose) → Summed (x .rows) p w r y
+      → Summed (x′ .rows) p′ w r y
+  summed-map p p′ w e q r Single a = a
+  summed-map p p′ w e q r (Totaling g i y) a =
+      rw q (a .0, a .1, a .2, a .3, (a .4 .0, e ∙ a .4 .1, a .4 .2))
+
   pub doing-map : (p p′ : Plain) (w t : ℕ) → p′ .copy w ≡ p .copy w → (d : Doing) → Moves x x′ t d → PlaceHolds x p w t d → PlaceHolds x′ p′ w t d
   unfolding cnt
   doing-map p p′ w t e Idle m a = settled (m .tick) t a
@@ -90,12 +97,14 @@ module _ (x x′ : Ctx) where
       both [] g k = tt
       both (ρ ∷ q) g k = (spared ρ (m .nhd) (m .times′) (g .0 .2) (k .0), both q (g .1) (k .1))
   doing-map p p′ w t e (OnTime y) m a = time-map (m .tick) t y a
-  doing-map p p′ w t e (ReadEnter g) m a = (m .reg (g .register) (a .0), omega (arith, m .tick, a .1))
+  doing-map p p′ w t e (ReadEnter g) m a =
+      (m .reg (g .register) (a .0), omega (arith, m .tick, a .1), summed-map p p′ w e (m .sameRows) (g .register) (g .purpose) (a .2))
   doing-map p p′ w t e (ReadStand g c) m a =
       let f = a .2 in (
         m .reg (g .register) (a .0),
         omega (arith, m .tick, a .1),
         (f .0, e ∙ f .1, m .on g c (f .0 (g .register)) (a .0) (a .1) refl (f .2)),
+        summed-map p p′ w e (m .sameRows) (g .register) (g .purpose) (a .3),
       )
   doing-map p p′ w t e (GetShow r) m a = (m .reg r (a .0), settled (m .tick) t (a .1))
 

@@ -300,6 +300,7 @@ module _ (now : ℕ) (s : Store) (olds : List (List ℕ)) (h : List Call) (o : L
               tick = omega arith;
               reg = λ q z. z;
               nhd = refl;
+              sameRows = refl;
               good = λ σ z. good σ;
               times′ = λ i z. inl (still i z);
               mem = λ q i z u k.
@@ -322,8 +323,12 @@ module _ (now : ℕ) (s : Store) (olds : List (List ℕ)) (h : List Call) (o : L
             → PlaceHolds x′ p v (workerAt s v .announced) (ReadStand g (cond (eqb i c) oc i))
         stand g i k a =
             let q = g .register in
-            let f = a .2 in
-            (a .0, a .1, (f .0, f .1, ons (workerAt s v .announced) (not-needed v vb (omega (arith, a .1, I .clockFits))) (f .0 q) q (a .0) i (f .2)))
+            let f = a .2 in (
+              a .0,
+              a .1,
+              (f .0, f .1, ons (workerAt s v .announced) (not-needed v vb (omega (arith, a .1, I .clockFits))) (f .0 q) q (a .0) i (f .2)),
+              a .3,
+            )
 
     own : Works x′ h o p w y⁺
     own =
@@ -422,6 +427,7 @@ module _ (now : ℕ) (s : Store) (olds : List (List ℕ)) (h : List Call) (o : L
                     );
                 outside = I .outside;
                 linear = lin-skip (I .linear);
+                rowsFit = I .rowsFit;
               };
         }
       where

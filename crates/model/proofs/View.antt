@@ -2,12 +2,13 @@
 use mathlib.Core.Path.{_≡_, refl, sym, ap, subst, _∙_}
 use mathlib.Core.Bool.{true, false, true≢false}
 use mathlib.Core.Logic.{_⊎_, inl, inr, ⊎-elim}
+use mathlib.Core.List.{List}
 use Prim.Native.Nat.{ℕ}
 use Rattle.model.specs.Store.{OpenAnnounce, OpenPass, CloseWithdraw, Goal, Doing, Idle, PutPublish, PutStamp, PutHandIn, FlushTake, FlushRead, FlushFree, OnTime, ReadEnter, ReadStand, GetShow}
 use Rattle.model.specs.Steps.{moveOff}
-use Rattle.model.specs.Record.{Operation, Put, Open, Read, Close, Get, Collect}
+use Rattle.model.specs.Record.{Operation, Put, Open, Read, Close, Get, Collect, Total}
 use Rattle.model.specs.Apply.{terms}
-use Rattle.model.specs.About.{Empty, Nowhere, Effect, NoEffect, ByStamp, ByClock, busy, about}
+use Rattle.model.specs.About.{Empty, Nowhere, Effect, NoEffect, ByStamp, ByClock, about}
 
 pub data View (d : Doing) : Type 0 where
   AtIdle : d ≡ Idle → View d
@@ -85,15 +86,16 @@ clock-is d e = go (view d)
     go (Elsewhere b s f) = absurd (found NoEffect f)
 
 ------------------------------------------------------------------------
--- At the begin of an operation nothing is in hand, and no effect comes with another worker's step
+-- At the begin of an operation nothing is in hand
 
-pub first-about : (o : Operation) → about (terms o .first) ≡ busy Empty NoEffect
-first-about (Put r x) = refl
-first-about Open = refl
-first-about (Read r) = refl
-first-about Close = refl
-first-about (Get r) = refl
-first-about Collect = refl
+pub first-hand : (rows : List ℕ) (o : Operation) → about (terms rows o .first) .hand ≡ Empty
+first-hand rows (Put r x) = refl
+first-hand rows Open = refl
+first-hand rows (Read r) = refl
+first-hand rows Close = refl
+first-hand rows (Get r) = refl
+first-hand rows Collect = refl
+first-hand rows (Total g) = refl
 
 ------------------------------------------------------------------------
 -- A version is freed: a read that stands on it moves, no other place changes

@@ -53,7 +53,7 @@ module _ (now : ℕ) (s : Store) (olds : List (List ℕ)) (h : List Call) (o : L
         → All (All (Good x)) q
         → (y .announced ≡ workerAt s w .announced) ⊎ ((y .announced ≡ absent) ⊎ (s .clock ≤ y .announced))
         → ((r c : ℕ) → workerAt s w .doing ≡ PutStamp r c → nth (s .slots) c .high ≡ absent → ⊥)
-        → Hist now′ w h o p h′ o′ p′
+        → Hist (s .site .rows) now′ w h o p h′ o′ p′
         → Works x′ h′ o′ p′ w y
         → Inv now′ after olds h′ o′ p′
     work-inv pe gq ti nc H own =
@@ -84,6 +84,7 @@ module _ (now : ℕ) (s : Store) (olds : List (List ℕ)) (h : List Call) (o : L
               );
           outside = λ v b. H .shut v (λ z. omega (arith, b, z, wb)) (I .outside v b);
           linear = H .linear;
+          rowsFit = I .rowsFit;
         }
       where
         same : (c : ℕ) → pend c (set (s .workers) w y) q ≡ pend c (s .workers) (s .queue)
@@ -95,6 +96,7 @@ module _ (now : ℕ) (s : Store) (olds : List (List ℕ)) (h : List Call) (o : L
               tick = omega arith;
               reg = λ r z. z;
               nhd = refl;
+              sameRows = refl;
               good = λ ρ z g. g;
               times′ = λ v z. after-times ti v;
               mem = λ r i z u v. v;

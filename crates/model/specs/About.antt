@@ -2,7 +2,7 @@
 use mathlib.Core.Bool.{Bool, true, false}
 use mathlib.Core.List.{List}
 use Prim.Native.Nat.{ℕ}
-use Rattle.model.specs.Store.{Range, TimeStep, OpenAnnounce, OpenPass, CloseWithdraw, Goal, Doing, Idle, PutPublish, PutStamp, PutHandIn, FlushTake, FlushRead, FlushFree, OnTime, ReadEnter, ReadStand, GetShow}
+use Rattle.model.specs.Store.{Range, TimeStep, OpenAnnounce, OpenPass, CloseWithdraw, Purpose, Single, Goal, Doing, Idle, PutPublish, PutStamp, PutHandIn, FlushTake, FlushRead, FlushFree, OnTime, ReadEnter, ReadStand, GetShow}
 
 -- the versions that a place has in hand: none, the one in the slot that a put covers, a merged list
 -- with the times read so far, or the needless ranges not yet freed
@@ -30,10 +30,12 @@ pub record Facts : Type 0 where
   pub hand : Hand
   pub stance : Stance
   pub effect : Effect
+  -- what it reads for
+  pub purpose : Purpose
 
 -- a worker that is doing something, with this in hand, whose operation takes its effect so
 abbrev pub busy : Hand → Effect → Facts
-busy h e = record { idle = false; hand = h; stance = Nowhere; effect = e }
+busy h e = record { idle = false; hand = h; stance = Nowhere; effect = e; purpose = Single }
 
 abbrev pub timeEffect : TimeStep → Effect
 timeEffect OpenAnnounce = NoEffect
@@ -41,7 +43,7 @@ timeEffect OpenPass = ByClock
 timeEffect CloseWithdraw = NoEffect
 
 abbrev pub about : Doing → Facts
-about Idle = record { idle = true; hand = Empty; stance = Nowhere; effect = NoEffect }
+about Idle = record { idle = true; hand = Empty; stance = Nowhere; effect = NoEffect; purpose = Single }
 about (PutPublish r x) = busy Empty NoEffect
 about (PutStamp r c) = busy (Covered c) (ByStamp c)
 about (PutHandIn r c) = busy (Covered c) NoEffect
@@ -49,6 +51,8 @@ about FlushTake = busy Empty NoEffect
 about (FlushRead m ts) = busy (Merged m ts) NoEffect
 about (FlushFree m) = busy (Needless m) NoEffect
 about (OnTime y) = busy Empty (timeEffect y)
-about (ReadEnter g) = busy Empty NoEffect
-about (ReadStand g c) = record { idle = false; hand = Empty; stance = StandsOn g c; effect = NoEffect }
+about (ReadEnter g) =
+    record { idle = false; hand = Empty; stance = Nowhere; effect = NoEffect; purpose = g .purpose }
+about (ReadStand g c) =
+    record { idle = false; hand = Empty; stance = StandsOn g c; effect = NoEffect; purpose = g .purpose }
 about (GetShow r) = busy Empty NoEffect

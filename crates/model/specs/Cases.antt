@@ -4,13 +4,14 @@ use mathlib.Core.Bool.{true, false}
 use mathlib.Core.List.{List, [], _∷_, _++_, map}
 use Prim.Native.Nat.{ℕ}
 use lib.ListN.{length, replicate, getD, set}
+use Rattle.model.specs.Totals.{groupOf, signOf, registerOf}
 use Rattle.model.specs.Store.{absent, Range, Slot, slot₀, FlushRead, startWorker, Store, Hub, blank, up}
 use Rattle.model.specs.Batch.{batchOf}
 use Rattle.model.specs.Rules.{document01, inForce, Ruled, under}
 use Rattle.model.specs.Answer.{Answer, Ok, Going, At, Value, No}
 use Rattle.model.specs.Ranges.{needed, merge}
 use Rattle.model.specs.Steps.{flushSplit}
-use Rattle.model.specs.Record.{Put, Open, Read, Close, Get, Collect, Command, SetUp, Begin, Step, Asks, Refuses, decode}
+use Rattle.model.specs.Record.{Put, Open, Read, Close, Get, Collect, Total, Command, SetUp, Begin, Step, Asks, Refuses, decode, rowsOf}
 use Rattle.model.specs.Apply.{hubAfter, answersTo}
 use Rattle.model.specs.Row.{bytesOf}
 use Rattle.model.specs.Log.{text, logOf}
@@ -27,15 +28,16 @@ recordOf (Begin w (Read r)) = 3 ∷ w ∷ bytesOf 2 r ++ replicate 12 0
 recordOf (Begin w Close) = 4 ∷ w ∷ replicate 14 0
 recordOf (Begin w (Get r)) = 5 ∷ w ∷ bytesOf 2 r ++ replicate 12 0
 recordOf (Begin w Collect) = 6 ∷ w ∷ replicate 14 0
+recordOf (Begin w (Total g)) = 8 ∷ w ∷ bytesOf 2 g ++ replicate 12 0
 recordOf (Step w) = 7 ∷ w ∷ replicate 14 0
 
--- a command's record, handed in under the rules of docs/HUB.md
+-- a command's record, handed in under the rules of docs/HUB.md and without a list
 abbrev pub handed : Command → Ruled
-handed c = under inForce (recordOf c)
+handed c = under (inForce []) (recordOf c)
 
 -- and before the first change request
 abbrev pub handedBefore : Command → Ruled
-handedBefore c = under document01 (recordOf c)
+handedBefore c = under (document01 []) (recordOf c)
 
 abbrev pub setup : ℕ → ℕ → ℕ → ℕ → Command
 setup p v n t = SetUp (record { P = p; V' = v; N = n; clock = t })
@@ -79,7 +81,7 @@ fourRanges = range 0 3 5 ∷ range 1 5 5 ∷ range 2 5 6 ∷ range 3 2 9 ∷ []
 abbrev pub splitting : Store
 splitting =
     record {
-      site = record { P = 2; V' = 1; N = 9; B = 2 };
+      site = record { P = 2; V' = 1; N = 9; B = 2; rows = [] };
       clock = 4;
       slots = replicate 9 slot₀;
       newest = 0 ∷ [];
@@ -146,17 +148,22 @@ pub record Layout : Type 0 where
       ≡ Asks (Begin 2 (Put 1027 (record { count = 578437695752307201 })))
   pub read-bytes : decode (3 ∷ 2 ∷ 3 ∷ 4 ∷ replicate 12 0) ≡ Asks (Begin 2 (Read 1027))
   pub get-bytes : decode (5 ∷ 2 ∷ 3 ∷ 4 ∷ replicate 12 0) ≡ Asks (Begin 2 (Get 1027))
+  pub total-bytes : decode (8 ∷ 2 ∷ 3 ∷ 4 ∷ replicate 12 0) ≡ Asks (Begin 2 (Total 1027))
+  -- a row of the list: group 1, minus, register 770
+  pub row-bytes : rowsOf (0 ∷ 0 ∷ 5 ∷ 0 ∷ 1 ∷ 1 ∷ 2 ∷ 3 ∷ []) ≡ 327680 ∷ 50462977 ∷ []
+  pub row-parts : (groupOf 50462977 ≡ 1) × (signOf 50462977 ≡ 1) × (registerOf 50462977 ≡ 770)
   pub setup-bytes : decode (0 ∷ 1 ∷ 2 ∷ 3 ∷ 4 ∷ 5 ∷ 0 ∷ 0 ∷ 6 ∷ 7 ∷ 8 ∷ 9 ∷ 0 ∷ 0 ∷ 0 ∷ 0 ∷ [])
       ≡ Asks (SetUp (record { P = 1; V' = 770; N = 1284; clock = 151521030 }))
   -- the first and the last byte that an operation does not use
-  pub first-unused : map decode (flagged 0 6 ∷ flagged 1 4 ∷ flagged 2 2 ∷ flagged 3 4 ∷ flagged 4 2 ∷ flagged 5 4 ∷ flagged 6 2 ∷ flagged 7 2 ∷ [])
-      ≡ replicate 8 (Refuses 2)
+  pub first-unused : map decode (flagged 0 6 ∷ flagged 1 4 ∷ flagged 2 2 ∷ flagged 3 4 ∷ flagged 4 2 ∷ flagged 5 4 ∷ flagged 6 2 ∷ flagged 7 2
+      ∷ flagged 8 4 ∷ [])
+      ≡ replicate 9 (Refuses 2)
   pub last-unused : map decode (flagged 0 15 ∷ flagged 1 7 ∷ flagged 2 15 ∷ flagged 3 15 ∷ flagged 4 15 ∷ flagged 5 15 ∷ flagged 6 15 ∷ flagged 7 15
-      ∷ [])
-      ≡ replicate 8 (Refuses 2)
+      ∷ flagged 8 15 ∷ [])
+      ≡ replicate 9 (Refuses 2)
   pub setup-unused : map decode (flagged 0 7 ∷ flagged 0 12 ∷ []) ≡ replicate 2 (Refuses 2)
   -- 6 before 1 before 2; a seventeenth byte is not looked at
-  pub refusal-order : map decode ([] ∷ replicate 15 255 ∷ replicate 16 255 ∷ flagged 8 2 ∷ [])
+  pub refusal-order : map decode ([] ∷ replicate 15 255 ∷ replicate 16 255 ∷ flagged 9 2 ∷ [])
       ≡ Refuses 6 ∷ Refuses 6 ∷ Refuses 1 ∷ Refuses 1 ∷ []
   pub longer : decode (7 ∷ 3 ∷ replicate 14 0 ++ (9 ∷ [])) ≡ Asks (Step 3)
 
@@ -183,4 +190,4 @@ exampleText =
 
 -- over a row of two slots, the least that its setup needs
 abbrev pub Example : Type 0
-Example = logOf inForce (replicate 2 slot₀) exampleFile ≡ exampleText
+Example = logOf (inForce []) (replicate 2 slot₀) exampleFile ≡ exampleText

@@ -2,7 +2,7 @@
 --
 -- A list of records after an accepted setup gives events. From the records and the answers alone come the operations (calls) with
 -- their begins and ends. The order of the calls is a definition: the effects in the order in which they happen. The statement says that
--- it is an order between begins and ends, that plain registers fed in that order show what every finished get and read answered,
+-- it is an order between begins and ends, that plain registers fed in that order show what every finished get, read and total answered,
 -- and that nothing needed is freed and nothing freed twice.
 --
 -- What rests on reading by eye besides this file: the model's `decode` (which bytes are the worker, the register and the value); `apply`, from
@@ -18,15 +18,18 @@ use lib.ListN.{length, getD}
 use Rattle.model.specs.Store.{absent, Reading, Slot, Doing, PutPublish, Store, Hub, blank, up, workerAt, slotAt, newestOf}
 use Rattle.model.specs.About.{Effect, NoEffect, ByStamp, ByClock, about}
 use Rattle.model.specs.Rules.{Ruled}
-use Rattle.model.specs.Answer.{Answer, Ok, Going, Freed, Value, said}
-use Rattle.model.specs.Record.{Operation, Put, Open, Read, Close, Get, Collect, SetUp, Begin, Step, Decoded, Asks, Refuses, decode}
+use Rattle.model.specs.Totals.{Sum, sum₀, registerOf, ofGroup, addRow}
+use Rattle.model.specs.Answer.{Answer, Ok, Going, Freed, said}
+use Rattle.model.specs.Steps.{answerFor, signed}
+use Rattle.model.specs.Record.{Operation, Put, Open, Read, Close, Get, Collect, Total, SetUp, Begin, Step, Decoded, Asks, Refuses, decode}
 use Rattle.model.specs.Apply.{takesStep, applyRuled}
 
 ------------------------------------------------------------------------
 -- H6.4, H6.5: a list of records after an accepted setup; each meets the hub as the one before left it.
 
--- a record, the hub that it met, its answer, the hub that it left
+-- a record, the list that was lent with it, the hub that it met, its answer, the hub that it left
 pub record Event : Type 0 where
+  pub list : List ℕ
   pub bytes : List ℕ
   pub before : Hub
   pub answer : Answer
@@ -37,15 +40,16 @@ unfoldable pub events : Hub → List Ruled → List Event
 events h [] = []
 events h (b ∷ bs) =
     let a = applyRuled h b in
-    record { bytes = b .bytes; before = h; answer = a .answer; after = a .hub } ∷ events (a .hub) bs
+    record { list = b .rules .list; bytes = b .bytes; before = h; answer = a .answer; after = a .hub } ∷ events (a .hub) bs
 
 -- what is seen of an event from outside
 pub record Exchange : Type 0 where
+  pub list : List ℕ
   pub bytes : List ℕ
   pub answer : Answer
 
 abbrev pub exchange : Event → Exchange
-exchange e = record { bytes = e .bytes; answer = e .answer }
+exchange e = record { list = e .list; bytes = e .bytes; answer = e .answer }
 
 ------------------------------------------------------------------------
 -- H6.7, H6.8: operations. One begins with its record, answered `ok`, and ends at its worker's first step after that whose answer is neither
@@ -152,20 +156,28 @@ feed p w (Read r) = p
 feed p w Close = record { registers = p .registers; copy = update (p .copy) w none }
 feed p w (Get r) = p
 feed p w Collect = p
+feed p w (Total g) = p
 
--- register r of a worker's copy
-unfoldable pub inCopy : Option (ℕ → Reading) → ℕ → Option Reading
-inCopy none r = none
-inCopy (some f) r = some (f r)
+-- what is shown of a worker's copy; nothing without one
+unfoldable pub inCopy : Option (ℕ → Reading) → ((ℕ → Reading) → Answer) → Option Answer
+inCopy none q = none
+inCopy (some f) q = some (q f)
 
--- H6.18: a get is shown its register, a read its register in its worker's copy, or nothing without one
-unfoldable pub shows : Plain → ℕ → Operation → Option Reading
-shows p w (Put r x) = none
-shows p w Open = none
-shows p w (Read r) = inCopy (p .copy w) r
-shows p w Close = none
-shows p w (Get r) = some (p .registers r)
-shows p w Collect = none
+-- H12.10: the sums of rows over a copy
+unfoldable pub sumOver : (ℕ → Reading) → List ℕ → Sum
+sumOver f [] = sum₀
+sumOver f (x ∷ l) = addRow (sumOver f l) x (f (registerOf x) .count)
+
+-- H6.18: the answer that shows what is there, with the rows of the list of totals: of a get its register, of a read its register in its worker's
+-- copy, or nothing without one. H12.10: of a total the sum of its group's rows over that copy.
+unfoldable pub shows : List ℕ → Plain → ℕ → Operation → Option Answer
+shows rows p w (Put r x) = none
+shows rows p w Open = none
+shows rows p w (Read r) = inCopy (p .copy w) (λ f. answerFor (f r))
+shows rows p w Close = none
+shows rows p w (Get r) = some (answerFor (p .registers r))
+shows rows p w Collect = none
+shows rows p w (Total g) = inCopy (p .copy w) (λ f. signed (sumOver f (ofGroup g rows)))
 
 ------------------------------------------------------------------------
 -- H6.13: the order, a list of indices in the history: the calls by their effects along the list of records.
@@ -219,6 +231,7 @@ atEnd (Read r) = true
 atEnd Close = true
 atEnd (Get r) = true
 atEnd Collect = true
+atEnd (Total g) = true
 
 -- the answer finishes an operation: it ends it and is no refusal
 abbrev pub isNone : Option ℕ → Bool
@@ -283,11 +296,11 @@ unfoldable pub Ordered : List Call → List ℕ → Type 0
 Ordered h [] = Unit {0}
 Ordered h (i ∷ o) = All (λ j. EndsBefore (callAt h i .begun) (callAt h j .ending) → ⊥) o × Ordered h o
 
--- H6.19: what a finished get or read answered is what is shown
-abbrev pub AnswersWith : Ending → Option Reading → Type 0
+-- H6.19: what a finished get, read or total answered is what is shown
+abbrev pub AnswersWith : Ending → Option Answer → Type 0
 AnswersWith Unfinished x = Unit {0}
 AnswersWith (RefusedAt i) x = Unit {0}
-AnswersWith (FinishedAt i a) x = (n : Reading) × (x ≡ some n) × (a ≡ Value n)
+AnswersWith (FinishedAt i a) x = x ≡ some a
 
 -- the operations that show something
 abbrev pub showing : Operation → Bool
@@ -297,23 +310,24 @@ showing (Read r) = true
 showing Close = false
 showing (Get r) = true
 showing Collect = false
+showing (Total g) = true
 
-abbrev pub AgreesIf : Bool → Ending → Option Reading → Type 0
+abbrev pub AgreesIf : Bool → Ending → Option Answer → Type 0
 AgreesIf true e s = AnswersWith e s
 AgreesIf false e s = Unit {0}
 
-abbrev pub Agrees : Operation → Ending → Option Reading → Type 0
+abbrev pub Agrees : Operation → Ending → Option Answer → Type 0
 Agrees c e s = AgreesIf (showing c) e s
 
--- H6.17, H6.19: from plain registers p on, the calls along o are fed one by one, and each get and read is shown what it answered
-unfoldable pub RegistersAgree : List Call → Plain → List ℕ → Type 0
-RegistersAgree h p [] = Unit {0}
-RegistersAgree h p (i ∷ o) =
-    Agrees (callAt h i .operation) (callAt h i .ending) (shows p (callAt h i .worker) (callAt h i .operation))
-    × RegistersAgree h (feed p (callAt h i .worker) (callAt h i .operation)) o
+-- H6.17, H6.19: from plain registers p on, the calls along o are fed one by one, and each get, read and total is shown what it answered
+unfoldable pub RegistersAgree : List ℕ → List Call → Plain → List ℕ → Type 0
+RegistersAgree rows h p [] = Unit {0}
+RegistersAgree rows h p (i ∷ o) =
+    Agrees (callAt h i .operation) (callAt h i .ending) (shows rows p (callAt h i .worker) (callAt h i .operation))
+    × RegistersAgree rows h (feed p (callAt h i .worker) (callAt h i .operation)) o
 
--- o is an order of the calls h
-pub record IsOrder (h : List Call) (o : List ℕ) : Type 0 where
+-- o is an order of the calls h on a hub with these rows of totals
+pub record IsOrder (rows : List ℕ) (h : List Call) (o : List ℕ) : Type 0 where
   -- it names calls of the history only,
   pub within : (i : ℕ) → length h ≤ i → occurrences i o ≡ 0
   -- each as often as its ending says,
@@ -321,7 +335,7 @@ pub record IsOrder (h : List Call) (o : List ℕ) : Type 0 where
   -- each between its begin and its end,
   pub ordered : Ordered h o
   -- and plain registers show what was answered.
-  pub registersAgree : RegistersAgree h plain₀ o
+  pub registersAgree : RegistersAgree rows h plain₀ o
 
 ------------------------------------------------------------------------
 -- What is claimed of freeing
@@ -356,7 +370,7 @@ Took c e = TookBy c (decode (e .bytes)) (e .before) (e .answer) (e .after)
 
 -- what stands where a list has no event
 abbrev pub event₀ : Event
-event₀ = record { bytes = []; before = blank []; answer = Ok; after = blank [] }
+event₀ = record { list = []; bytes = []; before = blank []; answer = Ok; after = blank [] }
 
 -- H6.22: between two answers `freed S` for one slot, a put's first step took that slot
 abbrev pub FreedOnce : List Event → Type 0
@@ -368,16 +382,23 @@ FreedOnce es =
 ------------------------------------------------------------------------
 -- Demand 3
 
-pub record Demand3 (es : List Event) : Type 0 where
+-- of events on a hub with these rows of totals
+pub record Demand3 (rows : List ℕ) (es : List Event) : Type 0 where
   -- what ends an operation is a step taken
   pub stepsTaken : StepsTaken 0 es []
   -- there is one order of the operations: this one
-  pub isOrder : IsOrder (history 0 (map exchange es) []) (order 0 es [])
+  pub isOrder : IsOrder rows (history 0 (map exchange es) []) (order 0 es [])
   pub freesNothingNeeded : All (λ e. FreesNothingNeeded (e .before) (e .answer)) es
   pub freedOnce : FreedOnce es
+
+-- H12.3: the rows of totals that a hub has
+abbrev pub rowsIn : Hub → List ℕ
+rowsIn (blank row) = []
+rowsIn (up s) = s .site .rows
 
 -- H6.4: for every lent row, every setup record that is answered `ok`, and every list of records after it, whatever the rules of each.
 abbrev pub Demand : Type 0
 Demand =
     (row : List Slot) (setup : Ruled) → applyRuled (blank row) setup .answer ≡ Ok
-    → (records : List Ruled) → Demand3 (events (applyRuled (blank row) setup .hub) records)
+    → (records : List Ruled)
+    → Demand3 (rowsIn (applyRuled (blank row) setup .hub)) (events (applyRuled (blank row) setup .hub) records)

@@ -7,16 +7,16 @@ use Rattle.model.specs.Store.{Slot, Hub, blank}
 use Rattle.model.specs.Rules.{Rules, document01, inForce, Allowed, allUnder}
 use Rattle.model.specs.Answer.{Ok}
 use Rattle.model.specs.Apply.{refuse, apply}
-use Rattle.model.specs.Demand.{Event, events, Demand3, Demand}
+use Rattle.model.specs.Demand.{Event, events, Demand3, rowsIn, Demand}
 use Rattle.model.specs.Refusals.{Demand1}
 use Rattle.model.specs.Reached.{Throughout, SoundHub}
 use Rattle.model.specs.Figure.{FigureHub}
 
--- a claim about the events of every list of records after every accepted setup, all under these rules
-abbrev pub AllUnder : Rules → (List Event → Type 0) → Type 0
+-- a claim about the rows of totals and the events of every list of records after every accepted setup, all under these rules
+abbrev pub AllUnder : Rules → (List ℕ → List Event → Type 0) → Type 0
 AllUnder rules Claim =
     (row : List Slot) (setup : List ℕ) → apply rules (blank row) setup .answer ≡ Ok
-    → (records : List (List ℕ)) → Claim (events (apply rules (blank row) setup .hub) (allUnder rules records))
+    → (records : List (List ℕ)) → Claim (rowsIn (apply rules (blank row) setup .hub)) (events (apply rules (blank row) setup .hub) (allUnder rules records))
 
 pub record Theorems (rules : Rules) : Type 0 where
   -- every record ends in its answer or in one numbered refusal
@@ -26,15 +26,17 @@ pub record Theorems (rules : Rules) : Type 0 where
   -- B is from 1 to 64
   pub batches : Allowed rules
   -- the bounds that memory is sized by, and refusal 14
-  pub sound : AllUnder rules (Throughout (SoundHub rules))
+  pub sound : AllUnder rules (λ rows. Throughout (SoundHub rules))
   -- pools sorted by high, and the flush split as it was first published
-  pub as-published : AllUnder rules (Throughout FigureHub)
+  pub as-published : AllUnder rules (λ rows. Throughout FigureHub)
 
 pub record Document : Type 0 where
-  pub in-force : Theorems inForce
+  -- whatever list is lent
+  pub in-force : (l : List ℕ) → Theorems (inForce l)
   -- as it was before the first change request
-  pub earlier : Theorems document01
+  pub earlier : (l : List ℕ) → Theorems (document01 l)
   -- demand 3 of a list that changes its rules on the way, each record under its own
   pub changing : Demand
-  -- H7.9: what the rules in force change is refusal 16 and nothing else
-  pub refusal-16 : (h : Hub) (b : List ℕ) → (apply inForce h b ≡ refuse h 16) ⊎ (apply inForce h b ≡ apply document01 h b)
+  -- H7.9: what the limit changes is refusal 16 and nothing else
+  pub refusal-16 : (l : List ℕ) (h : Hub) (b : List ℕ)
+      → (apply (inForce l) h b ≡ refuse h 16) ⊎ (apply (inForce l) h b ≡ apply (document01 l) h b)

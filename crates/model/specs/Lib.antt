@@ -1,4 +1,5 @@
 -- The rules of docs/HUB.md as definitions, in their order; then what is proved of them.
+pub mod Totals
 pub mod Store
 pub mod About
 pub mod Batch

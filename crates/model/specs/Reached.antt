@@ -1,15 +1,16 @@
 -- What holds of every hub that records leave, besides demand 3: the bounds that memory is sized by (H6.24), and refusal 14 as H7 words it.
 -- Proved in proofs/Reached.antt from the invariant of proofs/Invariant.antt.
 use mathlib.Core.Path.{_≡_}
-use mathlib.Core.Bool.{cond}
+use mathlib.Core.Bool.{true, cond}
 use mathlib.Core.Logic.{_↔_}
 use mathlib.Core.List.{List, [], _∷_}
 use Prim.Native.Nat.{ℕ, zero, suc, _+_, _*_, _-_, _≤_, _<_}
 use lib.Dec.{ltb}
 use lib.ListN.{length}
-use Rattle.model.specs.Store.{lastClock, Reading, Slot, PutPublish, Worker, Store, Hub, blank, up, workerAt, slotAt, newestOf}
+use Rattle.model.specs.Totals.{groupOf, rowAt, ofGroup, follow}
+use Rattle.model.specs.Store.{lastClock, Reading, Slot, Purpose, Single, Totaling, PutPublish, Worker, Store, Hub, blank, up, workerAt, slotAt, newestOf}
 use Rattle.model.specs.About.{Hand, Empty, Covered, Merged, Needless, about}
-use Rattle.model.specs.Rules.{Rules, Allowed, Ruled}
+use Rattle.model.specs.Rules.{Rules, twelveDigits, Allowed, Ruled}
 use Rattle.model.specs.Answer.{Ok, No}
 use Rattle.model.specs.Steps.{stepAt}
 use Rattle.model.specs.Apply.{applyRuled}
@@ -34,6 +35,12 @@ inHand (Needless m) = length m
 abbrev pub versionsHeld : Worker → ℕ
 versionsHeld x = inHand (about (x .doing) .hand) + length (x .pool)
 
+-- H12.11: a total is at a row of its group, and its sums are of at most 31 values, none with more than twelve digits
+abbrev pub TotalFits : List ℕ → Purpose → Type 0
+TotalFits rows Single = Unit {0}
+TotalFits rows (Totaling g i y) =
+    (i < length rows) × (groupOf (rowAt rows i) ≡ g) × (y .plus + y .minus ≤ 31 * twelveDigits)
+
 pub record Bounds (s : Store) : Type 0 where
   -- H1.1 to H1.4: the sizes and the clock
   pub workers : (1 ≤ s .site .P) × (s .site .P ≤ 16) × (length (s .workers) ≡ s .site .P)
@@ -52,6 +59,11 @@ pub record Bounds (s : Store) : Type 0 where
   pub total : sumBy versionsHeld (s .workers) + sumBy length (s .queue) + (length (s .free) + s .site .V') ≡ s .site .N
   -- so many pools at the most
   pub pools : length (s .queue) ≤ s .site .N - s .site .V'
+  -- H12.2, H12.11: the rows of totals are those of a list that a setup accepts, at most 32 of a group and 1,024 in all
+  pub rows : (follow (s .site .V') 0 0 (s .site .rows) ≡ true) × (length (s .site .rows) ≤ 1024)
+  pub group : (g : ℕ) → length (ofGroup g (s .site .rows)) ≤ 32
+  -- H12.11: so no sum goes beyond 64 bits
+  pub totals : All (λ x. TotalFits (s .site .rows) (about (x .doing) .purpose)) (s .workers)
 
 ------------------------------------------------------------------------
 -- Refusal 14

@@ -5,16 +5,20 @@ use mathlib.Core.List.{List, [], _∷_, _++_, map}
 use Prim.Native.Nat.{ℕ}
 use lib.ListN.{replicate}
 use Rattle.model.specs.Store.{slot₀}
-use Rattle.model.specs.Rules.{inForce, Ruled}
-use Rattle.model.specs.Record.{Open, Read, Close, Get, Collect, Command, Begin, Step}
+use Rattle.model.specs.Rules.{document01, inForce, Ruled, under}
+use Rattle.model.specs.Record.{Open, Read, Close, Get, Collect, Total, Command, Begin, Step}
+use Rattle.model.specs.Answer.{Ok, No}
 use Rattle.model.specs.Apply.{applyRuled, answersTo}
 use Rattle.model.specs.Log.{text, lines, logOf}
 use Rattle.model.specs.Demand.{events, order}
 use Rattle.model.specs.Cases.{recordOf, handed, handedBefore, setup, put, rowOf, joined}
 
--- the log of a list of commands, over a row of n slots
+-- the log of a list of commands, over a row of n slots, with the list of totals given
+abbrev pub logWith : List ℕ → ℕ → List Command → List ℕ
+logWith list n l = logOf (inForce list) (replicate n slot₀) (joined (map recordOf l))
+
 abbrev pub logFor : ℕ → List Command → List ℕ
-logFor n l = logOf inForce (replicate n slot₀) (joined (map recordOf l))
+logFor n l = logWith [] n l
 
 -- the order of the calls of the records after a setup; call i is the i-th that began, from 0
 abbrev pub orderOf : ℕ → Ruled → List Ruled → List ℕ
@@ -22,6 +26,10 @@ orderOf n first l = order 0 (events (applyRuled (rowOf n) first .hub) l) []
 
 abbrev pub orderFor : ℕ → Command → List Command → List ℕ
 orderFor n first l = orderOf n (handed first) (map handed l)
+
+-- handed in with a list of totals
+abbrev pub with : List ℕ → Command → Ruled
+with list c = under (inForce list) (recordOf c)
 
 abbrev pub steps : ℕ → ℕ → List Command
 steps n w = replicate n (Step w)
@@ -136,7 +144,97 @@ afterLimit =
 abbrev pub changing : List Ruled
 changing = map handedBefore beforeLimit ++ map handed afterLimit
 
+-- H12: group 0 is registers 0 and 1 less register 2, group 2 is register 0 twice, group 3 is less register 1.
+abbrev pub sumsList : List ℕ
+sumsList =
+    (0 ∷ 0 ∷ 0 ∷ 0 ∷ 0 ∷ 0 ∷ 1 ∷ 0 ∷ 0 ∷ 1 ∷ 2 ∷ 0 ∷ [])
+    ++ (2 ∷ 0 ∷ 0 ∷ 0 ∷ 2 ∷ 0 ∷ 0 ∷ 0 ∷ 3 ∷ 1 ∷ 1 ∷ 0 ∷ [])
+
+-- A total without a snapshot, two of groups without rows, one of a worker that is not there. Then a total goes along its rows while register 1
+-- gets a newer reading, and is begun again on the way, as is one without rows; two more follow at the same time.
+abbrev pub sumsSetup : Command
+sumsSetup = setup 3 3 9 1
+
+abbrev pub sums : List Command
+sums =
+    (Begin 0 (Total 0) ∷ Begin 0 (Total 1) ∷ Begin 0 (Total 32) ∷ Begin 3 (Total 1) ∷ [])
+    ++ (put 0 0 5 ∷ steps 3 0)
+    ++ (put 0 1 7 ∷ steps 3 0)
+    ++ (put 0 2 20 ∷ steps 3 0)
+    ++ (Begin 1 Open ∷ steps 2 1)
+    ++ (Begin 1 (Total 0) ∷ steps 2 1)
+    ++ (Begin 1 (Total 1) ∷ Begin 1 (Total 0) ∷ put 0 1 9 ∷ steps 3 0)
+    ++ steps 5 1
+    ++ (Begin 1 (Total 2) ∷ steps 4 1)
+    ++ (Begin 1 (Total 3) ∷ steps 3 1)
+
+-- A total of registers 0 and 1 stands on a version of register 0 that a collect frees, and a put of register 1 takes its slot. The total has moved
+-- to the older version, and shows 4 and 5, the values at its snapshot's time. Its own step stamps that put, call 7.
+abbrev pub movedList : List ℕ
+movedList = 1 ∷ 0 ∷ 0 ∷ 0 ∷ 1 ∷ 0 ∷ 1 ∷ 0 ∷ []
+
+abbrev pub movedTotal : List Command
+movedTotal =
+    (put 0 0 4 ∷ steps 3 0)
+    ++ (put 0 1 5 ∷ steps 8 0)
+    ++ (Begin 1 Open ∷ steps 2 1)
+    ++ (put 0 0 7 ∷ steps 3 0)
+    ++ (Begin 1 (Total 1) ∷ steps 1 1)
+    ++ (put 0 0 9 ∷ steps 10 0)
+    ++ (Begin 0 Collect ∷ steps 6 0)
+    ++ (put 0 1 6 ∷ steps 1 0)
+    ++ steps 4 1
+
+-- H12.9: 1000000000000 was put before the limit. A total that comes to it is refused, its worker is idle then, and its snapshot stays: a read shows
+-- that value.
+abbrev pub overList : List ℕ
+overList = 0 ∷ 0 ∷ 0 ∷ 0 ∷ 0 ∷ 0 ∷ 1 ∷ 0 ∷ []
+
+abbrev pub overSetup : Ruled
+overSetup = under (document01 overList) (recordOf (setup 2 2 6 1))
+
+abbrev pub over : List Ruled
+over =
+    map handedBefore (put 0 0 1000000000000 ∷ steps 3 0)
+    ++ map handed ((Begin 1 Open ∷ steps 2 1) ++ (Begin 1 (Total 0) ∷ steps 3 1) ++ (Begin 1 (Read 0) ∷ steps 2 1))
+
+-- H12.9: a total is refused for a value above the limit, not for a sum above it: twice 999999999999.
+abbrev pub largeSetup : Command
+largeSetup = setup 2 1 3 1
+
+abbrev pub large : List Command
+large = (put 0 0 999999999999 ∷ steps 3 0) ++ (Begin 1 Open ∷ steps 2 1) ++ (Begin 1 (Total 0) ∷ steps 4 1)
+
+-- H12.2: a setup is refused with each of these lists, and accepted with the last: half a row; a group above 31; a sign above 1; a register that is
+-- not there; a falling group; 33 rows of a group; 32 of them.
+abbrev pub badLists : List (List ℕ)
+badLists =
+    (0 ∷ 0 ∷ [])
+    ∷ (32 ∷ 0 ∷ 0 ∷ 0 ∷ [])
+    ∷ (0 ∷ 2 ∷ 0 ∷ 0 ∷ [])
+    ∷ (0 ∷ 0 ∷ 3 ∷ 0 ∷ [])
+    ∷ (1 ∷ 0 ∷ 0 ∷ 0 ∷ 0 ∷ 0 ∷ 0 ∷ 0 ∷ [])
+    ∷ replicate 132 0
+    ∷ replicate 128 0
+    ∷ []
+
 pub record Runs : Type 0 where
+  pub sums-log : logWith sumsList 9 (sumsSetup ∷ sums)
+      ≡ text
+      "0 ok\n1 no 13\n2 no 17\n3 no 17\n4 no 3\n5 ok\n6 going\n7 going\n8 done\n9 ok\n10 going\n11 going\n12 done\n13 ok\n14 going\n15 going\n16 done\n17 ok\n18 going\n19 at 1\n20 ok\n21 going\n22 going\n23 no 17\n24 no 10\n25 ok\n26 going\n27 going\n28 done\n29 going\n30 going\n31 going\n32 going\n33 value -8\n34 ok\n35 going\n36 going\n37 going\n38 value 10\n39 ok\n40 going\n41 going\n42 value -7\n"
+  pub sums-order : orderOf 9 (with sumsList sumsSetup) (map handed sums) ≡ 0 ∷ 1 ∷ 2 ∷ 3 ∷ 5 ∷ 4 ∷ 6 ∷ 7 ∷ []
+  pub moved-total-log : logWith movedList 6 (movedSetup ∷ movedTotal)
+      ≡ text
+      "0 ok\n1 ok\n2 going\n3 going\n4 done\n5 ok\n6 going\n7 going\n8 going\n9 going\n10 going\n11 going\n12 going\n13 done\n14 ok\n15 going\n16 at 1\n17 ok\n18 going\n19 going\n20 done\n21 ok\n22 going\n23 ok\n24 going\n25 going\n26 going\n27 going\n28 going\n29 going\n30 going\n31 freed 0\n32 freed 1\n33 done\n34 ok\n35 going\n36 going\n37 going\n38 going\n39 freed 4\n40 done\n41 ok\n42 going\n43 going\n44 going\n45 going\n46 value 9\n"
+  pub moved-total-order : orderOf 6 (with movedList movedSetup) (map handed movedTotal) ≡ 0 ∷ 1 ∷ 2 ∷ 3 ∷ 5 ∷ 6 ∷ 7 ∷ 4 ∷ []
+  pub over-log : lines 0 (answersTo (rowOf 6) (overSetup ∷ over))
+      ≡ text "0 ok\n1 ok\n2 going\n3 going\n4 done\n5 ok\n6 going\n7 at 1\n8 ok\n9 going\n10 no 18\n11 no 11\n12 ok\n13 going\n14 value 1000000000000\n"
+  -- the total, call 2, is refused
+  pub over-order : orderOf 6 overSetup over ≡ 0 ∷ 1 ∷ 3 ∷ []
+  pub large-log : logWith (replicate 8 0) 3 (largeSetup ∷ large)
+      ≡ text "0 ok\n1 ok\n2 going\n3 going\n4 done\n5 ok\n6 going\n7 at 1\n8 ok\n9 going\n10 going\n11 going\n12 value 1999999999998\n"
+  pub bad-lists : map (λ l. answersTo (rowOf 3) (with l (setup 1 3 3 1) ∷ [])) badLists
+      ≡ replicate 6 (No 5 ∷ []) ++ ((Ok ∷ []) ∷ [])
   pub moved-log : logFor 6 (movedSetup ∷ movedRead)
       ≡ text
       "0 ok\n1 ok\n2 going\n3 going\n4 done\n5 ok\n6 going\n7 going\n8 going\n9 going\n10 going\n11 going\n12 going\n13 done\n14 ok\n15 going\n16 at 1\n17 ok\n18 going\n19 going\n20 done\n21 ok\n22 going\n23 ok\n24 going\n25 going\n26 going\n27 going\n28 going\n29 going\n30 going\n31 freed 0\n32 freed 1\n33 done\n34 ok\n35 going\n36 going\n37 going\n38 going\n39 freed 4\n40 done\n41 ok\n42 going\n43 value 4\n"

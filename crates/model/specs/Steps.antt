@@ -1,12 +1,14 @@
 -- The steps: H5 of docs/HUB.md. Each takes the store, the worker that steps and what its place holds.
 use mathlib.Core.Bool.{cond}
 use mathlib.Core.List.{List, [], _∷_, _++_, map}
-use Prim.Native.Nat.{ℕ, _+_}
+use Prim.Native.Nat.{ℕ, _+_, _-_}
 use lib.Dec.{ltb, leb, eqb}
 use lib.ListN.{length, set, drop}
-use Rattle.model.specs.Store.{absent, lastClock, Reading, Range, TimeStep, OpenAnnounce, OpenPass, CloseWithdraw, Goal, Doing, Idle, PutPublish, PutStamp, PutHandIn, FlushTake, FlushRead, FlushFree, OnTime, ReadEnter, ReadStand, GetShow, Worker, Store, workerAt, slotAt, newestOf, holders, held, rangeOf, withClock, withSlots, withNewest, withFree, withQueue, withWorkers, withWorker, withDoing, place}
+use Rattle.model.specs.Store.{absent, lastClock, Reading, Range, TimeStep, OpenAnnounce, OpenPass, CloseWithdraw, Purpose, Single, Totaling, Goal, Doing, Idle, PutPublish, PutStamp, PutHandIn, FlushTake, FlushRead, FlushFree, OnTime, ReadEnter, ReadStand, GetShow, Worker, Store, workerAt, slotAt, newestOf, holders, held, rangeOf, withClock, withSlots, withNewest, withFree, withQueue, withWorkers, withWorker, withDoing, place}
 use Rattle.model.specs.About.{Stance, Nowhere, StandsOn, about}
-use Rattle.model.specs.Answer.{Answer, Going, Freed, At, Value, Done, No, Stepped}
+use Rattle.model.specs.Rules.{twelveDigits}
+use Rattle.model.specs.Totals.{Sum, registerOf, rowAt, goesOn, addRow}
+use Rattle.model.specs.Answer.{Answer, Going, Freed, At, Value, Below, Done, No, Stepped}
 use Rattle.model.specs.Versions.{stamp, linkSlots, unlinkSlots}
 use Rattle.model.specs.Ranges.{firstTwo, merge, neededOf, needlessOf, neededPools, joining, queuedPool}
 
@@ -139,7 +141,7 @@ openPass s w =
     }
 
 ------------------------------------------------------------------------
--- Read, get, close
+-- Read, total, get, close
 
 -- H10.3: what a get or a read answers that found this
 unfoldable pub answerFor : Reading → Answer
@@ -151,12 +153,39 @@ readEnter s w g =
     let r = g .register in
     record { store = place (stamp s r) w (ReadStand g (newestOf s r)); answer = Going }
 
--- Read (2) H5.37: with a low that is at most the worker's time, the value there is the answer; else the read goes to the older neighbour.
+-- H12.5: a total of group g at row i of the list, with the sums of the rows of its group before it
+abbrev pub goalAt : List ℕ → ℕ → ℕ → Sum → Goal
+goalAt rows g i sum = record { register = registerOf (rowAt rows i); purpose = Totaling g i sum }
+
+-- H12.8: what a total answers with the sums of all its rows: what was added less what was subtracted
+unfoldable pub signed : Sum → Answer
+signed y =
+    let up : Answer = Value (record { count = y .plus - y .minus }) in
+    let down : Answer = Below (record { count = y .minus - y .plus }) in
+    cond (leb (y .minus) (y .plus)) up down
+
+-- H12.6: a total found the value x for row i. H12.9: refusal 18 where x has more than twelve digits. H12.7: the next row of the group is read as
+-- this one was; behind the last one the sum is the answer.
+unfoldable pub totalFound : Store → ℕ → ℕ → ℕ → Sum → ℕ → Stepped
+totalFound s w g i sum x =
+    let rows = s .site .rows in
+    let more = addRow sum (rowAt rows i) x in
+    let over : Stepped = record { store = place s w Idle; answer = No 18 } in
+    let next : Stepped = record { store = place s w (ReadEnter (goalAt rows g (i + 1) more)); answer = Going } in
+    let last : Stepped = record { store = place s w Idle; answer = signed more } in
+    cond (leb x twelveDigits) (cond (goesOn rows g i) next last) over
+
+-- what follows where the version that the worker's time needs has the reading x
+unfoldable pub found : Store → ℕ → Purpose → Reading → Stepped
+found s w Single x = record { store = place s w Idle; answer = answerFor x }
+found s w (Totaling g i sum) x = totalFound s w g i sum (x .count)
+
+-- Read (2) H5.37: with a low that is at most the worker's time, the value there is found, which is a read's answer; else the read goes to the
+-- older neighbour.
 unfoldable pub readStand : Store → ℕ → Goal → ℕ → Stepped
 readStand s w g c =
-    let found : Stepped = record { store = place s w Idle; answer = answerFor (slotAt s c .value) } in
     let on : Stepped = record { store = place s w (ReadStand g (slotAt s c .older)); answer = Going } in
-    cond (leb (slotAt s c .low) (workerAt s w .announced)) found on
+    cond (leb (slotAt s c .low) (workerAt s w .announced)) (found s w (g .purpose) (slotAt s c .value)) on
 
 -- Get, H5.39: the register is stamped, and the newest version's value is the answer.
 unfoldable pub getShow : Store → ℕ → ℕ → Stepped

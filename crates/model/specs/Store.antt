@@ -2,6 +2,7 @@
 use mathlib.Core.List.{List, [], _∷_}
 use Prim.Native.Nat.{ℕ, zero, suc, _+_}
 use lib.ListN.{getD, set}
+use Rattle.model.specs.Totals.{Sum}
 
 -- H1.8: a time or a neighbour that is not there: an unset low, an open high, no announced time, no older or newer neighbour.
 -- H1.9, H1.10: the number is above every time, and above every slot.
@@ -40,9 +41,16 @@ pub data TimeStep : Type 0 where
   OpenPass : TimeStep
   CloseWithdraw : TimeStep
 
--- what a read is for: the register that it reads
+-- What a value is read for: it is the answer; or it goes into a total: the group, the index of the row in the list, and the sums of the rows
+-- before it.
+pub data Purpose : Type 0 where
+  Single : Purpose
+  Totaling : ℕ → ℕ → Sum → Purpose
+
+-- what a read, or a total, is at: the register that it reads, and what for
 pub record Goal : Type 0 where
   pub register : ℕ
+  pub purpose : Purpose
 
 -- H1.15: what a worker is doing, its place. A place is named after the step that comes next.
 pub data Doing : Type 0 where
@@ -61,7 +69,7 @@ pub data Doing : Type 0 where
   FlushFree : List Range → Doing
   -- open (1) and (2), close
   OnTime : TimeStep → Doing
-  -- read (1)
+  -- read (1), of a total too
   ReadEnter : Goal → Doing
   -- read (2): also the slot on which the read stands
   ReadStand : Goal → ℕ → Doing
@@ -88,6 +96,8 @@ pub record Site : Type 0 where
   pub N : ℕ
   -- H1.24: the batch size, taken at setup
   pub B : ℕ
+  -- H12.3: the rows of the list of totals
+  pub rows : List ℕ
 
 -- A hub that is set up. `newest` has the slot of each register's newest version (H1.11), `free` the free slots with the one that is taken first
 -- in front (H1.25), `queue` the shared pools, first in first (H1.20).

@@ -49,6 +49,7 @@ pub record SizesIn (h : Hub) (long : ℕ) : Type 0 where
   pub n : (h .v ≤ h .n) × (h .n ≤ 2048) × (h .n ≤ long)
   pub free : h .free ≤ besides h
   pub window : WindowIn (h .window) (besides h)
+  pub listed : h .listed ≤ 1024
 
 pub sizes-tell : (h : Hub) (long : ℕ) → sizesFit h long ≡ true → SizesIn h long
 unfolding sizesFit
@@ -57,7 +58,8 @@ sizes-tell h long e =
     let V' = leb 1 (h .v) && leb (h .v) 256 in
     let N = leb (h .v) (h .n) && leb (h .n) 2048 in
     let W = windowFits (h .window) (besides h) in
-    let all = and-both (P && V' && (N && leb (h .n) long)) (leb (h .free) (besides h) && W) e in
+    let both = and-both (P && V' && (N && leb (h .n) long) && (leb (h .free) (besides h) && W)) (leb (h .listed) 1024) e in
+    let all = and-both (P && V' && (N && leb (h .n) long)) (leb (h .free) (besides h) && W) (both .0) in
     let sizes = and-both (P && V') (N && leb (h .n) long) (all .0) in
     let counts = and-both (leb (h .free) (besides h)) W (all .1) in
     let pv = and-both P V' (sizes .0) in
@@ -71,6 +73,7 @@ sizes-tell h long e =
       n = (leb-true _ _ (vn .0), leb-true _ _ (vn .1), leb-true _ _ (n .1));
       free = leb-true _ _ (counts .0);
       window = window-tell (h .window) (besides h) (counts .1);
+      listed = leb-true _ _ (both .1);
     }
 
 pub sizes-yes : (h : Hub) (long : ℕ) → SizesIn h long → sizesFit h long ≡ true
@@ -86,4 +89,5 @@ sizes-yes h long z =
       le-leb (h .n) long (z .n .2),
       le-leb (h .free) (besides h) (z .free),
       window-yes (h .window) (besides h) (z .window),
+      le-leb (h .listed) 1024 (z .listed),
     )

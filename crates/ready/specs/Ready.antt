@@ -6,9 +6,13 @@ use Prim.Native.Nat.{ℕ, zero, suc, _+_, _*_, _-_, min}
 use lib.Dec.{ltb, leb, eqb}
 use lib.ListN.{getD}
 use Rattle.model.specs.Batch.{batchOf}
+use Rattle.model.specs.Rules.{twelveDigits}
+use Rattle.model.specs.Totals.{registerOf, rowAt}
 use Rattle.values.specs.declared.Window.{Window}
 use Rattle.worker.specs.declared.Named.{Named}
 use Rattle.worker.specs.declared.Named.the-variants.{Nothing, Is}
+use Rattle.worker.specs.declared.Purpose.{Purpose}
+use Rattle.worker.specs.declared.Purpose.the-variants.{Single, Totaling}
 use Rattle.worker.specs.declared.Facts.{Facts}
 use Rattle.worker.specs.About.{aboutOf}
 use Rattle.worker.specs.declared.Pool.{Pool}
@@ -46,21 +50,36 @@ abbrev pub namedBelow : Named → ℕ → Bool
 namedBelow Nothing n = true
 namedBelow (Is i) n = ltb i n
 
--- registers below V, slots below N, and no more times read than there are workers
-unfoldable pub placeFits : Facts → ℕ → ℕ → ℕ → Bool
-placeFits y p v n = namedBelow (y .register) v && namedBelow (y .slot) n && leb (y .read) p
+-- the registers of the first k rows of totals are below v
+unfoldable pub rowsBelow : List ℕ → ℕ → ℕ → Bool
+rowsBelow rows v zero = true
+rowsBelow rows v (suc k) = rowsBelow rows v k && ltb (registerOf (rowAt rows k)) v
+
+-- a sum has at most 31 values of twelve digits: a group has at most 32 rows, and the sums are of those before the row
+abbrev pub sumFits : ℕ → Bool
+sumFits sum = leb sum (31 * twelveDigits)
+
+-- a total is at one of k rows, and its sums are in range
+abbrev pub purposeFits : Purpose → ℕ → Bool
+purposeFits Single k = true
+purposeFits (Totaling g i plus minus) k = ltb i k && (sumFits plus && sumFits minus)
+
+-- registers below V, slots below N, no more times read than there are workers, and a total at one of k rows
+unfoldable pub placeFits : Facts → ℕ → ℕ → ℕ → ℕ → Bool
+placeFits y p v n k =
+    namedBelow (y .register) v && namedBelow (y .slot) n && (leb (y .read) p && purposeFits (y .purpose) k)
 
 -- a worker's record, with at most so many ranges in its local pool and in its list in hand
-unfoldable pub workerFits : Worker → ℕ → List ℕ → ℕ → ℕ → ℕ → ℕ → ℕ → Bool
-workerFits x w merged local list p v n =
+unfoldable pub workerFits : Worker → ℕ → List ℕ → ℕ → ℕ → ℕ → ℕ → ℕ → ℕ → Bool
+workerFits x w merged local list p v n k =
     let y = aboutOf (x .doing) in
-    placeFits y p v n && poolFits (x .pool) local n && handFits (y .ranges) w merged list n
+    placeFits y p v n k && poolFits (x .pool) local n && handFits (y .ranges) w merged list n
 
 -- the first k workers
 unfoldable pub workersFit : Hub → List ℕ → ℕ → ℕ → ℕ → Bool
 workersFit h merged local list zero = true
 workersFit h merged local list (suc k) =
-    workersFit h merged local list k && workerFits (workerIn h k) k merged local list (h .p) (h .v) (h .n)
+    workersFit h merged local list k && workerFits (workerIn h k) k merged local list (h .p) (h .v) (h .n) (h .listed)
 
 -- each of the k pools whose lengths stand from place i on has 1 to so many ranges
 unfoldable pub lensFit : List ℕ → ℕ → ℕ → ℕ → Bool
@@ -86,9 +105,11 @@ sizesFit h long =
     (leb 1 (h .p) && leb (h .p) 16 && (leb 1 (h .v) && leb (h .v) 256))
     && (leb (h .v) (h .n) && leb (h .n) 2048 && leb (h .n) long)
     && (leb (h .free) (besides h) && windowFits (h .window) (besides h))
+    && leb (h .listed) 1024
 
 -- Lent memory counts as set up: the hub, newest, free, queue, lens, merged; `linked` says that every neighbour in the row of slots is in range.
 -- A local pool has at most B ranges, a queued one 2B, a list in hand 4B, and none has more than there are slots besides the newest.
+-- The registers of the rows of totals are below V.
 unfoldable pub readyOf : Hub → List ℕ → List ℕ → List ℕ → List ℕ → List ℕ → Bool → ℕ → Bool
 readyOf h newest free queue lens merged linked long =
     let b = batchOf (h .p) in
@@ -97,5 +118,5 @@ readyOf h newest free queue lens merged linked long =
     (belowTo newest (h .n) (h .v) && belowTo free (h .n) (h .free)
     && (slotsBelow queue (w .from) (h .n) (w .queued) && lensFit lens (w .first) (2 * b) (w .pools))
     && (eqb (lensSum lens (w .first) (w .pools)) (w .queued) && workersFit h merged (min b (besides h)) (min (4 * b) (besides h)) (h .p))
-    && linked)
+    && (rowsBelow (h .rows) (h .v) (h .listed) && linked))
     false

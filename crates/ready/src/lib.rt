@@ -3,12 +3,13 @@ ghost use mathlib.Core.Path.{_≡_};
 ghost use Prim.Native.Nat.{_+_, _*_, _-_, _<_, _≤_, min};
 ghost use lib.ListN.{length};
 ghost use Rattle.model.specs.Batch.{batchOf};
-ghost use Rattle.ready.specs.Ready.{belowTo, slotsBelow, poolFits, listFits, handFits, namedBelow, placeFits, workerFits, workersFit, lensFit, lensSum, windowFits, sizesFit, readyOf};
+ghost use Rattle.ready.specs.Ready.{belowTo, slotsBelow, poolFits, listFits, handFits, namedBelow, rowsBelow, purposeFits, placeFits, workerFits, workersFit, lensFit, lensSum, windowFits, sizesFit, readyOf};
 use state::Hub;
 use values::Window;
 use worker::Facts;
 use worker::Named;
 use worker::Pool;
+use worker::Purpose;
 use worker::Worker;
 
 fn wide16(x: u16) -> usize
@@ -125,13 +126,41 @@ fn below(x: Named, n: u16) -> bool
     }
 }
 
-// Whether the register, the slot and the count of times that a worker's place names are in range.
-fn place_fits(y: Facts, p: u8, v: u16, n: u16) -> bool
-    ensures { λ r. ⌜ r ≡ placeFits y p v n ⌝ }
+// Whether the registers of the first k rows of totals are below v.
+fn rows_below(rows: &[u32; 1024], k: usize, v: u32) -> bool
+    requires { ⌜ k ≤ 1024 ⌝ }
+    ensures { λ r. ⌜ r ≡ rowsBelow (now (rows .entry)) v k ⌝ }
+{
+    let mut ok = true;
+    for i in 0..k {
+        ok = ok & (rows[i] / 65536 < v);
+    }
+    ok
+}
+
+// Whether a total, if a place reads for one, is at one of k rows, with sums to which one value more may be added.
+fn purpose_fits(x: Purpose, k: u16) -> bool
+    ensures { λ r. ⌜ r ≡ purposeFits x k ⌝ }
+{
+    match x {
+        Purpose::Single => true,
+        Purpose::Totaling {
+            group: _,
+            row,
+            plus,
+            minus,
+        } => (row < k) & ((plus <= 30999999999969) & (minus <= 30999999999969)),
+    }
+}
+
+// Whether the register, the slot, the count of times and the total that a worker's place names are in range.
+fn place_fits(y: Facts, p: u8, v: u16, n: u16, k: u16) -> bool
+    ensures { λ r. ⌜ r ≡ placeFits y p v n k ⌝ }
 {
     let register = y.register;
     let slot = y.slot;
-    (below(register, v) & below(slot, n)) & (y.read <= p)
+    let purpose = y.purpose;
+    (below(register, v) & below(slot, n)) & ((y.read <= p) & purpose_fits(purpose, k))
 }
 
 // Whether worker w's record x is in range, with at most so many ranges in its local pool and in its list in hand.
@@ -144,30 +173,33 @@ fn worker_fits(
     p: u8,
     v: u16,
     n: u16,
+    k: u16,
 ) -> bool
     requires { ⌜ (local ≤ 64) × (list ≤ 256) ⌝ }
-    ensures { λ r. ⌜ r ≡ workerFits x w (now (merged .entry)) local list p v n ⌝ }
+    ensures { λ r. ⌜ r ≡ workerFits x w (now (merged .entry)) local list p v n k ⌝ }
 {
     let d = x.doing;
     let y = worker::about(d);
     let ranges = y.ranges;
     let q = x.pool;
-    (place_fits(y, p, v, n) & pool_fits(q, local, n)) & hand_fits(ranges, w, merged, list, n as u32)
+    (place_fits(y, p, v, n, k) & pool_fits(q, local, n))
+        & hand_fits(ranges, w, merged, list, n as u32)
 }
 
 // Whether the first p workers' records are in range.
 fn workers_fit(hub: Hub, merged: &[u32; 12288], local: usize, list: usize) -> bool
-    requires { ⌜ (hub .p ≤ 16) × (hub .v ≤ 256) × (hub .n ≤ 2048) × (local ≤ 64) × (list ≤ 256) ⌝ }
+    requires { ⌜ (hub .p ≤ 16) × (hub .v ≤ 256) × (hub .n ≤ 2048) × (hub .listed ≤ 1024) × (local ≤ 64) × (list ≤ 256) ⌝ }
     ensures { λ r. ⌜ r ≡ workersFit hub (now (merged .entry)) local list (hub .p) ⌝ }
 {
-    let k = hub.p;
-    let p = k as u8;
+    let all = hub.p;
+    let p = all as u8;
     let v = hub.v as u16;
     let n = hub.n as u16;
+    let k = hub.listed as u16;
     let mut ok = true;
-    for w in 0..k {
+    for w in 0..all {
         let x = hub.workers[w];
-        ok = ok & worker_fits(x, w, merged, local, list, p, v, n);
+        ok = ok & worker_fits(x, w, merged, local, list, p, v, n, k);
     }
     ok
 }
@@ -216,6 +248,7 @@ fn sizes_fit(hub: Hub, long: usize) -> bool
     (((1 <= p) & (p <= 16)) & ((1 <= v) & (v <= 256)))
         & (((v <= n) & (n <= 2048)) & (n <= long))
         & ((hub.free <= most) & window_fits(window, most))
+        & (hub.listed <= 1024)
 }
 
 // Whether lent memory counts as set up. `linked` says it of the neighbours in the row of slots, which has so many.
@@ -245,7 +278,8 @@ pub fn ready<'a>(
         let d = lens_fit(lens, w.first, w.pools, (2 * size) as u32);
         let e = lens_sum(lens, w.first, w.pools) == w.queued;
         let f = workers_fit(hub, merged, least(size, most), least(4 * size, most));
-        return (((a & b) & (c & d)) & (e & f)) & linked;
+        let g = rows_below(&hub.rows, hub.listed, hub.v as u32);
+        return (((a & b) & (c & d)) & (e & f)) & (g & linked);
     }
     false
 }

@@ -10,12 +10,15 @@ use numbers::FREE;
 use numbers::FREE_SLOT;
 use numbers::FROM;
 use numbers::HAND;
+use numbers::HAND_SLOT;
 use numbers::KINDS;
 use numbers::LENGTH;
+use numbers::LISTED;
 use numbers::NEWER;
 use numbers::NEWEST;
 use numbers::OLDER;
 use numbers::ONE_POOL;
+use numbers::PLUS;
 use numbers::POOL_LENGTH;
 use numbers::POOL_SLOT;
 use numbers::POOLS;
@@ -24,9 +27,11 @@ use numbers::QUEUED_SLOT;
 use numbers::READ;
 use numbers::REGISTER;
 use numbers::REGISTERS;
+use numbers::ROW_REGISTER;
 use numbers::SLOT;
 use numbers::SLOTS;
 use numbers::Sizes;
+use numbers::TOTAL_ROW;
 use numbers::WORKERS;
 use records::Memory;
 use values::Answer;
@@ -37,14 +42,24 @@ fn write(bytes: &[u8]) {
     io::write_all(STDOUT_FILENO, bytes);
 }
 
-// A number below 10000, without leading zeros.
-fn write_number(x: usize) {
-    let digits = [
+// The last four digits of a number.
+fn four_of(x: usize) -> [u8; 4] {
+    [
         (48 + x / 1000 % 10) as u8,
         (48 + x / 100 % 10) as u8,
         (48 + x / 10 % 10) as u8,
         (48 + x % 10) as u8,
-    ];
+    ]
+}
+
+fn write_four(x: usize) {
+    let digits = four_of(x);
+    write(&digits);
+}
+
+// A number below 10000, without leading zeros.
+fn write_number(x: usize) {
+    let digits = four_of(x);
     if x < 10 {
         write(&digits[3..4]);
     } else if x < 100 {
@@ -54,6 +69,18 @@ fn write_number(x: usize) {
     } else {
         write(&digits);
     }
+}
+
+// A number below 10000, or one of thirteen to sixteen digits.
+fn write_large(x: usize) {
+    if x < 10000 {
+        write_number(x);
+        return;
+    }
+    write_number(x / 1000000000000);
+    write_four(x / 100000000);
+    write_four(x / 10000);
+    write_four(x);
 }
 
 fn write_answer(answer: Answer) {
@@ -67,6 +94,7 @@ fn write_answer(answer: Answer) {
         Answer::Freed(_) => write(b"freed"),
         Answer::At(_) => write(b"at"),
         Answer::Value(_) => write(b"value"),
+        Answer::Below(_) => write(b"below"),
         Answer::Done => write(b"done"),
     }
 }
@@ -88,13 +116,18 @@ fn write_name(kind: u8) {
         QUEUED_SLOT => write(b"queued slot"),
         OLDER => write(b"older neighbour"),
         NEWER => write(b"newer neighbour"),
+        LISTED => write(b"rows listed"),
+        ROW_REGISTER => write(b"register of row"),
         POOL_LENGTH => write(b"length of local pool"),
         POOL_SLOT => write(b"slot in local pool"),
         REGISTER => write(b"register"),
         SLOT => write(b"slot"),
         READ => write(b"times read"),
         HAND => write(b"ranges in hand"),
-        _ => write(b"slot in hand"),
+        HAND_SLOT => write(b"slot in hand"),
+        TOTAL_ROW => write(b"row of total"),
+        PLUS => write(b"sum of rows +"),
+        _ => write(b"sum of rows -"),
     }
 }
 
@@ -104,8 +137,8 @@ fn write_name(kind: u8) {
 fn show(m: Memory, long: usize, worker: u8) {
     let get = [5, worker, 0, 0, 0, 0, 0, 0, 0, 0, 0, 0, 0, 0, 0, 0];
     let setup = [0, 1, 1, 0, 1, 0, 0, 0, 1, 0, 0, 0, 0, 0, 0, 0];
-    let first = records::try_record(m, long, &get);
-    let second = records::try_record(m, long, &setup);
+    let first = records::try_record(m, long, &[], &get);
+    let second = records::try_record(m, long, &[], &setup);
     write(b": ");
     let a = first.answer;
     write_answer(a);
@@ -128,7 +161,7 @@ fn show_value(m: Memory, z: Sizes, kind: u8, w: usize, i: usize, x: usize) {
         write_number(i);
     }
     write(b" = ");
-    write_number(x);
+    write_large(x);
     show(numbers::memory_with(m, kind, w, i, x), 2048, z.idle);
 }
 
@@ -210,13 +243,14 @@ fn sizes_of(m: Memory, local: usize, pool: usize, list: usize, idle: u8) -> Size
         local,
         pool,
         list,
+        listed: hub.listed,
         idle,
     }
 }
 
 // A hub with one slot has none free.
 fn smallest() {
-    let m = records::set_up(1, 1, 1);
+    let m = records::set_up(1, 1, 1, &[]);
     let z = sizes_of(m, 0, 0, 0, 0);
     show_kind(m, z, FREE);
     show_value(m, z, FREE, 0, 0, 2048);
@@ -263,7 +297,7 @@ fn many_workers() {
         [3, 6, 0, 1],
         [5, 7, 1, 0],
     ];
-    let m = records::driven(records::set_up(9, 2, 24), &script);
+    let m = records::driven(records::set_up(9, 2, 24, &[]), &script);
     show_all(m, sizes_of(m, 22, 22, 22, 8));
 }
 
@@ -282,12 +316,21 @@ fn two_workers() {
         [7, 1, 0, 3],
         [1, 1, 0, 3],
     ];
-    let m = records::driven(records::set_up(2, 2, 16), &script);
+    let m = records::driven(records::set_up(2, 2, 16, &[]), &script);
     show_all(m, sizes_of(m, 2, 4, 8, 1));
+}
+
+// Three workers with totals of two groups, in three rows: one before its first step, one that stands on a version.
+fn totals() {
+    let list = [0, 0, 0, 0, 0, 1, 1, 0, 1, 0, 1, 0];
+    let script = [[2, 0, 0, 2], [8, 0, 1, 0], [2, 1, 0, 2], [8, 1, 0, 1]];
+    let m = records::driven(records::set_up(3, 2, 3, &list), &script);
+    show_all(m, sizes_of(m, 1, 1, 1, 2));
 }
 
 fn main() {
     smallest();
     many_workers();
     two_workers();
+    totals();
 }

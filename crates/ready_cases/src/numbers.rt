@@ -6,6 +6,7 @@ use values::Window;
 use worker::Doing;
 use worker::Goal;
 use worker::Named;
+use worker::Purpose;
 use worker::Worker;
 
 // The kinds of numbers. Those from POOL_LENGTH on stand in a worker's record.
@@ -40,23 +41,35 @@ pub const OLDER: u8 = 13;
 
 pub const NEWER: u8 = 14;
 
-pub const POOL_LENGTH: u8 = 15;
+pub const LISTED: u8 = 15;
 
-pub const POOL_SLOT: u8 = 16;
+pub const ROW_REGISTER: u8 = 16;
 
-pub const REGISTER: u8 = 17;
+pub const POOL_LENGTH: u8 = 17;
 
-pub const SLOT: u8 = 18;
+pub const POOL_SLOT: u8 = 18;
 
-pub const READ: u8 = 19;
+pub const REGISTER: u8 = 19;
 
-pub const HAND: u8 = 20;
+pub const SLOT: u8 = 20;
 
-pub const HAND_SLOT: u8 = 21;
+pub const READ: u8 = 21;
 
-pub const KINDS: u8 = 22;
+pub const HAND: u8 = 22;
 
-// The sizes and counts of a memory, N - V, the most ranges of a local pool, of a queued one and of a list in hand, and an idle worker.
+pub const HAND_SLOT: u8 = 23;
+
+// Where a total is, and its sums.
+pub const TOTAL_ROW: u8 = 24;
+
+pub const PLUS: u8 = 25;
+
+pub const MINUS: u8 = 26;
+
+pub const KINDS: u8 = 27;
+
+// The sizes and counts of a memory, N - V, the most ranges of a local pool, of a queued one and of a list in hand, how many rows of totals
+// there are, and an idle worker.
 pub struct Sizes {
     pub p: usize,
     pub v: usize,
@@ -69,6 +82,7 @@ pub struct Sizes {
     pub local: usize,
     pub pool: usize,
     pub list: usize,
+    pub listed: usize,
     pub idle: u8,
 }
 
@@ -85,10 +99,13 @@ pub fn past(kind: u8, z: Sizes) -> usize {
         ONE_POOL => z.pool,
         FIRST => z.from,
         FROM => 2048,
+        LISTED => 1024,
         POOL_LENGTH => z.local,
         READ => z.p,
         HAND => z.list,
-        REGISTER => return z.v,
+        PLUS | MINUS => 30999999999969,
+        ROW_REGISTER | REGISTER => return z.v,
+        TOTAL_ROW => return z.listed,
         _ => return z.n,
     };
     std::num::wrapping_add_usize(most, 1)
@@ -105,7 +122,8 @@ pub fn is_alone(kind: u8) -> bool {
 // Whether there may be several of this kind.
 pub fn is_many(kind: u8) -> bool {
     match kind {
-        LENGTH | NEWEST | FREE_SLOT | QUEUED_SLOT | OLDER | NEWER | POOL_SLOT | HAND_SLOT => true,
+        LENGTH | NEWEST | FREE_SLOT | QUEUED_SLOT | OLDER | NEWER | ROW_REGISTER => true,
+        POOL_SLOT | HAND_SLOT => true,
         _ => false,
     }
 }
@@ -118,6 +136,7 @@ pub fn in_memory(kind: u8, z: Sizes) -> usize {
         FREE_SLOT => z.free,
         QUEUED_SLOT => z.queued,
         OLDER | NEWER => z.n,
+        ROW_REGISTER => z.listed,
         _ => 1,
     }
 }
@@ -143,6 +162,18 @@ fn one_if_reading(d: Doing) -> usize {
     }
 }
 
+fn one_if_totaling(x: Purpose) -> usize {
+    match x {
+        Purpose::Single => 0,
+        Purpose::Totaling {
+            group: _,
+            row: _,
+            plus: _,
+            minus: _,
+        } => 1,
+    }
+}
+
 // How many numbers of this kind a worker's record has.
 pub fn in_worker(kind: u8, x: Worker) -> usize {
     let d = x.doing;
@@ -150,6 +181,7 @@ pub fn in_worker(kind: u8, x: Worker) -> usize {
     let register = y.register;
     let slot = y.slot;
     let ranges = y.ranges;
+    let purpose = y.purpose;
     let q = x.pool;
     match kind {
         POOL_LENGTH => 1,
@@ -158,7 +190,8 @@ pub fn in_worker(kind: u8, x: Worker) -> usize {
         SLOT => one_if_named(slot),
         READ => one_if_reading(d),
         HAND => one_if_named(ranges),
-        _ => count_of(ranges),
+        HAND_SLOT => count_of(ranges),
+        _ => one_if_totaling(purpose),
     }
 }
 
@@ -195,11 +228,17 @@ fn with_register(d: Doing, r: u16) -> Doing {
             register: r,
             covered,
         },
-        Doing::ReadEnter { goal: _ } => Doing::ReadEnter {
-            goal: Goal { register: r },
+        Doing::ReadEnter { goal } => Doing::ReadEnter {
+            goal: Goal {
+                register: r,
+                ..goal
+            },
         },
-        Doing::ReadStand { goal: _, slot } => Doing::ReadStand {
-            goal: Goal { register: r },
+        Doing::ReadStand { goal, slot } => Doing::ReadStand {
+            goal: Goal {
+                register: r,
+                ..goal
+            },
             slot,
         },
         Doing::GetShow { register: _ } => Doing::GetShow { register: r },
@@ -246,12 +285,46 @@ fn with_read(d: Doing, j: u8) -> Doing {
     }
 }
 
+// The goal with another row of its total or another sum, where it has them.
+fn goal_with(g: Goal, kind: u8, x: usize) -> Goal {
+    let old = g.purpose;
+    let purpose = match old {
+        Purpose::Single => old,
+        Purpose::Totaling {
+            group,
+            row,
+            plus,
+            minus,
+        } => Purpose::Totaling {
+            group,
+            row: (pick(kind == TOTAL_ROW, x, row as usize) % 65536) as u16,
+            plus: pick(kind == PLUS, x, plus as usize) as u64,
+            minus: pick(kind == MINUS, x, minus as usize) as u64,
+        },
+    };
+    Goal { purpose, ..g }
+}
+
+fn with_total(d: Doing, kind: u8, x: usize) -> Doing {
+    match d {
+        Doing::ReadEnter { goal } => Doing::ReadEnter {
+            goal: goal_with(goal, kind, x),
+        },
+        Doing::ReadStand { goal, slot } => Doing::ReadStand {
+            goal: goal_with(goal, kind, x),
+            slot,
+        },
+        _ => d,
+    }
+}
+
 fn place_with(d: Doing, kind: u8, x: usize) -> Doing {
     match kind {
         REGISTER => with_register(d, (x % 65536) as u16),
         SLOT => with_slot(d, (x % 65536) as u16),
         READ => with_read(d, (x % 256) as u8),
         HAND => with_ranges(d, (x % 65536) as u16),
+        TOTAL_ROW | PLUS | MINUS => with_total(d, kind, x),
         _ => d,
     }
 }
@@ -273,6 +346,11 @@ fn hub_with(h: Hub, kind: u8, w: usize, i: usize, x: usize) -> Hub {
     hub.v = pick(kind == REGISTERS, x, hub.v);
     hub.n = pick(kind == SLOTS, x, hub.n);
     hub.free = pick(kind == FREE, x, hub.free);
+    hub.listed = pick(kind == LISTED, x, hub.listed);
+    if kind == ROW_REGISTER {
+        let row = hub.rows[i % 1024];
+        hub.rows[i % 1024] = 65536 * ((x % 65536) as u32) + row % 65536;
+    }
     let old = hub.workers[w % 16];
     hub.workers[w % 16] = worker_with(old, kind, i, x);
     let q = hub.window;

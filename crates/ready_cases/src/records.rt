@@ -19,8 +19,8 @@ pub struct Tried {
     pub answer: Answer,
 }
 
-// One record on the memory, with a row of so many slots.
-pub fn try_record(m: Memory, long: usize, rec: &[u8]) -> Tried {
+// One record on the memory, with a row of so many slots and a list of totals.
+pub fn try_record(m: Memory, long: usize, list: &[u8], rec: &[u8]) -> Tried {
     let hub = m.hub;
     let slots = m.slots;
     let mut newest = m.newest;
@@ -32,6 +32,7 @@ pub fn try_record(m: Memory, long: usize, rec: &[u8]) -> Tried {
         slots,
         long,
         hub,
+        list,
         rec,
         &mut newest,
         &mut free,
@@ -62,7 +63,7 @@ fn after(m: Memory, operation: u8, worker: u8, register: u8) -> Memory {
     rec[0] = operation;
     rec[1] = worker;
     rec[2] = register;
-    let t = try_record(m, 2048, &rec);
+    let t = try_record(m, 2048, &[], &rec);
     t.memory
 }
 
@@ -86,10 +87,10 @@ pub fn driven(m: Memory, script: &[[u8; 4]]) -> Memory {
     left
 }
 
-// Memory that a setup of p, v and n left, with the clock at 1.
-pub fn set_up(p: u8, v: u8, n: u8) -> Memory {
+// Memory that a setup of p, v, n and a list of totals left, with the clock at 1.
+pub fn set_up(p: u8, v: u8, n: u8, list: &[u8]) -> Memory {
     let none = slots::vacant();
-    let hub = Hub::fresh(0, 0, 0, 0);
+    let hub = Hub::fresh(0, 0, 0, 0, 0, [0u32; 1024]);
     let m = Memory {
         hub,
         slots: [none; 2048],
@@ -100,6 +101,6 @@ pub fn set_up(p: u8, v: u8, n: u8) -> Memory {
         merged: [0u32; 12288],
     };
     let rec = [0, p, v, 0, n, 0, 0, 0, 1, 0, 0, 0, 0, 0, 0, 0];
-    let t = try_record(m, 2048, &rec);
+    let t = try_record(m, 2048, list, &rec);
     t.memory
 }

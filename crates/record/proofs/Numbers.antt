@@ -1,5 +1,5 @@
 -- Laws of the numbers, the unused bytes and the operation of a record: a number is put together from two parts, bytes are zero where their
--- number is, and a number that is none of four in a row is past them. By induction on the count of bytes, and by `omega`.
+-- number is, and a number that is none of three in a row is past them. By induction on the count of bytes, and by `omega`.
 use mathlib.Core.Path.{_≡_, refl, sym, ap, _∙_}
 use mathlib.Core.Bool.{Bool, _&&_, and-assoc}
 use mathlib.Core.List.{List}
@@ -44,6 +44,6 @@ module _ (b : List ℕ) where
       let s : i + suc m ≡ suc i + m = omega arith in
       rw (suc-add m n, ← zeros-parts (suc i) m n, s, and-assoc)
 
--- a number from k on that is none of the first four is past them
-pub past-four : {n : ℕ} (k : ℕ) → k ≤ n → (n ≡ k → ⊥) → (n ≡ k + 1 → ⊥) → (n ≡ k + 2 → ⊥) → (n ≡ k + 3 → ⊥) → k + 4 ≤ n
-past-four k l a b c d = omega arith
+-- a number from k on that is none of the first three is past them
+pub past-three : {n : ℕ} (k : ℕ) → k ≤ n → (n ≡ k → ⊥) → (n ≡ k + 1 → ⊥) → (n ≡ k + 2 → ⊥) → k + 3 ≤ n
+past-three k l a b c = omega arith

@@ -2,7 +2,7 @@
 use Rattle.model.specs.Record as Model
 use Rattle.values.specs.Meaning.{readingOf}
 use Rattle.record.specs.declared.Operation.{Operation}
-use Rattle.record.specs.declared.Operation.the-variants.{Put, Open, Read, Close, Get, Collect}
+use Rattle.record.specs.declared.Operation.the-variants.{Put, Open, Read, Close, Get, Collect, Total}
 use Rattle.record.specs.declared.Command.{Command}
 use Rattle.record.specs.declared.Command.the-variants.{SetUp, Begin, Step}
 use Rattle.record.specs.declared.Decoded.{Decoded}
@@ -15,6 +15,7 @@ operationOf (Read r) = Model.Read r
 operationOf Close = Model.Close
 operationOf (Get r) = Model.Get r
 operationOf Collect = Model.Collect
+operationOf (Total g) = Model.Total g
 
 -- the sizes and the clock of a setup, or the worker
 abbrev pub commandMeaning : Command → Model.Command

@@ -10,7 +10,7 @@ ghost use Rattle.record.specs.Meaning.{operationOf, decodedOf};
 ghost use Rattle.record.specs.Parts.{checkedOf};
 use values::Reading;
 
-// An operation that a record begins, 1 to 6.
+// An operation that a record begins, 1 to 6 and 8.
 pub enum Operation {
     Put { register: u16, reading: Reading },
     Open,
@@ -18,6 +18,7 @@ pub enum Operation {
     Close,
     Get { register: u16 },
     Collect,
+    Total { group: u16 },
 }
 
 pub enum Command {
@@ -50,7 +51,7 @@ fn wide64(x: u32) -> u64
     x as u64
 }
 
-// The numbers in one, two, four and eight bytes from place i on, least byte first.
+// The numbers in one, two, four and eight bytes from place i on, least byte first; four are a row of the list of totals too.
 fn one(b: &[u8], i: usize) -> u8
     requires { ⌜ i + 1 ≤ length (now b) ⌝ }
     ensures { λ r. ⌜ r ≡ number (now (b .entry)) i 1 ⌝ }
@@ -65,7 +66,7 @@ fn two(b: &[u8], i: usize) -> u16
     wide16(one(b, i)) + 256 * wide16(one(b, i + 1))
 }
 
-fn four(b: &[u8], i: usize) -> u32
+pub fn four(b: &[u8], i: usize) -> u32
     requires { ⌜ i + 4 ≤ length (now b) ⌝ }
     ensures { λ r. ⌜ r ≡ number (now (b .entry)) i 4 ⌝ }
 {
@@ -164,7 +165,7 @@ fn asked(rec: &[u8]) -> Decoded
     requires { ⌜ 16 ≤ length (now rec) ⌝ }
     ensures { λ r. ⌜
         decodedOf r
-        ≡ cond (ltb 7 (getD (now (rec .entry)) 0 0))
+        ≡ cond (ltb 8 (getD (now (rec .entry)) 0 0))
         (Model.Refuses 1)
         (checkedOf (now (rec .entry)) (getD (now (rec .entry)) 0 0))
         ⌝ }
@@ -191,11 +192,15 @@ fn asked(rec: &[u8]) -> Decoded
         }
         6 => begin(rec, none_from_2(rec), Operation::Collect),
         7 => step(rec),
+        8 => {
+            let group = two(rec, 2);
+            begin(rec, none_from_4(rec), Operation::Total { group })
+        }
         _ => Decoded::Refuses(1),
     }
 }
 
-// The command of a record, any bytes, any length. Refusals: 6 fewer than 16 bytes, 1 operation above 7, 2 an unused byte is not zero,
+// The command of a record, any bytes, any length. Refusals: 6 fewer than 16 bytes, 1 operation above 8, 2 an unused byte is not zero,
 // in this order. Bytes after the sixteenth are not looked at.
 pub fn decode(rec: &[u8]) -> Decoded
     ensures { λ r. ⌜ decodedOf r ≡ Model.decode (now (rec .entry)) ⌝ }

@@ -8,7 +8,7 @@ use lib.Dec.{ltb, lit<, lit≤}
 use lib.ListN.{length, getD, take}
 use lib.Seq.{take-all, length-take-le, getD-take}
 use borrow.Author.Tests.{ltb-true, ltb-false}
-use Rattle.model.specs.Record.{number, zeros, Command, SetUp, Begin, Step, Put, Open, Read, Close, Get, Collect}
+use Rattle.model.specs.Record.{number, zeros, Command, SetUp, Begin, Step, Put, Open, Read, Close, Get, Collect, Total}
 use Rattle.model.specs.Record.{Decoded, Asks, Refuses, commandOf, unusedZero, decode}
 use Rattle.values.specs.declared.Answer.{Answer}
 use Rattle.state.specs.State.{workerIn}
@@ -16,7 +16,7 @@ use Rattle.gate.specs.declared.Gate.{Gate}
 use Rattle.gate.specs.Gate.{decodedRep, gateOf, whoOf}
 use Rattle.simulation.specs.Memory.{Memory}
 use Rattle.simulation.specs.Left.{ready}
-use Rattle.simulation.specs.Shell.{Result, obeyIn, doneAs, doneOf}
+use Rattle.simulation.specs.Shell.{rowsKept, Result, obeyIn, doneAs, doneOf}
 use Rattle.simulation.specs.Loop.{after, next, Ran}
 use Rattle.runs.specs.Runs.{One}
 
@@ -48,7 +48,8 @@ module _ (b : List ℕ) where
   command-first (suc (suc (suc (suc zero)))) = λ j. Begin (worker-first j) Close
   command-first (suc (suc (suc (suc (suc zero))))) = λ j. Begin (worker-first j) (Get (register-first j))
   command-first (suc (suc (suc (suc (suc (suc zero)))))) = λ j. Begin (worker-first j) Collect
-  command-first (suc (suc (suc (suc (suc (suc (suc n))))))) = λ j. Step (worker-first j)
+  command-first (suc (suc (suc (suc (suc (suc (suc zero))))))) = λ j. Step (worker-first j)
+  command-first (suc (suc (suc (suc (suc (suc (suc (suc n)))))))) = λ j. Begin (worker-first j) (Total (register-first j))
 
   unused-first : (c : Command) → unusedZero (take 16 b) c ≡ unusedZero b c
   unfolding unusedZero
@@ -59,11 +60,12 @@ module _ (b : List ℕ) where
   unused-first (Begin w Close) = zeros-first b 2 14 (lit≤ tt)
   unused-first (Begin w (Get r)) = zeros-first b 4 12 (lit≤ tt)
   unused-first (Begin w Collect) = zeros-first b 2 14 (lit≤ tt)
+  unused-first (Begin w (Total g)) = zeros-first b 4 12 (lit≤ tt)
   unused-first (Step w) = zeros-first b 2 14 (lit≤ tt)
 
 -- ---- the whole
 abbrev decodedBy : Bool → ℕ → Bool → Command → Decoded
-decodedBy short k unused c = cond short (Refuses 6) (cond (ltb 7 k) (Refuses 1) (cond unused (Asks c) (Refuses 2)))
+decodedBy short k unused c = cond short (Refuses 6) (cond (ltb 8 k) (Refuses 1) (cond unused (Asks c) (Refuses 2)))
 
 by-length : (b : List ℕ) (short : Bool) → ltb (length b) 16 ≡ short → decode (take 16 b) ≡ decode b
 unfolding decode
@@ -80,19 +82,20 @@ pub decode-first : (b : List ℕ) → decode (take 16 b) ≡ decode b
 decode-first b = by-length b (ltb (length b) 16) refl
 
 -- ---- what a record does, and what the first record of a buffer does
-abbrev gateBy : Bool → Memory → Decoded → Gate
-gateBy up m d =
+abbrev gateBy : Bool → Memory → List ℕ → Decoded → Gate
+gateBy up m list d =
     let x = workerIn (m .hub) (whoOf (decodedRep d)) in
-    gateOf (decodedRep d) up (m .hub .p) (m .hub .v) (length (m .slots)) (x .doing) (x .announced)
+    gateOf (decodedRep d) up (m .hub .p) (m .hub .v) (length (m .slots)) (x .doing) (x .announced) list (rowsKept (m .hub))
 
-done-first : (up : Bool) (m : Memory) (b : List ℕ) → doneAs up m (take 16 b) ≡ doneAs up m b
+done-first : (up : Bool) (m : Memory) (list b : List ℕ) → doneAs up m list (take 16 b) ≡ doneAs up m list b
 unfolding doneAs
-done-first up m b = ap (λ (d : Decoded). obeyIn m (gateBy up m d)) (decode-first b)
+done-first up m list b = ap (λ (d : Decoded). obeyIn m list (gateBy up m list d)) (decode-first b)
 
-pub one-ran : {m m′ : Memory} {b kinds numbers kinds′ numbers′ : List ℕ} {y : Answer} → Ran m b kinds numbers 1 m′ kinds′ numbers′ y → One m b m′ y
+pub one-ran : {m m′ : Memory} {list b kinds numbers kinds′ numbers′ : List ℕ} {y : Answer} → Ran m list b kinds numbers 1 m′ kinds′ numbers′ y
+    → One m list b m′ y
 unfolding after next doneOf
-one-ran {m} {m′} {b} r =
+one-ran {m} {m′} {list} {b} r =
     record {
-      memory = r .memory ∙ ap (λ (d : Result). d .memory) (done-first (ready m) m b);
-      answer = r .last ∙ ap (λ (d : Result). d .answer) (done-first (ready m) m b);
+      memory = r .memory ∙ ap (λ (d : Result). d .memory) (done-first (ready m) m list b);
+      answer = r .last ∙ ap (λ (d : Result). d .answer) (done-first (ready m) m list b);
     }

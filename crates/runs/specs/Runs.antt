@@ -6,7 +6,7 @@ use Rattle.values.specs.declared.Answer.{Answer}
 use Rattle.simulation.specs.Memory.{Memory}
 use Rattle.simulation.specs.Shell.{doneOf}
 
--- a record of the bytes b met the memory m, left the memory m′ and was answered y
-pub record One (m : Memory) (b : List ℕ) (m′ : Memory) (y : Answer) : Type 0 where
-  pub memory : m′ ≡ doneOf m b .memory
-  pub answer : y ≡ doneOf m b .answer
+-- a record of the bytes b, with the list lent, met the memory m, left the memory m′ and was answered y
+pub record One (m : Memory) (list b : List ℕ) (m′ : Memory) (y : Answer) : Type 0 where
+  pub memory : m′ ≡ doneOf m list b .memory
+  pub answer : y ≡ doneOf m list b .answer

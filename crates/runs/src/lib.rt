@@ -36,11 +36,12 @@ pub struct Applied {
     pub answer: Answer,
 }
 
-// One record on the first n slots of the words. The words after them keep their contents.
+// One record, with the list of totals lent, on the first n slots of the words. The words after them keep their contents.
 pub fn run_one(
     row: &mut [[u64; 5]],
     n: usize,
     hub: Hub,
+    list: &[u8],
     rec: &[u8],
     newest: &mut [u16; 256],
     free: &mut [u16; 2048],
@@ -61,7 +62,7 @@ pub fn run_one(
           lens = now (lens .entry);
           merged = now (merged .entry);
         })
-        (now (rec .entry))
+        (now (list .entry)) (now (rec .entry))
         (record {
           hub = r .hub;
           slots = take n (rowOf (now (row .exit)));
@@ -79,6 +80,7 @@ pub fn run_one(
     let done = core::run(
         &mut row[0..n],
         hub,
+        list,
         rec,
         1,
         &mut kinds,
@@ -102,12 +104,13 @@ pub struct Counted {
     pub count: usize,
 }
 
-// The records of the bytes, as many as there is room for answers, on the first n slots of the words. The words after them keep
+// The records of the bytes, as many as there is room for answers, with the list of totals lent, on the first n slots of the words. The words after them keep
 // their contents.
 pub fn run_all(
     row: &mut [[u64; 5]],
     n: usize,
     hub: Hub,
+    list: &[u8],
     bytes: &[u8],
     kinds: &mut [u8],
     numbers: &mut [u64],
@@ -130,7 +133,7 @@ pub fn run_all(
           lens = now (lens .entry);
           merged = now (merged .entry);
         })
-        (now (bytes .entry)) (now (kinds .entry)) (now (numbers .entry)) (r .count)
+        (now (list .entry)) (now (bytes .entry)) (now (kinds .entry)) (now (numbers .entry)) (r .count)
         (record {
           hub = r .hub;
           slots = take n (rowOf (now (row .exit)));
@@ -148,6 +151,7 @@ pub fn run_all(
     let done = core::run(
         &mut row[0..n],
         hub,
+        list,
         bytes,
         count,
         kinds,

@@ -17,15 +17,14 @@ use Rattle.model.specs.Store.{Store, blank, up, startWorker, workerAt}
 use Rattle.model.specs.Batch.{batchOf}
 use Rattle.model.specs.Rules.{inForce, under}
 use Rattle.model.specs.Answer.{Ok, Applied}
-use Rattle.model.specs.Record.{SetUp, Begin, Step, Decoded, Asks, Refuses, decode}
+use Rattle.model.specs.Record.{SetUp, Begin, Step, Decoded, Asks, Refuses, decode, rowsOf, listFits}
 use Rattle.model.specs.Apply.{inRanges, fresh, setUp, obey, applyDecoded, apply, hubAfter}
 use Rattle.model.specs.Demand.{All, events, Exchange}
-use Rattle.model.proofs.Basic.{cond-both, All-map}
+use Rattle.model.proofs.Basic.{cond-both, All-from, All-map}
 use Rattle.model.proofs.Setup.{accepts}
 use Rattle.values.specs.declared.Answer.{Answer}
 use Rattle.values.specs.Meaning.{answerOf}
 use Rattle.worker.specs.Rep.{timesRead, workerRep}
-use Rattle.state.specs.State.{withTimesIn}
 use Rattle.slots.specs.Slots.{slotRep}
 use Rattle.ranges.specs.Words.{flat}
 use Rattle.ranges.proofs.WordLaws.{length-flat}
@@ -33,7 +32,7 @@ use Rattle.queue.specs.State.{Begins}
 use Rattle.queue.specs.Rep.{joinedRanges}
 use Rattle.queue.proofs.MemoryLaws.{over-again, overAt-again, length-overAt}
 use Rattle.queue.proofs.Rep.{words-inside, lengths-inside, begins-after}
-use Rattle.simulation.specs.Memory.{Memory, inHandWords, mergedOver, partsOver, write, beginAt, nextHub, writeHub}
+use Rattle.simulation.specs.Memory.{Memory, inHandWords, mergedOver, partsOver, write, withHub, nextHub, writeHub}
 use Rattle.simulation.specs.Left.{LeftByRecords, Left, Sized}
 use Rattle.simulation.specs.Shell.{queueIn}
 use Rattle.simulation.proofs.FlushQueue.{queue-sized}
@@ -41,7 +40,7 @@ use Rattle.simulation.specs.Holds.{Holds, memoryAfter, AsModel}
 use Rattle.simulation.specs.Public.{exchangeOf}
 use Rattle.simulation.proofs.Sound.{Sound, sound, left-next}
 use Rattle.simulation.proofs.Ready.{hand-short, times-short, length-joined}
-use Rattle.simulation.proofs.Laid.{memory-path}
+use Rattle.simulation.proofs.Laid.{memory-path, hub-path}
 use Rattle.simulation.proofs.Laws.{next-size}
 
 ------------------------------------------------------------------------
@@ -85,17 +84,13 @@ module _ (n : ℕ) (f : Model.Worker → List ℕ) where
       ∙ ap (λ (l : List ℕ). over p l ++ partsOver n f ws b) (sym (take-at a b n long))
       ∙ ap (λ (l : List ℕ). over p (take n (a ++ b)) ++ partsOver n f ws l) (sym (drop-at a b n long))
 
-all-from : {A : Type 0} (Q : A → Type 0) (l : List A) (z : A) → ((i : ℕ) → i < length l → Q (getD l i z)) → All Q l
-all-from Q [] z f = tt
-all-from Q (x ∷ l) z f = (f 0 (omega arith), all-from Q l z (λ i h. f (suc i) (omega arith)))
-
 ------------------------------------------------------------------------
 -- A sound store
 
 module _ (s : Store) (S : Sound s) (m : Memory) (Z : Sized m) (B : Begins (m .hub .window)) where
   hands : Fit 768 (λ x. inHandWords (x .doing)) (s .workers)
   hands =
-      all-from (λ x. length (inHandWords (x .doing)) ≤ 768) (s .workers) startWorker
+      All-from (λ x. length (inHandWords (x .doing)) ≤ 768) startWorker (s .workers)
       (λ w h. hand-short s (workerAt s w .announced) (workerAt s w .doing) (S .places w (omega (arith, h, S .bounds .workers .2))))
 
   room : 768 * length (s .workers) ≤ length (m .merged)
@@ -104,7 +99,7 @@ module _ (s : Store) (S : Sound s) (m : Memory) (Z : Sized m) (B : Begins (m .hu
   -- as many times are read as there are workers at the most
   reads : Fit 16 (λ x. timesRead (x .doing)) (s .workers)
   reads =
-      all-from (λ x. length (timesRead (x .doing)) ≤ 16) (s .workers) startWorker
+      All-from (λ x. length (timesRead (x .doing)) ≤ 16) startWorker (s .workers)
       (λ w h. times-short s S (workerAt s w .announced) (workerAt s w .doing) (S .places w (omega (arith, h, S .bounds .workers .2))))
 
   times-room : 16 * length (s .workers) ≤ length (m .hub .times)
@@ -114,7 +109,8 @@ module _ (s : Store) (S : Sound s) (m : Memory) (Z : Sized m) (B : Begins (m .hu
   written-lies : write s m ≡ write s (write s m)
   written-lies =
       memory-path
-      (ap (withTimesIn (write s m .hub)) (parts-again 16 (λ x. timesRead (x .doing)) (s .workers) (m .hub .times) times-room reads))
+      (hub-path refl refl refl refl refl refl refl (sym (over-again (s .site .rows) (m .hub .rows)))
+      (parts-again 16 (λ x. timesRead (x .doing)) (s .workers) (m .hub .times) times-room reads) refl)
       (sym (over-again (map slotRep (s .slots)) (m .slots)))
       (sym (over-again (s .newest) (m .newest)))
       (sym (over-again (reverse (s .free)) (m .free)))
@@ -137,6 +133,7 @@ module _ (s : Store) (S : Sound s) (m : Memory) (Z : Sized m) (B : Begins (m .hu
             ))
             ∙ length-replicate 16 (workerRep startWorker);
         times = parts-length 16 (λ x. timesRead (x .doing)) (s .workers) (m .hub .times) times-room reads ∙ Z .times;
+        rows = length-over (s .site .rows) (m .hub .rows) (omega (arith, Z .rows, S .bounds .rows .1)) ∙ Z .rows;
         newest = length-over (s .newest) (m .newest) (omega (arith, Z .newest, S .bounds .registers .1, S .bounds .registers .2)) ∙ Z .newest;
         free =
             length-over (reverse (s .free)) (m .free)
@@ -165,50 +162,64 @@ abbrev pub BlankOrLeft : List Model.Slot → Model.Hub → Type 0
 BlankOrLeft row h = (h ≡ blank row) ⊎ LeftHub h
 
 -- an accepted setup leaves such a store
-pub setup-left : (row : List Model.Slot) (b : List ℕ) → apply inForce (blank row) b .answer ≡ Ok → LeftHub (apply inForce (blank row) b .hub)
+pub setup-left : (list : List ℕ) (row : List Model.Slot) (b : List ℕ) → apply (inForce list) (blank row) b .answer ≡ Ok
+    → LeftHub (apply (inForce list) (blank row) b .hub)
 unfolding hubAfter
-setup-left row b ok =
-    let A = accepts inForce row b ok in (
-      fresh (batchOf (A .sizes .P)) (A .sizes) (A .row),
+setup-left list row b ok =
+    let A = accepts (inForce list) row b ok in (
+      fresh (batchOf (A .sizes .P)) (A .sizes) (rowsOf list) (A .row),
       A .is,
-      record { row = row; setup = under inForce b; batch = refl; accepted = ok; records = []; left = A .is },
+      record { row = row; setup = under (inForce list) b; batch = refl; accepted = ok; records = []; left = A .is },
     )
 
 -- every other record leaves the hub as it was
 abbrev SameOrOk : List Model.Slot → Applied → Type 0
 SameOrOk row a = (a .hub ≡ blank row) ⊎ (a .answer ≡ Ok)
 
-same-or-ok : (row : List Model.Slot) (d : Decoded) → SameOrOk row (applyDecoded inForce (blank row) d)
+same-or-ok : (list : List ℕ) (row : List Model.Slot) (d : Decoded) → SameOrOk row (applyDecoded (inForce list) (blank row) d)
 unfolding applyDecoded obey setUp
-same-or-ok row (Asks (SetUp z)) = cond-both (SameOrOk row) (inRanges z && leb (z .N) (length row)) _ _ (λ e. inr refl) (λ e. inl refl)
-same-or-ok row (Asks (Begin w o)) = inl refl
-same-or-ok row (Asks (Step w)) = inl refl
-same-or-ok row (Refuses k) = inl refl
+same-or-ok list row (Asks (SetUp z)) =
+    cond-both (SameOrOk row) (inRanges z && leb (z .N) (length row) && listFits (z .V') list) _ _ (λ e. inr refl) (λ e. inl refl)
+same-or-ok list row (Asks (Begin w o)) = inl refl
+same-or-ok list row (Asks (Step w)) = inl refl
+same-or-ok list row (Refuses k) = inl refl
 
-blank-next : (row : List Model.Slot) (b : List ℕ) → BlankOrLeft row (apply inForce (blank row) b .hub)
+blank-next : (list : List ℕ) (row : List Model.Slot) (b : List ℕ) → BlankOrLeft row (apply (inForce list) (blank row) b .hub)
 unfolding apply
-blank-next row b = ⊎-elim (λ e. inl e) (λ ok. inr (setup-left row b ok)) (same-or-ok row (decode b))
+blank-next list row b = ⊎-elim (λ e. inl e) (λ ok. inr (setup-left list row b ok)) (same-or-ok list row (decode b))
 
-pub hub-next : (row : List Model.Slot) (h : Model.Hub) (b : List ℕ) → BlankOrLeft row h → BlankOrLeft row (apply inForce h b .hub)
-hub-next row h b (inl e) = subst (λ (k : Model.Hub). BlankOrLeft row (apply inForce k b .hub)) (sym e) (blank-next row b)
-hub-next row h b (inr (s, e, L)) = inr (subst (λ (k : Model.Hub). LeftHub (apply inForce k b .hub)) (sym e) (left-next L b))
+pub hub-next : (list : List ℕ) (row : List Model.Slot) (h : Model.Hub) (b : List ℕ) → BlankOrLeft row h
+    → BlankOrLeft row (apply (inForce list) h b .hub)
+hub-next list row h b (inl e) = subst (λ (k : Model.Hub). BlankOrLeft row (apply (inForce list) k b .hub)) (sym e) (blank-next list row b)
+hub-next list row h b (inr (s, e, L)) =
+    inr (subst (λ (k : Model.Hub). LeftHub (apply (inForce list) k b .hub)) (sym e) (left-next L (under (inForce list) b)))
 
 ------------------------------------------------------------------------
 -- The memory that a record leaves
 
-module _ (m m′ : Memory) (Z : Sized m) where
+module _ (m m′ : Memory) (Z : Sized m) (list : List ℕ) where
   -- the hub by value that is written over has its lengths
-  hub-sized : (h₀ : Model.Hub) (t : Store) → (length (nextHub h₀ t (m .hub) .workers) ≡ 16) × (length (nextHub h₀ t (m .hub) .times) ≡ 256)
-  hub-sized (blank row) t = (refl, length-replicate {A = ℕ} 256 0)
-  hub-sized (up s) t = (Z .workers, Z .times)
+  hub-sized : (h₀ : Model.Hub) (t : Store)
+      → (length (nextHub h₀ t (m .hub) .workers) ≡ 16) × (length (nextHub h₀ t (m .hub) .times) ≡ 256) × (length (nextHub h₀ t (m .hub) .rows) ≡ 1024)
+  hub-sized (blank row) t = (refl, length-replicate {A = ℕ} 256 0, length-replicate {A = ℕ} 1024 0)
+  hub-sized (up s) t = (Z .workers, Z .times, Z .rows)
 
   -- over m, which held the hub h₀, the hub h was written, in a window that begins well
   written : (h₀ h : Model.Hub) → ((t : Store) → Begins (nextHub h₀ t (m .hub) .window)) → LeftHub h → m′ ≡ writeHub h₀ h m
       → Holds h m′ × Sized m′
   written h₀ h B (t, e, L) is =
-      let x : Memory = beginAt m (nextHub h₀ t (m .hub)) in
+      let x : Memory = withHub m (nextHub h₀ t (m .hub)) in
       let Z′ : Sized x =
-      record { workers = hub-sized h₀ t .0; times = hub-sized h₀ t .1; newest = Z .newest; free = Z .free; queue = Z .queue; lens = Z .lens; merged = Z .merged } in
+      record {
+        workers = hub-sized h₀ t .0;
+        times = hub-sized h₀ t .1;
+        rows = hub-sized h₀ t .2;
+        newest = Z .newest;
+        free = Z .free;
+        queue = Z .queue;
+        lens = Z .lens;
+        merged = Z .merged;
+      } in
       subst (λ (k : Model.Hub). Holds k m′ × Sized m′) (sym e)
       (subst (λ (x : Memory). Left t x × Sized x) (sym (is ∙ ap (λ (k : Model.Hub). writeHub h₀ k m) e)) (
         record { store = L; begins = record { first = B t .first; from = B t .from }; laid = written-lies t (sound L) x Z′ (B t) },
@@ -222,32 +233,34 @@ module _ (m m′ : Memory) (Z : Sized m) where
       (subst (λ (x : Memory). Holds (blank row) x × Sized x) (sym (is ∙ ap (λ (k : Model.Hub). writeHub (blank row) k m) e)) (H, Z))
 
   -- whatever hub the memory held
-  pub holds-written : (h : Model.Hub) (b : List ℕ) → Holds h m → m′ ≡ writeHub h (apply inForce h b .hub) m
-      → Holds (apply inForce h b .hub) m′ × Sized m′
+  pub holds-written : (h : Model.Hub) (b : List ℕ) → Holds h m → m′ ≡ writeHub h (apply (inForce list) h b .hub) m
+      → Holds (apply (inForce list) h b .hub) m′ × Sized m′
   holds-written (blank row) b H is =
-      ⊎-elim (λ e. unwritten row (apply inForce (blank row) b .hub) H e is) (λ L. written (blank row) (apply inForce (blank row) b .hub) (λ t. record { first = omega arith; from = omega arith }) L is) (blank-next row b)
+      ⊎-elim (λ e. unwritten row (apply (inForce list) (blank row) b .hub) H e is)
+      (λ L. written (blank row) (apply (inForce list) (blank row) b .hub) (λ t. record { first = omega arith; from = omega arith }) L is)
+      (blank-next list row b)
   holds-written (up s) b L is =
       let some = All-map (λ l a. a .0) (s .queue) (sound (L .store) .bounds .queued) in
-      written (up s) (apply inForce (up s) b .hub) (λ t. begins-after (s .queue) (t .queue) (m .hub .window) some (L .begins))
-      (left-next (L .store) b) is
+      written (up s) (apply (inForce list) (up s) b .hub) (λ t. begins-after (s .queue) (t .queue) (m .hub .window) some (L .begins))
+      (left-next (L .store) (under (inForce list) b)) is
 
   -- so what a record leaves and answers is as the model has it
   pub as-model : (h : Model.Hub) (b : List ℕ) (y : Answer) → Holds h m
-      → m′ ≡ writeHub h (apply inForce h b .hub) m → answerOf y ≡ apply inForce h b .answer → AsModel h m (exchangeOf b y ∷ []) m′
+      → m′ ≡ writeHub h (apply (inForce list) h b .hub) m → answerOf y ≡ apply (inForce list) h b .answer → AsModel h m (exchangeOf list b y ∷ []) m′
   unfolding events hubAfter memoryAfter
   as-model h b y L is a =
-      record { answers = λ i. record { bytes = b; answer = a i } ∷ []; holds = holds-written h b L is .0; memory = is }
+      record { answers = λ i. record { list = list; bytes = b; answer = a i } ∷ []; holds = holds-written h b L is .0; memory = is }
 
 -- what is known of one record
 module _ {h : Model.Hub} {m m′ : Memory} {x : Exchange} (A : AsModel h m (x ∷ []) m′) where
-  pub one-answer : x .answer ≡ apply inForce h (x .bytes) .answer
+  pub one-answer : x .answer ≡ apply (inForce (x .list)) h (x .bytes) .answer
   unfolding events
   one-answer = ap (λ (l : List Exchange). getD l 0 x .answer) (A .answers)
 
-  pub one-memory : m′ ≡ writeHub h (apply inForce h (x .bytes) .hub) m
+  pub one-memory : m′ ≡ writeHub h (apply (inForce (x .list)) h (x .bytes) .hub) m
   unfolding memoryAfter
   one-memory = A .memory
 
-  pub one-holds : Holds (apply inForce h (x .bytes) .hub) m′
+  pub one-holds : Holds (apply (inForce (x .list)) h (x .bytes) .hub) m′
   unfolding hubAfter
   one-holds = A .holds

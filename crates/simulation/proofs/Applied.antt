@@ -1,7 +1,7 @@
 -- What the loop leaves of a buffer is what the contract of the public functions says: the answers in the two rows, each record on any memory, and
 -- on memory that holds a hub what the model does.
 use mathlib.Core.Path.{_≡_, refl, sym, ap, _∙_, subst}
-use mathlib.Core.Bool.{Bool, _||_}
+use mathlib.Core.Bool.{Bool, _||_, _&&_}
 use mathlib.Core.List.{List, map}
 use Prim.Native.Nat.{ℕ, zero, suc, _+_, _<_}
 use native.Mathlib.Omega.{arith}
@@ -29,7 +29,7 @@ use Rattle.gate.specs.Gate.{operationRep, decodedRep, decodedIn, sizesOk, gateO
 use Rattle.gate.proofs.Tests.{begin-gate-by}
 use Rattle.simulation.specs.Memory.{Memory}
 use Rattle.simulation.specs.Left.{Sized}
-use Rattle.simulation.specs.Shell.{obeyIn, gateIn, doneAs}
+use Rattle.simulation.specs.Shell.{rowsKept, obeyIn, gateIn, doneAs}
 use Rattle.simulation.specs.Holds.{Holds, AsModel}
 use Rattle.simulation.specs.Public.{OnAny, exchangeOf}
 use Rattle.simulation.specs.Records.{recordAt}
@@ -46,31 +46,31 @@ use Rattle.simulation.proofs.OneByOne.{stateAt, answerTo, given, hubTo,
 ------------------------------------------------------------------------
 -- The two rows
 
-module _ (m : Memory) (bytes kinds numbers : List ℕ) where
+module _ (m : Memory) (list bytes kinds numbers : List ℕ) where
   abbrev run : ℕ → State
-  run k = after (before m kinds numbers) bytes k
+  run k = after (before m kinds numbers) list bytes k
 
   -- what stands in the rows makes no difference to the records
-  rows-apart : (k : ℕ) → (run k .up ≡ stateAt m bytes k .up) × (run k .memory ≡ stateAt m bytes k .memory)
+  rows-apart : (k : ℕ) → (run k .up ≡ stateAt m list bytes k .up) × (run k .memory ≡ stateAt m list bytes k .memory)
   unfolding after next
   rows-apart zero = (refl, refl)
   rows-apart (suc k) =
       let s = rows-apart k in
       let b = recordAt bytes k in
-      (λ i. s .0 i || makes (gateIn (s .0 i) (s .1 i) b), λ i. doneAs (s .0 i) (s .1 i) b .memory)
+      (λ i. s .0 i || makes (gateIn (s .0 i) (s .1 i) list b), λ i. doneAs (s .0 i) (s .1 i) list b .memory)
 
-  answers-apart : (k : ℕ) → run (suc k) .last ≡ answerTo m bytes k
+  answers-apart : (k : ℕ) → run (suc k) .last ≡ answerTo m list bytes k
   unfolding after next
   answers-apart k =
       let s = rows-apart k in
-      λ i. doneAs (s .0 i) (s .1 i) (recordAt bytes k) .answer
+      λ i. doneAs (s .0 i) (s .1 i) list (recordAt bytes k) .answer
 
-  kinds-filled : (n : ℕ) → run n .kinds ≡ fillTo kinds (λ k. kindOf (answerTo m bytes k)) n
+  kinds-filled : (n : ℕ) → run n .kinds ≡ fillTo kinds (λ k. kindOf (answerTo m list bytes k)) n
   unfolding after next fillTo
   kinds-filled zero = refl
   kinds-filled (suc n) = λ i. set (kinds-filled n i) n (kindOf (answers-apart n i))
 
-  numbers-filled : (n : ℕ) → run n .numbers ≡ fillTo numbers (λ k. numberOf (answerTo m bytes k)) n
+  numbers-filled : (n : ℕ) → run n .numbers ≡ fillTo numbers (λ k. numberOf (answerTo m list bytes k)) n
   unfolding after next fillTo
   numbers-filled zero = refl
   numbers-filled (suc n) = λ i. set (numbers-filled n i) n (numberOf (answers-apart n i))
@@ -79,106 +79,108 @@ module _ (m : Memory) (bytes kinds numbers : List ℕ) where
 -- Each record on any memory
 
 -- the decision sets up just where a setup is answered `ok`
-module _ (m : Memory) where
+module _ (m : Memory) (list : List ℕ) where
   abbrev SetsUp : Record.Decoded → Gate → Type 0
-  SetsUp r g = makes g ≡ setsUp r (said (answerOf (obeyIn m g .answer)) .ok)
+  SetsUp r g = makes g ≡ setsUp r (said (answerOf (obeyIn m list g .answer)) .ok)
 
-  gate-sets-up : (r : Record.Decoded) (up : Bool) (p v long : ℕ) (d : Doing) (t : Announced) → SetsUp r (gateOf (decodedRep r) up p v long d t)
+  gate-sets-up : (r : Record.Decoded) (up : Bool) (p v long : ℕ) (d : Doing) (t : Announced) (rows : List ℕ)
+      → SetsUp r (gateOf (decodedRep r) up p v long d t list rows)
   unfolding gateOf setsUp obeyIn
-  gate-sets-up (Record.Refuses k) up p v long d t = refl
-  gate-sets-up (Asks (SetUp z)) up p v long d t =
+  gate-sets-up (Record.Refuses k) up p v long d t rows = refl
+  gate-sets-up (Asks (SetUp z)) up p v long d t rows =
       let N : Gate → Type 0 = SetsUp (Asks (SetUp z)) in
-      cond-both N up _ _ (λ e. refl) (λ e. cond-both N (sizesOk (z .P) (z .V') (z .N) (z .clock) long) _ _ (λ e. refl) (λ e. refl))
-  gate-sets-up (Asks (Record.Begin w o)) up p v long d t =
+      cond-both N up _ _ (λ e. refl) (λ e. cond-both N (sizesOk (z .P) (z .V') (z .N) (z .clock) long && Record.listFits (z .V') list) _ _ (λ e. refl) (λ e. refl))
+  gate-sets-up (Asks (Record.Begin w o)) up p v long d t rows =
       let N : Gate → Type 0 = SetsUp (Asks (Record.Begin w o)) in
-      cond-both N up _ _ (λ e. begin-gate-by N p v w (operationRep o) d t (λ k f. refl) (λ f. refl)) (λ e. refl)
-  gate-sets-up (Asks (Record.Step w)) up p v long d t =
+      cond-both N up _ _ (λ e. begin-gate-by N p v w (operationRep o) d t rows (λ k f. refl) (λ f. refl)) (λ e. refl)
+  gate-sets-up (Asks (Record.Step w)) up p v long d t rows =
       let N : Gate → Type 0 = SetsUp (Asks (Record.Step w)) in
       cond-both N up _ _ (λ e. cond-both N (ltb w p) _ _ (λ e. refl) (λ e. refl)) (λ e. refl)
 
-module _ (m : Memory) (bytes : List ℕ) where
+module _ (m : Memory) (list bytes : List ℕ) where
   flag-is : (k : ℕ)
-      → stateAt m bytes (suc k) .up ≡ (stateAt m bytes k .up || setsUp (decode (recordAt bytes k)) (said (answerOf (answerTo m bytes k)) .ok))
+      → stateAt m list bytes (suc k) .up ≡ (stateAt m list bytes k .up || setsUp (decode (recordAt bytes k)) (said (answerOf (answerTo m list bytes k)) .ok))
   unfolding after next doneAs
   flag-is k =
-      let s : State = stateAt m bytes k in
+      let s : State = stateAt m list bytes k in
       let x : Memory = s .memory in
       let w : Worker = workerIn (x .hub) (whoOf (decodedIn (recordAt bytes k))) in
       ap (λ (t : Bool). s .up || t)
-      (gate-sets-up x (decode (recordAt bytes k)) (s .up) (x .hub .p) (x .hub .v) (length (x .slots)) (w .doing) (w .announced))
+      (gate-sets-up x list (decode (recordAt bytes k)) (s .up) (x .hub .p) (x .hub .v) (length (x .slots)) (w .doing) (w .announced)
+      (rowsKept (x .hub)))
 
   any-at : (k : ℕ)
-      → OnAny (stateAt m bytes k .up) (stateAt m bytes k .memory) (recordAt bytes k) (answerTo m bytes k) (stateAt m bytes (suc k) .memory)
+      → OnAny (stateAt m list bytes k .up) (stateAt m list bytes k .memory) (recordAt bytes k) (answerTo m list bytes k) (stateAt m list bytes (suc k) .memory)
   unfolding after next
-  any-at k = on-any (stateAt m bytes k .up) (stateAt m bytes k .memory) (recordAt bytes k)
+  any-at k = on-any (stateAt m list bytes k .up) (stateAt m list bytes k .memory) list (recordAt bytes k)
 
   each-from : (n k c : ℕ) → c ≡ k + n
-      → EachOnAny (stateAt m bytes k .up) (stateAt m bytes k .memory) (map (recordAt bytes) (upFrom k n)) (map (answerTo m bytes) (upFrom k n))
-      (stateAt m bytes c .memory)
+      → EachOnAny (stateAt m list bytes k .up) (stateAt m list bytes k .memory) (map (recordAt bytes) (upFrom k n)) (map (answerTo m list bytes) (upFrom k n))
+      (stateAt m list bytes c .memory)
   unfolding EachOnAny upFrom
   each-from zero k c e =
       let same : c ≡ k = omega (arith, e) in
-      ap (λ (j : ℕ). stateAt m bytes j .memory) same
+      ap (λ (j : ℕ). stateAt m list bytes j .memory) same
   each-from (suc n) k c e = (
-    stateAt m bytes (suc k) .memory,
+    stateAt m list bytes (suc k) .memory,
     any-at k,
-    subst (λ (t : Bool). EachOnAny t (stateAt m bytes (suc k) .memory) (map (recordAt bytes) (upFrom (k + 1) n))
-        (map (answerTo m bytes) (upFrom (k + 1) n)) (stateAt m bytes c .memory)) (flag-is k)
-        (subst (λ (j : ℕ). EachOnAny (stateAt m bytes (suc k) .up) (stateAt m bytes (suc k) .memory) (map (recordAt bytes) (upFrom j n))
-        (map (answerTo m bytes) (upFrom j n)) (stateAt m bytes c .memory)) (sym (add-one k)) (each-from n (suc k) c (omega (arith, e)))),
+    subst (λ (t : Bool). EachOnAny t (stateAt m list bytes (suc k) .memory) (map (recordAt bytes) (upFrom (k + 1) n))
+        (map (answerTo m list bytes) (upFrom (k + 1) n)) (stateAt m list bytes c .memory)) (flag-is k)
+        (subst (λ (j : ℕ). EachOnAny (stateAt m list bytes (suc k) .up) (stateAt m list bytes (suc k) .memory) (map (recordAt bytes) (upFrom j n))
+        (map (answerTo m list bytes) (upFrom j n)) (stateAt m list bytes c .memory)) (sym (add-one k)) (each-from n (suc k) c (omega (arith, e)))),
   )
 
 ------------------------------------------------------------------------
 -- The contract
 
-module _ (steps : StepsSimulate) (m : Memory) (bytes kinds numbers : List ℕ) (n : ℕ) (m′ : Memory) (kinds′ numbers′ : List ℕ)
-    (Z : Sized m) (B : Bytes bytes) (R : RanAll m bytes kinds numbers n m′ kinds′ numbers′) where
+module _ (steps : StepsSimulate) (m : Memory) (list bytes kinds numbers : List ℕ) (n : ℕ) (m′ : Memory) (kinds′ numbers′ : List ℕ)
+    (Z : Sized m) (B : Bytes bytes) (R : RanAll m list bytes kinds numbers n m′ kinds′ numbers′) where
   abbrev ys : List Answer
-  ys = map (answerTo m bytes) (upFrom 0 n)
+  ys = map (answerTo m list bytes) (upFrom 0 n)
 
-  is-left : m′ ≡ stateAt m bytes n .memory
-  is-left = R .ran .memory ∙ rows-apart m bytes kinds numbers n .1
+  is-left : m′ ≡ stateAt m list bytes n .memory
+  is-left = R .ran .memory ∙ rows-apart m list bytes kinds numbers n .1
 
   are-kinds : kinds′ ≡ over (map kindOf ys) kinds
   are-kinds =
       R .ran .answerKinds
-      ∙ kinds-filled m bytes kinds numbers n
-      ∙ fill-over kinds (λ k. kindOf (answerTo m bytes k)) n (omega (arith, R .count))
-      ∙ ap (λ (l : List ℕ). over l kinds) (map-map kindOf (answerTo m bytes) (upFrom 0 n))
+      ∙ kinds-filled m list bytes kinds numbers n
+      ∙ fill-over kinds (λ k. kindOf (answerTo m list bytes k)) n (omega (arith, R .count))
+      ∙ ap (λ (l : List ℕ). over l kinds) (map-map kindOf (answerTo m list bytes) (upFrom 0 n))
 
   are-numbers : numbers′ ≡ over (map numberOf ys) numbers
   are-numbers =
       R .ran .answerNumbers
-      ∙ numbers-filled m bytes kinds numbers n
-      ∙ fill-over numbers (λ k. numberOf (answerTo m bytes k)) n (omega (arith, R .count))
-      ∙ ap (λ (l : List ℕ). over l numbers) (map-map numberOf (answerTo m bytes) (upFrom 0 n))
+      ∙ numbers-filled m list bytes kinds numbers n
+      ∙ fill-over numbers (λ k. numberOf (answerTo m list bytes k)) n (omega (arith, R .count))
+      ∙ ap (λ (l : List ℕ). over l numbers) (map-map numberOf (answerTo m list bytes) (upFrom 0 n))
 
   -- at k of such a row
-  at-row : (f : Answer → ℕ) (l l′ : List ℕ) (k : ℕ) → k < n → l′ ≡ over (map f ys) l → getD l′ k 0 ≡ f (answerTo m bytes k)
+  at-row : (f : Answer → ℕ) (l l′ : List ℕ) (k : ℕ) → k < n → l′ ≡ over (map f ys) l → getD l′ k 0 ≡ f (answerTo m list bytes k)
   at-row f l l′ k h e =
-      ap (λ (q : List ℕ). getD q k 0) (e ∙ ap (λ (q : List ℕ). over q l) (sym (map-map f (answerTo m bytes) (upFrom 0 n))))
-      ∙ getD-over-in (map (λ j. f (answerTo m bytes j)) (upFrom 0 n)) l k 0 (omega (arith, map-long (λ j. f (answerTo m bytes j)) n))
-      ∙ at-below (λ j. f (answerTo m bytes j)) 0 n k h
+      ap (λ (q : List ℕ). getD q k 0) (e ∙ ap (λ (q : List ℕ). over q l) (sym (map-map f (answerTo m list bytes) (upFrom 0 n))))
+      ∙ getD-over-in (map (λ j. f (answerTo m list bytes j)) (upFrom 0 n)) l k 0 (omega (arith, map-long (λ j. f (answerTo m list bytes j)) n))
+      ∙ at-below (λ j. f (answerTo m list bytes j)) 0 n k h
 
   -- the answer that is read from the rows is the one that was given
-  read-back : (h : Hub) → Holds h m → (k : ℕ) → k < n → answerAt kinds′ numbers′ k ≡ answerTo m bytes k
+  read-back : (h : Hub) → Holds h m → (k : ℕ) → k < n → answerAt kinds′ numbers′ k ≡ answerTo m list bytes k
   read-back h H k below =
-      let x : Memory = stateAt m bytes k .memory in
-      let S = so-far steps m bytes h H Z B k in
-      let h′ : Hub = hubTo steps m bytes h H Z B k in
+      let x : Memory = stateAt m list bytes k .memory in
+      let S = so-far steps m list bytes h H Z B k in
+      let h′ : Hub = hubTo steps m list bytes h H Z B k in
       (λ i. answerFrom (at-row kindOf kinds kinds′ k below are-kinds i) (at-row numberOf numbers numbers′ k below are-numbers i))
-      ∙ comes-back h′ x (recordAt bytes k) (answerTo m bytes k) (S .asModel .holds)
-      (one-answer (does-each steps m bytes h H Z B k .asModel h′ (S .asModel .holds)))
+      ∙ comes-back list h′ x (recordAt bytes k) (answerTo m list bytes k) (S .asModel .holds)
+      (one-answer (does-each steps m list bytes h H Z B k .asModel h′ (S .asModel .holds)))
 
-  all-as-model : (h : Hub) → Holds h m → AsModel h m (map (exchangeAt bytes kinds′ numbers′) (upFrom 0 n)) m′
+  all-as-model : (h : Hub) → Holds h m → AsModel h m (map (exchangeAt list bytes kinds′ numbers′) (upFrom 0 n)) m′
   all-as-model h H =
-      let same : map (exchangeAt bytes kinds′ numbers′) (upFrom 0 n) ≡ map (given steps m bytes h H Z B) (upFrom 0 n) =
-      same-below (exchangeAt bytes kinds′ numbers′) (given steps m bytes h H Z B) n
-      (λ k below. ap (exchangeOf (recordAt bytes k)) (read-back h H k below)) in
+      let same : map (exchangeAt list bytes kinds′ numbers′) (upFrom 0 n) ≡ map (given steps m list bytes h H Z B) (upFrom 0 n) =
+      same-below (exchangeAt list bytes kinds′ numbers′) (given steps m list bytes h H Z B) n
+      (λ k below. ap (exchangeOf list (recordAt bytes k)) (read-back h H k below)) in
       subst (λ (l : List Exchange). AsModel h m l m′) (sym same)
-      (subst (AsModel h m (map (given steps m bytes h H Z B) (upFrom 0 n))) (sym is-left) (so-far steps m bytes h H Z B n .asModel))
+      (subst (AsModel h m (map (given steps m list bytes h H Z B) (upFrom 0 n))) (sym is-left) (so-far steps m list bytes h H Z B n .asModel))
 
-  pub applies : Applies m bytes kinds numbers n m′ kinds′ numbers′
+  pub applies : Applies m list bytes kinds numbers n m′ kinds′ numbers′
   unfolding after
   applies =
       record {
@@ -187,9 +189,9 @@ module _ (steps : StepsSimulate) (m : Memory) (bytes kinds numbers : List ℕ) (
         answerKinds = are-kinds;
         answerNumbers = are-numbers;
         asModel = all-as-model;
-        readBack = λ D. same-below (answerAt kinds′ numbers′) (answerTo m bytes) n (read-back (D .0) (D .1));
+        readBack = λ D. same-below (answerAt kinds′ numbers′) (answerTo m list bytes) n (read-back (D .0) (D .1));
         onAny =
-            subst (EachOnAny (stateAt m bytes 0 .up) m (map (recordAt bytes) (upFrom 0 n)) ys) (sym is-left)
-            (each-from m bytes n 0 n (omega arith));
+            subst (EachOnAny (stateAt m list bytes 0 .up) m (map (recordAt bytes) (upFrom 0 n)) ys) (sym is-left)
+            (each-from m list bytes n 0 n (omega arith));
         ran = R;
       }

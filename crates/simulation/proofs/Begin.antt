@@ -9,9 +9,9 @@ use native.Mathlib.Omega.{arith}
 use Rattle.model.specs.Store.{Store, up, workerAt, withDoing, place}
 use Rattle.model.specs.Answer as Answers
 use Rattle.model.specs.Record as Record
-use Rattle.model.specs.About.{Facts}
+use Rattle.model.specs.About.{Hand}
 use Rattle.model.specs.Apply.{terms}
-use Rattle.model.proofs.View.{first-about}
+use Rattle.model.proofs.View.{first-hand}
 use Rattle.worker.specs.declared.Worker.{Worker}
 use Rattle.worker.specs.Rep.{doingRep, timesIn, timesRead, workerRep}
 use Rattle.state.specs.declared.Hub.{Hub}
@@ -25,32 +25,32 @@ use Rattle.simulation.proofs.Laid.{write-kept, memory-path, hub-is, slo
 use Rattle.simulation.proofs.Refuse.{Follows}
 
 -- an operation begins with no time read and no list in hand
-first-times : (o : Record.Operation) → timesRead Model.Idle ≡ timesRead (terms o .first) ++ []
-first-times o = sym (ap (λ (y : Facts). timesIn (y .hand) ++ []) (first-about o))
+first-times : (rows : List ℕ) (o : Record.Operation) → timesRead Model.Idle ≡ timesRead (terms rows o .first) ++ []
+first-times rows o = sym (ap (λ (y : Hand). timesIn y ++ []) (first-hand rows o))
 
-first-hand : (o : Record.Operation) → inHandWords Model.Idle ≡ inHandWords (terms o .first) ++ []
+first-words : (rows : List ℕ) (o : Record.Operation) → inHandWords Model.Idle ≡ inHandWords (terms rows o .first) ++ []
 unfolding handWords
-first-hand o = sym (ap (λ (y : Facts). handWords (y .hand) ++ []) (first-about o))
+first-words rows o = sym (ap (λ (y : Hand). handWords y ++ []) (first-hand rows o))
 
 module _ (s : Store) (m : Memory) (S : Sound s) (Z : Sized m) (laid : m ≡ write s m)
     (w : ℕ) (inside : w < s .site .P) (idle : workerAt s w .doing ≡ Model.Idle) (o : Record.Operation) where
   abbrev begunWorker : Model.Worker
-  begunWorker = withDoing (workerAt s w) (terms o .first)
+  begunWorker = withDoing (workerAt s w) (terms (s .site .rows) o .first)
 
-  begun-hub : withWorkerIn (m .hub) w (atPlace (workerIn (m .hub) w) (doingRep (terms o .first))) ≡ hubRep (place s w (terms o .first)) (m .hub)
+  begun-hub : withWorkerIn (m .hub) w (atPlace (workerIn (m .hub) w) (doingRep (terms (s .site .rows) o .first))) ≡ hubRep (place s w (terms (s .site .rows) o .first)) (m .hub)
   begun-hub =
-      ap (λ (h : Hub). withWorkerIn h w (atPlace (workerIn h w) (doingRep (terms o .first)))) (hub-is s m laid)
-      ∙ ap (λ (x : Worker). withWorkerIn (hubRep s (m .hub)) w (atPlace x (doingRep (terms o .first)))) (worker-at s S w inside (workerAt s w .doing) refl)
-      ∙ worker-put s S w inside m Z laid Model.Idle begunWorker [] idle (first-times o)
+      ap (λ (h : Hub). withWorkerIn h w (atPlace (workerIn h w) (doingRep (terms (s .site .rows) o .first)))) (hub-is s m laid)
+      ∙ ap (λ (x : Worker). withWorkerIn (hubRep s (m .hub)) w (atPlace x (doingRep (terms (s .site .rows) o .first)))) (worker-at s S w inside (workerAt s w .doing) refl)
+      ∙ worker-put s S w inside m Z laid Model.Idle begunWorker [] idle (first-times (s .site .rows) o)
 
   -- the code begins the operation as the model does
-  pub begun : Follows (up s) m (Start w (doingRep (terms o .first))) (record { hub = up (place s w (terms o .first)); answer = Answers.Ok })
+  pub begun : {list : List ℕ} → Follows list (up s) m (Start w (doingRep (terms (s .site .rows) o .first))) (record { hub = up (place s w (terms (s .site .rows) o .first)); answer = Answers.Ok })
   unfolding obeyIn
   begun =
       record {
         memory =
             memory-path begun-hub (slots-is s m laid) (newest-is s m laid) (free-is s m laid) (queue-is s m laid) (lens-is s m laid)
-            (list-kept s S w inside m Z laid Model.Idle begunWorker [] idle (first-hand o))
-            ∙ write-kept s (place s w (terms o .first)) m (omega arith);
+            (list-kept s S w inside m Z laid Model.Idle begunWorker [] idle (first-words (s .site .rows) o))
+            ∙ write-kept s (place s w (terms (s .site .rows) o .first)) m (omega arith);
         answer = refl;
       }

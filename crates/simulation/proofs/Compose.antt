@@ -7,7 +7,7 @@ use Prim.Native.Nat.{ℕ}
 use native.Mathlib.Omega.{arith}
 use lib.ListN.{getD, drop}
 use Rattle.model.specs.Store.{Slot, Store, Hub, blank, up}
-use Rattle.model.specs.Rules.{inForce, Ruled, under, allUnder}
+use Rattle.model.specs.Rules.{inForce, Ruled, under}
 use Rattle.model.specs.Answer.{Answer, Ok}
 use Rattle.model.specs.Record.{Sizes, SetUp, Decoded, Asks, decode}
 use Rattle.model.specs.Apply.{setUp, obey, applyDecoded, apply, applyRuled, hubAfter}
@@ -27,7 +27,7 @@ unfolding events hubAfter
 events-append h [] n = refl
 events-append h (b ∷ l) n =
     let a = applyRuled h b in
-    ap (λ (es : List Event). record { bytes = b .bytes; before = h; answer = a .answer; after = a .hub } ∷ es) (events-append (a .hub) l n)
+    ap (λ (es : List Event). record { list = b .rules .list; bytes = b .bytes; before = h; answer = a .answer; after = a .hub } ∷ es) (events-append (a .hub) l n)
 
 pub hub-append : (h : Hub) (l n : List Ruled) → hubAfter h (l ++ n) ≡ hubAfter (hubAfter h l) n
 unfolding hubAfter
@@ -39,11 +39,8 @@ unfolding hubAfter memoryAfter
 memory-append h [] n m = refl
 memory-append h (b ∷ l) n m = memory-append (applyRuled h b .hub) l n (writeHub h (applyRuled h b .hub) m)
 
-abbrev bytesOf : List Exchange → List (List ℕ)
-bytesOf es = map (λ e. e .bytes) es
-
 sent-append : (es fs : List Exchange) → sent (es ++ fs) ≡ sent es ++ sent fs
-sent-append es fs = ap (allUnder inForce) (map-append (λ (e : Exchange). e .bytes) es fs) ∙ map-append (under inForce) (bytesOf es) (bytesOf fs)
+sent-append es fs = map-append (λ (e : Exchange). under (inForce (e .list)) (e .bytes)) es fs
 
 ------------------------------------------------------------------------
 -- As the model has it
@@ -86,40 +83,40 @@ Answered h es = es ≡ map exchange (events h (sent es))
 
 -- at an exchange in the middle
 middle : (h : Hub) (es : List Exchange) (x : Exchange) (fs : List Exchange) → Answered h (es ++ (x ∷ fs))
-    → (x .answer ≡ apply inForce (hubAfter h (sent es)) (x .bytes) .answer)
-    × Answered (apply inForce (hubAfter h (sent es)) (x .bytes) .hub) fs
+    → (x .answer ≡ apply (inForce (x .list)) (hubAfter h (sent es)) (x .bytes) .answer)
+    × Answered (apply (inForce (x .list)) (hubAfter h (sent es)) (x .bytes) .hub) fs
 unfolding events hubAfter
 middle h [] x fs e = (ap (λ (l : List Exchange). getD l 0 x .answer) e, ap (drop 1) e)
-middle h (y ∷ es) x fs e = middle (apply inForce h (y .bytes) .hub) es x fs (ap (drop 1) e)
+middle h (y ∷ es) x fs e = middle (apply (inForce (y .list)) h (y .bytes) .hub) es x fs (ap (drop 1) e)
 
 hubs : (row : List Slot) (h : Hub) (es : List Exchange) → BlankOrLeft row h → BlankOrLeft row (hubAfter h (sent es))
 unfolding hubAfter
 hubs row h [] B = B
-hubs row h (e ∷ es) B = hubs row (apply inForce h (e .bytes) .hub) es (hub-next row h (e .bytes) B)
+hubs row h (e ∷ es) B = hubs row (apply (inForce (e .list)) h (e .bytes) .hub) es (hub-next (e .list) row h (e .bytes) B)
 
 -- a hub that accepts a setup is not set up
-accepting : (row : List Slot) (h : Hub) (b : List ℕ) (z : Sizes) → decode b ≡ Asks (SetUp z) → apply inForce h b .answer ≡ Ok → BlankOrLeft row h
+accepting : (list : List ℕ) (row : List Slot) (h : Hub) (b : List ℕ) (z : Sizes) → decode b ≡ Asks (SetUp z) → apply (inForce list) h b .answer ≡ Ok → BlankOrLeft row h
     → h ≡ blank row
 unfolding apply applyDecoded obey setUp
-accepting row h b z d ok (inl e) = e
-accepting row h b z d ok (inr (s, e, L)) =
-    let nine : apply inForce h b .answer ≡ Answer.No 9 =
-    ap (λ (k : Hub). apply inForce k b .answer) e ∙ ap (λ (r : Decoded). applyDecoded inForce (up s) r .answer) d in
+accepting list row h b z d ok (inl e) = e
+accepting list row h b z d ok (inr (s, e, L)) =
+    let nine : apply (inForce list) h b .answer ≡ Answer.No 9 =
+    ap (λ (k : Hub). apply (inForce list) k b .answer) e ∙ ap (λ (r : Decoded). applyDecoded (inForce list) (up s) r .answer) d in
     let never : _≡_ {A = ℕ} 0 1 = cc in
     absurd (omega arith)
 
-pub behind-setup : (row : List Slot) (h : Hub) (es fs : List Exchange) (b : List ℕ) (z : Sizes) → BlankOrLeft row h
-    → Answered h (es ++ (record { bytes = b; answer = Ok } ∷ fs)) → decode b ≡ Asks (SetUp z)
-    → CodeDemand3 (apply inForce (blank row) b .hub) [] fs
+pub behind-setup : (row : List Slot) (h : Hub) (es fs : List Exchange) (list b : List ℕ) (z : Sizes) → BlankOrLeft row h
+    → Answered h (es ++ (record { list = list; bytes = b; answer = Ok } ∷ fs)) → decode b ≡ Asks (SetUp z)
+    → CodeDemand3 (apply (inForce list) (blank row) b .hub) [] fs
 unfolding events
-behind-setup row h es fs b z B e d =
-    let M = middle h es (record { bytes = b; answer = Ok }) fs e in
+behind-setup row h es fs list b z B e d =
+    let M = middle h es (record { list = list; bytes = b; answer = Ok }) fs e in
     let k : Hub = hubAfter h (sent es) in
-    let is : k ≡ blank row = accepting row k b z d (sym (M .0)) (hubs row h es B) in
-    let ok : apply inForce (blank row) b .answer ≡ Ok = ap (λ (q : Hub). apply inForce q b .answer) (sym is) ∙ sym (M .0) in
+    let is : k ≡ blank row = accepting list row k b z d (sym (M .0)) (hubs row h es B) in
+    let ok : apply (inForce list) (blank row) b .answer ≡ Ok = ap (λ (q : Hub). apply (inForce list) q b .answer) (sym is) ∙ sym (M .0) in
     record {
-      answers = sym (subst (λ (q : Hub). Answered (apply inForce q b .hub) fs) is (M .1));
-      demand = demand row (under inForce b) ok (sent fs);
+      answers = sym (subst (λ (q : Hub). Answered (apply (inForce list) q b .hub) fs) is (M .1));
+      demand = demand row (under (inForce list) b) ok (sent fs);
     }
 
 -- behind the setup and the records that left a store

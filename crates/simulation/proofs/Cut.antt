@@ -13,9 +13,9 @@ use lib.Seq.{getD-take, take-take}
 use borrow.Author.Tests.{le-leb, lt-leb}
 use Rattle.model.specs.Store as Model
 use Rattle.model.specs.Store.{Store, blank, up}
-use Rattle.model.specs.Rules.{inForce}
+use Rattle.model.specs.Rules.{inForce, under}
 use Rattle.model.specs.Answer.{said, Applied}
-use Rattle.model.specs.Record.{Sizes, SetUp, Begin, Step, Decoded, Asks, Refuses, decode}
+use Rattle.model.specs.Record.{Sizes, SetUp, Begin, Step, Decoded, Asks, Refuses, decode, listFits}
 use Rattle.model.specs.Apply.{refuse, inRanges, fresh, setUp, obey, applyDecoded, apply}
 use Rattle.model.proofs.Basic.{le-cases, and-both}
 use Rattle.model.proofs.Setup.{in-ranges}
@@ -25,7 +25,7 @@ use Rattle.slots.specs.declared.Slot.{Slot}
 use Rattle.slots.specs.Slots.{slotRep, slotOf, vacantSlot, linkedAnd, linkedTo}
 use Rattle.state.specs.declared.Hub.{Hub}
 use Rattle.ready.specs.Ready.{sizesFit, readyOf}
-use Rattle.simulation.specs.Memory.{Memory, cut, write, beginAt, nextHub, writeHub}
+use Rattle.simulation.specs.Memory.{Memory, cut, write, withHub, nextHub, writeHub}
 use Rattle.simulation.specs.Left.{LeftByRecords, Left, Sized, ready}
 use Rattle.simulation.specs.Shell.{doneOf}
 use Rattle.simulation.specs.Holds.{Holds, AsModel}
@@ -115,7 +115,7 @@ record Alike (m : Memory) (h h′ : Model.Hub) (a a′ : Applied) : Type 0 where
   answer : a .answer ≡ a′ .answer
   few : FewIn (a′ .hub)
 
-module _ (m : Memory) (l : List Slot) where
+module _ (m : Memory) (list : List ℕ) (l : List Slot) where
   abbrev row : List Model.Slot
   row = map slotOf l
 
@@ -129,12 +129,14 @@ module _ (m : Memory) (l : List Slot) where
   made-cut : (z : Sizes) → z .N ≤ 2048 → take (z .N) row′ ≡ take (z .N) row
   made-cut z h = ap (take (z .N)) (map-take slotOf 2048 l) ∙ take-take (z .N) 2048 row h
 
-  set-up-cut : (z : Sizes) → Alike m (blank row′) (blank row) (setUp inForce (blank row′) z) (setUp inForce (blank row) z)
+  set-up-cut : (z : Sizes) → Alike m (blank row′) (blank row) (setUp (inForce list) (blank row′) z) (setUp (inForce list) (blank row) z)
   unfolding setUp fresh
   set-up-cut z =
-      both (Alike m (blank row′) (blank row)) (inRanges z && leb (z .N) (length row′)) (inRanges z && leb (z .N) (length row)) _ _ _ _
-      (and-same (inRanges z) _ _ (λ e. rw (map-take slotOf 2048 l) (long-cut (z .N) row (in-ranges z e .N≤2048))))
-      (λ e. let h : z .N ≤ 2048 = in-ranges z (and-both (inRanges z) (leb (z .N) (length row)) e .0) .N≤2048 in
+      both (Alike m (blank row′) (blank row)) (inRanges z && leb (z .N) (length row′) && listFits (z .V') list)
+      (inRanges z && leb (z .N) (length row) && listFits (z .V') list) _ _ _ _
+      (ap (λ (t : Bool). t && listFits (z .V') list)
+      (and-same (inRanges z) _ _ (λ e. rw (map-take slotOf 2048 l) (long-cut (z .N) row (in-ranges z e .N≤2048)))))
+      (λ e. let h : z .N ≤ 2048 = in-ranges z (and-both (inRanges z) (leb (z .N) (length row)) (and-both (inRanges z && leb (z .N) (length row)) _ e .0) .0) .N≤2048 in
       record {
         memory = rw (made-cut z h);
         answer = refl;
@@ -142,14 +144,14 @@ module _ (m : Memory) (l : List Slot) where
       })
       (λ e. refused-cut 5)
 
-  decoded-cut : (r : Decoded) → Alike m (blank row′) (blank row) (applyDecoded inForce (blank row′) r) (applyDecoded inForce (blank row) r)
+  decoded-cut : (r : Decoded) → Alike m (blank row′) (blank row) (applyDecoded (inForce list) (blank row′) r) (applyDecoded (inForce list) (blank row) r)
   unfolding applyDecoded obey
   decoded-cut (Asks (SetUp z)) = set-up-cut z
   decoded-cut (Asks (Begin w o)) = refused-cut 8
   decoded-cut (Asks (Step w)) = refused-cut 8
   decoded-cut (Refuses k) = refused-cut k
 
-  apply-cut : (b : List ℕ) → Alike m (blank row′) (blank row) (apply inForce (blank row′) b) (apply inForce (blank row) b)
+  apply-cut : (b : List ℕ) → Alike m (blank row′) (blank row) (apply (inForce list) (blank row′) b) (apply (inForce list) (blank row) b)
   unfolding apply
   apply-cut b = decoded-cut (decode b)
 
@@ -168,7 +170,7 @@ module _ (m m′ : Memory) (rest : drop 2048 (m′ .slots) ≡ drop 2048 (m .slo
   written : (h₀ h : Model.Hub) → FewIn h → cut m′ ≡ writeHub h₀ h (cut m) → m′ ≡ writeHub h₀ h m
   written h₀ (blank row) f e = whole m refl e
   written h₀ (up s) f e =
-      let x : Memory = beginAt m (nextHub h₀ s (m .hub)) in
+      let x : Memory = withHub m (nextHub h₀ s (m .hub)) in
       whole (write s x) (write-rest s f x) (e ∙ sym (write-cut s f x))
 
   takes-cut : (t : Bool) (d : Decoded) → takesStepIn t (cut m) d ≡ takesStepIn t m d
@@ -211,45 +213,55 @@ module _ (m m′ : Memory) (rest : drop 2048 (m′ .slots) ≡ drop 2048 (m .slo
       }
 
   -- what the model makes of the record, with the first 2048 slots and with the whole row
-  module _ (b : List ℕ) (y : Answer) (D : Does (cut m) b y (cut m′)) (Z : Sized m) where
-    blank-as-model-cut : ready m ≡ false → AsModel (blank (map slotOf (m .slots))) m (exchangeOf b y ∷ []) m′
+  module _ (list b : List ℕ) (y : Answer) (D : Does (cut m) list b y (cut m′)) (Z : Sized m) where
+    blank-as-model-cut : ready m ≡ false → AsModel (blank (map slotOf (m .slots))) m (exchangeOf list b y ∷ []) m′
     blank-as-model-cut e =
-        let h : Model.Hub = blank (row (cut m) (m .slots)) in
-        let A = D .asModel (blank (row′ (cut m) (m .slots))) (ready-cut m ∙ e, refl) in
-        let L = apply-cut (cut m) (m .slots) b in
-        as-model m m′ Z h b y (e, refl) (written h (apply inForce h b .hub) (L .few) (one-memory A ∙ L .memory)) (one-answer A ∙ L .answer)
+        let h : Model.Hub = blank (row (cut m) list (m .slots)) in
+        let A = D .asModel (blank (row′ (cut m) list (m .slots))) (ready-cut m ∙ e, refl) in
+        let L = apply-cut (cut m) list (m .slots) b in
+        as-model m m′ Z list h b y (e, refl) (written h (apply (inForce list) h b .hub) (L .few) (one-memory A ∙ L .memory)) (one-answer A ∙ L .answer)
 
-    as-model-cut : (h : Model.Hub) → Holds h m → AsModel h m (exchangeOf b y ∷ []) m′
+    as-model-cut : (h : Model.Hub) → Holds h m → AsModel h m (exchangeOf list b y ∷ []) m′
     as-model-cut (up s) L =
         let A = D .asModel (up s) (left-cut m L) in
-        let N = left-next (L .store) b in
-        let f : FewIn (apply inForce (up s) b .hub) = subst FewIn (sym (N .1)) (left-few (N .2)) in
-        as-model m m′ Z (up s) b y L (written (up s) (apply inForce (up s) b .hub) f (one-memory A)) (one-answer A)
+        let N = left-next (L .store) (under (inForce list) b) in
+        let f : FewIn (apply (inForce list) (up s) b .hub) = subst FewIn (sym (N .1)) (left-few (N .2)) in
+        as-model m m′ Z list (up s) b y L (written (up s) (apply (inForce list) (up s) b .hub) f (one-memory A)) (one-answer A)
     as-model-cut (blank l) H =
-        subst (λ (q : List Model.Slot). AsModel (blank q) m (exchangeOf b y ∷ []) m′) (sym (H .1)) (blank-as-model-cut (H .0))
+        subst (λ (q : List Model.Slot). AsModel (blank q) m (exchangeOf list b y ∷ []) m′) (sym (H .1)) (blank-as-model-cut (H .0))
 
 -- the contract with the first 2048 slots is the contract with the whole row, where the rest of the row is as it was
-does-cut : (m m′ : Memory) (b : List ℕ) (y : Answer) → Sized m → Does (cut m) b y (cut m′) → drop 2048 (m′ .slots) ≡ drop 2048 (m .slots)
-    → Does m b y m′
-does-cut m m′ b y Z D rest =
+does-cut : (m m′ : Memory) (list b : List ℕ) (y : Answer) → Sized m → Does (cut m) list b y (cut m′) → drop 2048 (m′ .slots) ≡ drop 2048 (m .slots)
+    → Does m list b y m′
+does-cut m m′ list b y Z D rest =
     record {
-      asModel = as-model-cut m m′ rest b y D Z;
+      asModel = as-model-cut m m′ rest list b y D Z;
       onAny = subst (λ (t : Bool). OnAny t m b y m′) (ready-cut m) (any-cut m m′ rest (ready (cut m)) b y (D .onAny));
     }
 
 sized-cut : (m : Memory) → Sized m → Sized (cut m)
-sized-cut m Z = record { workers = Z .workers; times = Z .times; newest = Z .newest; free = Z .free; queue = Z .queue; lens = Z .lens; merged = Z .merged }
+sized-cut m Z =
+    record {
+      workers = Z .workers;
+      times = Z .times;
+      rows = Z .rows;
+      newest = Z .newest;
+      free = Z .free;
+      queue = Z .queue;
+      lens = Z .lens;
+      merged = Z .merged;
+    }
 
 -- so what the code answers and leaves with the first 2048 slots is right for the whole row
-pub does-whole : (m m′ : Memory) (b : List ℕ) (y : Answer) → Sized m → Bytes b
-    → y ≡ doneOf (cut m) b .answer → cut m′ ≡ doneOf (cut m) b .memory → drop 2048 (m′ .slots) ≡ drop 2048 (m .slots) → Does m b y m′
-does-whole m m′ b y Z bytes a l rest =
-    does-cut m m′ b y Z (rw (a, l) (does (cut m) b (sized-cut m Z) bytes)) rest
+pub does-whole : (m m′ : Memory) (list b : List ℕ) (y : Answer) → Sized m → Bytes b
+    → y ≡ doneOf (cut m) list b .answer → cut m′ ≡ doneOf (cut m) list b .memory → drop 2048 (m′ .slots) ≡ drop 2048 (m .slots) → Does m list b y m′
+does-whole m m′ list b y Z bytes a l rest =
+    does-cut m m′ list b y Z (rw (a, l) (does (cut m) list b (sized-cut m Z) bytes)) rest
 
 ------------------------------------------------------------------------
 -- The contract with the whole row is the contract with the first 2048 slots
 
-module _ (m m′ : Memory) (b : List ℕ) (y : Answer) (Z : Sized m) (D : Does m b y m′) where
+module _ (m m′ : Memory) (list b : List ℕ) (y : Answer) (Z : Sized m) (D : Does m list b y m′) where
   left-uncut : {s : Store} → Left s (cut m) → Left s m
   left-uncut {s} L =
       let few = left-few (L .store) in
@@ -257,24 +269,24 @@ module _ (m m′ : Memory) (b : List ℕ) (y : Answer) (Z : Sized m) (D : Does m
 
   cut-written : (h₀ h : Model.Hub) → FewIn h → m′ ≡ writeHub h₀ h m → cut m′ ≡ writeHub h₀ h (cut m)
   cut-written h₀ (blank row) f e = ap cut e
-  cut-written h₀ (up s) f e = ap cut e ∙ write-cut s f (beginAt m (nextHub h₀ s (m .hub)))
+  cut-written h₀ (up s) f e = ap cut e ∙ write-cut s f (withHub m (nextHub h₀ s (m .hub)))
 
-  blank-uncut : ready (cut m) ≡ false → AsModel (blank (map slotOf (take 2048 (m .slots)))) (cut m) (exchangeOf b y ∷ []) (cut m′)
+  blank-uncut : ready (cut m) ≡ false → AsModel (blank (map slotOf (take 2048 (m .slots)))) (cut m) (exchangeOf list b y ∷ []) (cut m′)
   blank-uncut e =
-      let A = D .asModel (blank (row (cut m) (m .slots))) (sym (ready-cut m) ∙ e, refl) in
-      let L = apply-cut (cut m) (m .slots) b in
-      let a : Applied = apply inForce (blank (row (cut m) (m .slots))) b in
-      as-model (cut m) (cut m′) (sized-cut m Z) (blank (row′ (cut m) (m .slots))) b y (e, refl)
-      (cut-written (blank (row (cut m) (m .slots))) (a .hub) (L .few) (one-memory A) ∙ sym (L .memory)) (one-answer A ∙ sym (L .answer))
+      let A = D .asModel (blank (row (cut m) list (m .slots))) (sym (ready-cut m) ∙ e, refl) in
+      let L = apply-cut (cut m) list (m .slots) b in
+      let a : Applied = apply (inForce list) (blank (row (cut m) list (m .slots))) b in
+      as-model (cut m) (cut m′) (sized-cut m Z) list (blank (row′ (cut m) list (m .slots))) b y (e, refl)
+      (cut-written (blank (row (cut m) list (m .slots))) (a .hub) (L .few) (one-memory A) ∙ sym (L .memory)) (one-answer A ∙ sym (L .answer))
 
-  as-model-uncut : (h : Model.Hub) → Holds h (cut m) → AsModel h (cut m) (exchangeOf b y ∷ []) (cut m′)
+  as-model-uncut : (h : Model.Hub) → Holds h (cut m) → AsModel h (cut m) (exchangeOf list b y ∷ []) (cut m′)
   as-model-uncut (blank l) H =
-      subst (λ (q : List Model.Slot). AsModel (blank q) (cut m) (exchangeOf b y ∷ []) (cut m′)) (sym (H .1)) (blank-uncut (H .0))
+      subst (λ (q : List Model.Slot). AsModel (blank q) (cut m) (exchangeOf list b y ∷ []) (cut m′)) (sym (H .1)) (blank-uncut (H .0))
   as-model-uncut (up s) L =
       let A = D .asModel (up s) (left-uncut L) in
-      let N = left-next (L .store) b in
-      let f : FewIn (apply inForce (up s) b .hub) = subst FewIn (sym (N .1)) (left-few (N .2)) in
-      as-model (cut m) (cut m′) (sized-cut m Z) (up s) b y L (cut-written (up s) (apply inForce (up s) b .hub) f (one-memory A)) (one-answer A)
+      let N = left-next (L .store) (under (inForce list) b) in
+      let f : FewIn (apply (inForce list) (up s) b .hub) = subst FewIn (sym (N .1)) (left-few (N .2)) in
+      as-model (cut m) (cut m′) (sized-cut m Z) list (up s) b y L (cut-written (up s) (apply (inForce list) (up s) b .hub) f (one-memory A)) (one-answer A)
 
   ends-uncut : (t : Bool) (d : Decoded) (k : Option ℕ) → EndsBy t m d k m′ → EndsBy t (cut m) d k (cut m′)
   ends-uncut t d none E = tt
@@ -286,7 +298,7 @@ module _ (m m′ : Memory) (b : List ℕ) (y : Answer) (Z : Sized m) (D : Does m
       by true e = ap cut e ∙ sym (idled-cut m m refl d)
       by false e = ap cut e
 
-  pub does-uncut : Does (cut m) b y (cut m′)
+  pub does-uncut : Does (cut m) list b y (cut m′)
   does-uncut =
       let E = D .onAny in
       record {

@@ -48,6 +48,7 @@ ok-back Is.Going = refl
 ok-back (Is.Freed c) = refl
 ok-back (Is.At t) = refl
 ok-back (Is.Value x) = refl
+ok-back (Is.Below x) = refl
 ok-back Is.Done = refl
 ok-back (Is.No k) = refl
 
@@ -85,18 +86,18 @@ module _ (l es fs : List Exchange) (x : Exchange) (e : l ≡ es ++ (x ∷ fs)) w
   within : length es < length l
   within = omega (arith, ap length e, length-append es (x ∷ fs))
 
-from-setup : (m : Memory) (c : CallIn) → Called m c → (es fs : List Exchange) (b : List ℕ) → Accepts (exchanged c) es b fs → ready m ≡ false
-from-setup m (ForRecord b₀ y m′) D es fs b S =
-    let x : Exchange = record { bytes = b; answer = Ok } in
-    let l : List Exchange = exchangeOf b₀ y ∷ [] in
+from-setup : (m : Memory) (c : CallIn) → Called m c → (es fs : List Exchange) (list b : List ℕ) → Accepts (exchanged c) es list b fs → ready m ≡ false
+from-setup m (ForRecord l₀ b₀ y m′) D es fs list b S =
+    let x : Exchange = record { list = list; bytes = b; answer = Ok } in
+    let l : List Exchange = exchangeOf l₀ b₀ y ∷ [] in
     let first : 0 ≡ length es = omega (arith, within l es fs x (S .place)) in
-    let is : exchangeOf b₀ y ≡ x = ap (λ (k : ℕ). getD l k x) first ∙ stands l es fs x (S .place) in
+    let is : exchangeOf l₀ b₀ y ≡ x = ap (λ (k : ℕ). getD l k x) first ∙ stands l es fs x (S .place) in
     not-ready m
     (no-setup (ready m) m m′ b₀ y (D .onAny) (S .sizes) (ap (λ (q : Exchange). decode (q .bytes)) is ∙ S .setup)
     (ap (λ (q : Exchange). said (q .answer) .ok) is))
-from-setup m (ForBuffer bytes kinds numbers n kinds′ numbers′ m′) A es fs b S =
-    let x : Exchange = record { bytes = b; answer = Ok } in
-    let f : ℕ → Exchange = exchangeAt bytes kinds′ numbers′ in
+from-setup m (ForBuffer l₀ bytes kinds numbers n kinds′ numbers′ m′) A es fs list b S =
+    let x : Exchange = record { list = list; bytes = b; answer = Ok } in
+    let f : ℕ → Exchange = exchangeAt l₀ bytes kinds′ numbers′ in
     let k : ℕ = length es in
     let ys : List Code.Answer = A .answers in
     let h : k < n = omega (arith, within (map f (upFrom 0 n)) es fs x (S .place), map-long f n) in
@@ -127,8 +128,8 @@ held (blank row) m H = inl (ap blank (H .1))
 held (up s) m L = inr (s, refl, L .store)
 
 call-as-model : (h : Hub) (m : Memory) (c : CallIn) → Holds h m → Called m c → AsModel h m (exchanged c) (leftBy c)
-call-as-model h m (ForRecord b y m′) H D = D .asModel h H
-call-as-model h m (ForBuffer bytes kinds numbers n kinds′ numbers′ m′) H A = A .asModel h H
+call-as-model h m (ForRecord list b y m′) H D = D .asModel h H
+call-as-model h m (ForBuffer list bytes kinds numbers n kinds′ numbers′ m′) H A = A .asModel h H
 
 calls-as-model : (h : Hub) (m : Memory) (cs : List CallIn) → Holds h m → Calls m cs → AsModel h m (exchanges cs) (leftByAll m cs)
 unfolding Calls exchanges leftByAll
@@ -149,30 +150,30 @@ calls-behind m [] ds C = C
 calls-behind m (c ∷ cs) ds C = calls-behind (leftBy c) cs ds (C .1)
 
 -- demand 3 of a setup in the first call
-first-setup : (m : Memory) (c : CallIn) (ds : List CallIn) → Calls m (c ∷ ds) → (es fs : List Exchange) (b : List ℕ) → Accepts (exchanged c) es b fs
-    → CodeDemand3 (apply inForce (blank (map slotOf (m .slots))) b .hub) [] (fs ++ exchanges ds)
+first-setup : (m : Memory) (c : CallIn) (ds : List CallIn) → Calls m (c ∷ ds) → (es fs : List Exchange) (list b : List ℕ) → Accepts (exchanged c) es list b fs
+    → CodeDemand3 (apply (inForce list) (blank (map slotOf (m .slots))) b .hub) [] (fs ++ exchanges ds)
 unfolding Calls exchanges
-first-setup m c ds C es fs b S =
-    let D : Decided m = (blank (map slotOf (m .slots)), (from-setup m c (C .0) es fs b S, refl)) in
-    let x : Exchange = record { bytes = b; answer = Ok } in
+first-setup m c ds C es fs list b S =
+    let D : Decided m = (blank (map slotOf (m .slots)), (from-setup m c (C .0) es fs list b S, refl)) in
+    let x : Exchange = record { list = list; bytes = b; answer = Ok } in
     let whole : exchanges (c ∷ ds) ≡ es ++ (x ∷ (fs ++ exchanges ds)) =
     ap (λ (l : List Exchange). l ++ exchanges ds) (S .place) ∙ append-assoc es (x ∷ fs) (exchanges ds) in
-    behind-setup (map slotOf (m .slots)) (D .0) es (fs ++ exchanges ds) b (S .sizes) (held (D .0) m (D .1))
+    behind-setup (map slotOf (m .slots)) (D .0) es (fs ++ exchanges ds) list b (S .sizes) (held (D .0) m (D .1))
     (subst (λ (l : List Exchange). l ≡ map exchange (events (D .0) (sent l))) whole (calls-as-model (D .0) m (c ∷ ds) (D .1) C .answers)) (S .setup)
 
 -- memory from before the first change request
-on-earlier : (s : Store) (m : Memory) (E : LeftUnder document01 s) (cs : List CallIn) → Begins (m .hub .window) → m ≡ write s m → Calls m cs
-    → OnEarlier s m E cs
-on-earlier s m E cs begins laid C =
+on-earlier : (list : List ℕ) (s : Store) (m : Memory) (E : LeftUnder (document01 list) s) (cs : List CallIn) → Begins (m .hub .window) → m ≡ write s m → Calls m cs
+    → OnEarlier list s m E cs
+on-earlier list s m E cs begins laid C =
     let L : Left s m =
     record {
       store =
           record {
             row = E .row;
-            setup = under document01 (E .setup);
+            setup = under (document01 list) (E .setup);
             batch = refl;
             accepted = E .accepted;
-            records = allUnder document01 (E .records);
+            records = allUnder (document01 list) (E .records);
             left = E .left;
           };
       begins = begins;
@@ -185,11 +186,11 @@ pub demands : Demands
 demands =
     record {
       demand2 = calls-as-model;
-      log = λ h m cs file H C F.
+      log = λ h m cs list file H C F.
           ap (map (λ (e : Exchange). e .answer)) (calls-as-model h m cs H C .answers)
           ∙ map-exchange (events h (sent (exchanges cs)))
           ∙ answers-of-events h (sent (exchanges cs))
-          ∙ ap (λ (l : List (List ℕ)). answersTo h (allUnder inForce l)) (parts-records cs file F);
+          ∙ ap (answersTo h) (parts-records list cs file F);
       anyCalls = λ m cs ds D C E.
           same-sent (D .0) m (leftByAll m cs) (leftByAll m ds) (exchanges cs) (exchanges ds) (calls-as-model (D .0) m cs (D .1) C)
           (calls-as-model (D .0) m ds (D .1) E);

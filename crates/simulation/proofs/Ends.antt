@@ -1,9 +1,9 @@
 -- What holds on any memory: a setup on memory that counts as set up gets 9, and a refusal changes nothing or, met at a step, sets one worker
 -- idle. By cases on the decision and on the worker's place.
 use mathlib.Core.Path.{_≡_, refl, sym, ap, _∙_}
-use mathlib.Core.Bool.{Bool, true, false, not, _&&_}
+use mathlib.Core.Bool.{Bool, true, false, cond, not, _&&_}
 use mathlib.Core.List.{List}
-use Prim.Native.Nat.{ℕ, _%_, _<_}
+use Prim.Native.Nat.{ℕ, _-_, _%_, _<_}
 use native.Mathlib.Omega.{arith}
 use lib.Dec.{ltb, leb, eqb}
 use lib.ListN.{length, getD, set}
@@ -18,11 +18,16 @@ use Rattle.model.specs.Answer as Model·Answer
 use Rattle.model.proofs.Basic.{cond-both}
 use Rattle.values.specs.Meaning.{answerOf}
 use Rattle.values.specs.declared.Answer.{Answer}
-use Rattle.values.specs.declared.Answer.the-variants.{Going, Done, No}
+use Rattle.values.specs.declared.Answer.the-variants.{Going, Value, Below, Done, No}
 use Rattle.versions.specs.Versions.{slotAtIn}
 use Rattle.worker.specs.Rep.{timeOf}
 use Rattle.worker.specs.declared.Announced.{Announced}
 use Rattle.worker.specs.declared.Announced.the-variants.{Nothing, At}
+use Rattle.model.specs.Rules.{twelveDigits}
+use Rattle.model.specs.Totals.{signOf, rowAt, goesOn}
+use Rattle.values.specs.declared.Reading.{Reading}
+use Rattle.worker.specs.declared.Purpose.{Purpose}
+use Rattle.worker.specs.declared.Purpose.the-variants.{Single, Totaling}
 use Rattle.worker.specs.declared.Doing.{Doing}
 use Rattle.worker.specs.declared.Doing.the-variants.{Idle, PutPublish, PutStamp, PutHandIn, FlushTake, FlushRead, FlushFree}
 use Rattle.worker.specs.declared.Doing.the-variants.{OnTime, ReadEnter, ReadStand, GetShow}
@@ -36,15 +41,16 @@ use Rattle.gate.specs.declared.Gate.the-variants.{Refuse, Make, Start, Go}
 use Rattle.gate.specs.Gate.{operationRep, decodedRep, decodedIn, sizesOk, gateOf, whoOf}
 use Rattle.gate.proofs.Tests.{begin-gate-by}
 use Rattle.announcing.specs.declared.Outcome.{Outcome}
+use Rattle.totals.specs.Rows.{addedTo}
 use Rattle.step.specs.declared.Next.{Next}
 use Rattle.step.specs.declared.Next.the-variants.{Taken}
 use Rattle.announcing.specs.Announcing.{outcomeOf}
 use Rattle.step.specs.Step.{Stepped, readOrSplit, freeOrDone, stepOf}
 use Rattle.announcing.specs.Announcing.{openAnnounceStep, openPassStep, closeWithdrawStep}
-use Rattle.step.specs.Step.{putPublishStep, putStampStep, readEnterStep, readStandStep, getShowStep}
+use Rattle.step.specs.Step.{signedOf, totalFoundOf, foundOf, putPublishStep, putStampStep, readEnterStep, readStandStep, getShowStep}
 use Rattle.flush.specs.Flush.{handedPool, putHandInStep}
-use Rattle.simulation.specs.Memory.{Memory}
-use Rattle.simulation.specs.Shell.{Result, withHub, takenIn, handedIn, tookIn, readIn, splitIn, freedIn, nextIn, finishIn, goIn}
+use Rattle.simulation.specs.Memory.{Memory, withHub}
+use Rattle.simulation.specs.Shell.{Result, rowsKept, takenIn, handedIn, tookIn, readIn, splitIn, freedIn, nextIn, finishIn, goIn}
 use Rattle.simulation.specs.Shell.{answered, obeyIn, gateIn, doneAs}
 use Rattle.simulation.specs.Public.{idleIn, takesStepIn, idledIn, EndsBy, OnAny}
 use Rattle.simulation.proofs.Gates.{gateBy}
@@ -52,12 +58,12 @@ use Rattle.simulation.proofs.Gates.{gateBy}
 ------------------------------------------------------------------------
 -- Memory that counts as set up
 
-setup-nine : (up : Bool) (m : Memory) (b : List ℕ) → up ≡ true → (z : Sizes) → decode b ≡ Asks (SetUp z)
-    → answerOf (doneAs up m b .answer) ≡ Model·Answer.No 9
+setup-nine : (up : Bool) (m : Memory) (list b : List ℕ) → up ≡ true → (z : Sizes) → decode b ≡ Asks (SetUp z)
+    → answerOf (doneAs up m list b .answer) ≡ Model·Answer.No 9
 unfolding doneAs gateOf obeyIn
-setup-nine up m b e z d =
+setup-nine up m list b e z d =
     let said : Record.Decoded → Bool → Model·Answer.Answer =
-    λ r t. answerOf (obeyIn m (gateBy (decodedRep r) t (length (m .slots)) (m .hub)) .answer) in
+    λ r t. answerOf (obeyIn m list (gateBy (decodedRep r) t (length (m .slots)) list (m .hub)) .answer) in
     λ i. said (d i) (e i)
 
 ------------------------------------------------------------------------
@@ -91,22 +97,22 @@ read-numbered : (b : List ℕ) → ReadNumbered (decode b)
 unfolding decode occurrences
 read-numbered b =
     cond-both ReadNumbered (ltb (length b) 16) _ _ (λ e. omega arith)
-    (λ e. cond-both ReadNumbered (ltb 7 (getD b 0 0)) _ _ (λ f. omega arith)
+    (λ e. cond-both ReadNumbered (ltb 8 (getD b 0 0)) _ _ (λ f. omega arith)
     (λ f. cond-both ReadNumbered (unusedZero b (commandOf b (getD b 0 0))) _ _ (λ g. tt) (λ g. omega arith)))
 
 -- 9 and 5 of a setup, 8, those of a begin, and 3 of a step
-gate-numbered : (r : Record.Decoded) → ReadNumbered r → (up : Bool) (p v long : ℕ) (d : Doing) (t : Announced)
-    → GateNumbered r up p d (gateOf (decodedRep r) up p v long d t)
+gate-numbered : (r : Record.Decoded) → ReadNumbered r → (up : Bool) (p v long : ℕ) (d : Doing) (t : Announced) (list rows : List ℕ)
+    → GateNumbered r up p d (gateOf (decodedRep r) up p v long d t list rows)
 unfolding gateOf occurrences
-gate-numbered (Record.Refuses k) n up p v long d t = (n, refl)
-gate-numbered (Asks (SetUp z)) n up p v long d t =
+gate-numbered (Record.Refuses k) n up p v long d t list rows = (n, refl)
+gate-numbered (Asks (SetUp z)) n up p v long d t list rows =
     let N : Gate → Type 0 = GateNumbered (Asks (SetUp z)) up p d in
     cond-both N up _ _ (λ e. (omega arith, refl))
-    (λ e. cond-both N (sizesOk (z .P) (z .V') (z .N) (z .clock) long) _ _ (λ f. tt) (λ f. (omega arith, refl)))
-gate-numbered (Asks (Record.Begin w o)) n up p v long d t =
+    (λ e. cond-both N (sizesOk (z .P) (z .V') (z .N) (z .clock) long && Record.listFits (z .V') list) _ _ (λ f. tt) (λ f. (omega arith, refl)))
+gate-numbered (Asks (Record.Begin w o)) n up p v long d t list rows =
     let N : Gate → Type 0 = GateNumbered (Asks (Record.Begin w o)) up p d in
-    cond-both N up _ _ (λ e. begin-gate-by N p v w (operationRep o) d t (λ k f. (f, refl)) (λ f. tt)) (λ e. (omega arith, refl))
-gate-numbered (Asks (Record.Step w)) n up p v long d t =
+    cond-both N up _ _ (λ e. begin-gate-by N p v w (operationRep o) d t rows (λ k f. (f, refl)) (λ f. tt)) (λ e. (omega arith, refl))
+gate-numbered (Asks (Record.Step w)) n up p v long d t list rows =
     let N : Gate → Type 0 = GateNumbered (Asks (Record.Step w)) up p d in
     cond-both N up _ _
     (λ e. cond-both N (ltb w p) _ _ (λ f. (refl, e, f)) (λ f. (omega arith, rw (e, f))))
@@ -154,7 +160,7 @@ module _ (up : Bool) (m : Memory) (r : Record.Decoded) where
         ∙ ap (λ (l : List Worker). withHub m (withWorkersIn (m .hub) l)) (set-getD (m .hub .workers) w nobody) in
         record { number = rw (takes Idle e) (omega arith); leaves = rw (takes Idle e) kept }
 
-    -- 14 and 15 set the worker idle
+    -- 14, 15 and 18 set the worker idle
     sets-idle : (k : ℕ) → takesStepIn up m r ≡ true → 0 < occurrences k atStep → StillEnds (refusedAt k)
     unfolding nextIn takenIn idledIn
     sets-idle k e n = record { number = rw e n; leaves = rw (e, s) }
@@ -183,6 +189,25 @@ module _ (up : Bool) (m : Memory) (r : Record.Decoded) where
     pass-ends Nothing = tt
     pass-ends (At t) = tt
 
+    -- what a total answers
+    signed-ends : (plus minus : ℕ) → StillEnds (outcomeOf Idle (x .announced) (m .hub .clock) (m .hub .free) (signedOf plus minus))
+    unfolding nextIn takenIn
+    signed-ends plus minus =
+        cond-both (λ (y : Answer). StillEnds (outcomeOf Idle (x .announced) (m .hub .clock) (m .hub .free) y)) (leb minus plus)
+        (Value (record { count = plus - minus })) (Below (record { count = minus - plus })) (λ q. tt) (λ q. tt)
+
+    -- read (2) where the version is found; 18
+    found-ends : takesStepIn up m r ≡ true → (y : Purpose) (v : Reading)
+        → StillEnds (foundOf y v (x .announced) (m .hub .clock) (m .hub .free) (rowsKept (m .hub)))
+    unfolding nextIn takenIn totalFoundOf occurrences
+    found-ends e Single v = tt
+    found-ends e (Totaling g i plus minus) v =
+        let adds = eqb (signOf (rowAt (rowsKept (m .hub)) i)) 0 in
+        cond-both StillEnds (leb (v .count) twelveDigits) _ _
+        (λ f. cond-both StillEnds (goesOn (rowsKept (m .hub)) g i) _ _ (λ n. tt)
+        (λ n. signed-ends (addedTo plus (cond adds (v .count) 0)) (addedTo minus (cond adds 0 (v .count)))))
+        (λ f. sets-idle 18 e (omega arith))
+
     -- by the worker's place
     step-ends : (d : Doing) → x .doing ≡ d → Ends (goIn m w x d)
     unfolding goIn nextIn takenIn tookIn stepOf putPublishStep putStampStep openAnnounceStep readEnterStep readStandStep getShowStep closeWithdrawStep occurrences
@@ -200,16 +225,17 @@ module _ (up : Bool) (m : Memory) (r : Record.Decoded) where
     step-ends (OnTime CloseWithdraw) e = tt
     step-ends (ReadEnter i) e = tt
     step-ends (ReadStand i v) e =
-        cond-both StillEnds (leb (slotAtIn (m .slots) v .low) (timeOf (x .announced))) _ _ (λ f. tt) (λ f. tt)
+        cond-both StillEnds (leb (slotAtIn (m .slots) v .low) (timeOf (x .announced))) _ _
+        (λ f. found-ends (takes (ReadStand i v) e) (i .purpose) (slotAtIn (m .slots) v .value)) (λ f. tt)
     step-ends (GetShow i) e = tt
 
 ------------------------------------------------------------------------
 -- A record
 
-module _ (up : Bool) (m : Memory) where
+module _ (up : Bool) (m : Memory) (list : List ℕ) where
   -- by the decision
   gate-ends : (r : Record.Decoded) (d : Doing) → Steps r up (m .hub .p) d ≡ takesStepIn up m r
-      → (g : Gate) → GateNumbered r up (m .hub .p) d g → Ends up m r (obeyIn m g)
+      → (g : Gate) → GateNumbered r up (m .hub .p) d g → Ends up m r (obeyIn m list g)
   unfolding obeyIn
   gate-ends r d e (Refuse k) n = record { number = rw (sym e ∙ n .1) (n .0); leaves = rw (sym e ∙ n .1) }
   gate-ends r d e (Make p v k t) n = tt
@@ -225,23 +251,23 @@ module _ (up : Bool) (m : Memory) where
   looks-at (Record.Refuses k) = refl
 
   module _ (b : List ℕ) where
-    ends-well : Ends up m (decode b) (doneAs up m b)
+    ends-well : Ends up m (decode b) (doneAs up m list b)
     unfolding doneAs
     ends-well =
         let x : Worker = workerIn (m .hub) (whoOf (decodedIn b)) in
-        gate-ends (decode b) (x .doing) (looks-at (decode b)) (gateIn up m b)
-        (gate-numbered (decode b) (read-numbered b) up (m .hub .p) (m .hub .v) (length (m .slots)) (x .doing) (x .announced))
+        gate-ends (decode b) (x .doing) (looks-at (decode b)) (gateIn up m list b)
+        (gate-numbered (decode b) (read-numbered b) up (m .hub .p) (m .hub .v) (length (m .slots)) (x .doing) (x .announced) list (rowsKept (m .hub)))
 
     -- a record that is refused before it is a command
-    refused-read : (k : ℕ) → decode b ≡ Record.Refuses k → doneAs up m b ≡ answered m (No k)
+    refused-read : (k : ℕ) → decode b ≡ Record.Refuses k → doneAs up m list b ≡ answered m (No k)
     unfolding doneAs gateOf obeyIn
-    refused-read k e = ap (λ (r : Record.Decoded). obeyIn m (gateBy (decodedRep r) up (length (m .slots)) (m .hub))) e
+    refused-read k e = ap (λ (r : Record.Decoded). obeyIn m list (gateBy (decodedRep r) up (length (m .slots)) list (m .hub))) e
 
-    pub on-any : OnAny up m b (doneAs up m b .answer) (doneAs up m b .memory)
+    pub on-any : OnAny up m b (doneAs up m list b .answer) (doneAs up m list b .memory)
     on-any =
         record {
           ends = ends-well;
           reading = λ k e.
               (ap (λ (r : Result). answerOf (r .answer)) (refused-read k e), ap (λ (r : Result). r .memory) (refused-read k e));
-          nine = setup-nine up m b;
+          nine = setup-nine up m list b;
         }

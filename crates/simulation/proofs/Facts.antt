@@ -2,16 +2,22 @@
 use mathlib.Core.Path.{_≡_, refl}
 use mathlib.Core.Bool.{Bool, true, false, cond}
 use mathlib.Core.Option.{Option, none, some}
-use Prim.Native.Nat.{ℕ}
+use mathlib.Core.List.{List}
+use Prim.Native.Nat.{ℕ, _%_, _≤_}
+use native.Mathlib.Nat.{mod-eq-of-lt}
+use native.Mathlib.Omega.{arith}
 use lib.Dec.{ltb}
+use lib.ListN.{length}
 use Rattle.model.specs.Store as Model
 use Rattle.model.specs.Store.{absent}
 use Rattle.model.specs.About as Place
 use Rattle.model.specs.About.{about}
 use Rattle.model.specs.Rules.{inForce}
+use Rattle.model.specs.Totals.{firstOf}
 use Rattle.model.specs.Record as Record
 use Rattle.model.specs.Apply as Begin
-use Rattle.model.specs.Apply.{Terms, terms, registerBelow, valueWithin, mayOpen, mayUseTime}
+use Rattle.model.proofs.Totals.{first-within}
+use Rattle.model.specs.Apply.{Terms, terms, registerBelow, groupThere, valueWithin, mayOpen, mayUseTime}
 use Rattle.worker.specs.declared.Announced.the-variants as Announced
 use Rattle.worker.specs.declared.Named.{Named}
 use Rattle.worker.specs.declared.Named.the-variants.{Nothing, Is}
@@ -24,7 +30,7 @@ use Rattle.gate.specs.declared.TimeNeed.the-variants.{Any, Absent, Own}
 use Rattle.gate.specs.declared.Putting.{Putting}
 use Rattle.gate.specs.declared.Putting.the-variants as Putting
 use Rattle.gate.specs.declared.Terms as Code
-use Rattle.gate.specs.Gate.{operationRep, termsOf, registerOk, valueOk, hasTime, openOk, timeOk}
+use Rattle.gate.specs.Gate.{operationRep, termsOf, registerOk, groupOk, valueOk, hasTime, openOk, timeOk}
 
 abbrev pub stanceRep : Place.Stance → Stance
 stanceRep Place.Nowhere = Nowhere
@@ -59,26 +65,45 @@ needRep Begin.AnyTime = Any
 needRep Begin.NoTime = Absent
 needRep Begin.OwnTime = Own
 
-abbrev pub termsRep : Terms → Code.Terms
-termsRep x =
-    record { register = namedRep (x .register); value = valueRep (x .value); time = needRep (x .time); first = doingRep (x .first) }
+-- the first row of a group in the place of the group
+abbrev pub rowRep : List ℕ → Option ℕ → Named
+rowRep rows none = Nothing
+rowRep rows (some g) = Is (firstOf g rows)
 
-pub same-terms : (o : Record.Operation) → termsOf (operationRep o) ≡ termsRep (terms o)
-same-terms (Record.Put r x) = refl
-same-terms Record.Open = refl
-same-terms (Record.Read r) = refl
-same-terms Record.Close = refl
-same-terms (Record.Get r) = refl
-same-terms Record.Collect = refl
+abbrev pub termsRep : List ℕ → Terms → Code.Terms
+termsRep rows x =
+    record {
+      register = namedRep (x .register);
+      row = rowRep rows (x .group);
+      value = valueRep (x .value);
+      time = needRep (x .time);
+      first = doingRep (x .first);
+    }
+
+-- the index of a row fits sixteen bits
+pub same-terms : (rows : List ℕ) → length rows ≤ 1024 → (o : Record.Operation) → termsOf (operationRep o) rows ≡ termsRep rows (terms rows o)
+same-terms rows h (Record.Put r x) = refl
+same-terms rows h Record.Open = refl
+same-terms rows h (Record.Read r) = refl
+same-terms rows h Record.Close = refl
+same-terms rows h (Record.Get r) = refl
+same-terms rows h Record.Collect = refl
+same-terms rows h (Record.Total g) =
+    let small : firstOf g rows % 65536 ≡ firstOf g rows = mod-eq-of-lt (omega (arith, first-within g rows)) in
+    rw small
+
+pub same-group : (rows : List ℕ) (x : Option ℕ) → groupOk (rowRep rows x) rows ≡ groupThere rows x
+same-group rows none = refl
+same-group rows (some g) = refl
 
 pub same-register : (x : Option ℕ) (v : ℕ) → registerOk (namedRep x) v ≡ registerBelow v x
 same-register none v = refl
 same-register (some r) v = refl
 
 -- the code's limit is that of the rules in force
-pub same-value : (x : Option ℕ) → valueOk (valueRep x) ≡ valueWithin (inForce .limit) x
-same-value none = refl
-same-value (some x) = refl
+pub same-value : (list : List ℕ) (x : Option ℕ) → valueOk (valueRep x) ≡ valueWithin (inForce list .limit) x
+same-value list none = refl
+same-value list (some x) = refl
 
 has-time : (t : ℕ) → hasTime (announcedRep t) ≡ ltb t absent
 has-time t = go (ltb t absent)

@@ -19,7 +19,7 @@ use Rattle.worker.proofs.Rep.{announced-at}
 use Rattle.state.specs.declared.Hub.{Hub}
 use Rattle.step.specs.Step.{Stepped, newestAt, stepOf}
 use Rattle.simulation.specs.Memory.{Memory, write}
-use Rattle.simulation.specs.Shell.{stepAtIn}
+use Rattle.simulation.specs.Shell.{rowsKept, stepAtIn}
 use Rattle.simulation.proofs.Laws.{newest-at}
 use Rattle.simulation.proofs.Sound.{Sound}
 use Rattle.simulation.proofs.Simulates.{recordAt}
@@ -31,6 +31,7 @@ use Rattle.simulation.proofs.Rows.{stamped-row}
 abbrev pub stepFound : Store → Memory → ℕ → Model.Doing → Stepped
 stepFound s m w d =
     stepOf (doingRep d) (announcedRep (workerAt s w .announced)) (s .clock) (length (s .free)) (s .site .P) (m .slots) (m .newest) (m .free)
+    (rowsKept (m .hub))
 
 pub short-is : (x : ℕ) → x < 65536 → short x ≡ x
 short-is x h = omega arith
@@ -38,7 +39,8 @@ short-is x h = omega arith
 module _ (s : Store) (m : Memory) (laid : m ≡ write s m) where
   pub step-is : (w : ℕ) (d : Model.Doing) → stepAtIn m (recordAt s w d) (doingRep d) ≡ stepFound s m w d
   step-is w d =
-      ap (λ (h : Hub). stepOf (doingRep d) (announcedRep (workerAt s w .announced)) (h .clock) (h .free) (h .p) (m .slots) (m .newest) (m .free))
+      ap (λ (h : Hub). stepOf (doingRep d) (announcedRep (workerAt s w .announced)) (h .clock) (h .free) (h .p) (m .slots) (m .newest) (m .free)
+      (rowsKept (m .hub)))
       (hub-is s m laid)
 
 module _ (s : Store) (m : Memory) (S : Sound s) (laid : m ≡ write s m) where

@@ -1,22 +1,23 @@
 -- What an accepted setup writes is the model's fresh store: each loop's result is the store's list at the front of the memory that it fills,
 -- by induction on how far the loop has come.
 use mathlib.Core.Path.{_≡_, refl, sym, ap, _∙_}
-use mathlib.Core.Bool.{Bool, true, false, cond}
+use mathlib.Core.Bool.{Bool, true, false, cond, _&&_}
 use mathlib.Core.List.{List, [], _∷_, _++_, map, reverse, reverse-cons}
-use Prim.Native.Nat.{ℕ, zero, suc, _+_, _-_, _≤_, _<_}
+use Prim.Native.Nat.{ℕ, zero, suc, _+_, _-_, _/_, _%_, _≤_, _<_}
 use native.Mathlib.Nat.{mod-eq-of-lt}
 use native.Mathlib.Omega.{arith}
-use lib.Dec.{ltb, leb·zero, leb·suc-zero, leb·suc-suc}
+use lib.Dec.{ltb, eqb, leb·zero, leb·suc-zero, leb·suc-suc}
 use lib.ListN.{length, getD, set, take, drop, replicate, length-map, length-reverse, take-append-drop}
-use lib.Seq.{take-suc, length-take-le}
+use lib.Seq.{take-suc, length-take-le, take-all}
 use Rattle.lists.specs.Over.{over}
 use Rattle.lists.proofs.Over.{over-nil, over-push, getD-over-past}
 use Rattle.model.specs.Store as Model
 use Rattle.model.specs.Store.{absent, reading₀, slot₀, startWorker, upFrom}
-use Rattle.model.specs.Record.{Sizes}
+use Rattle.model.specs.Record.{Sizes, rowsOf, listFits}
 use Rattle.model.specs.Apply.{firstSlots, fresh}
 use Rattle.model.specs.Versions.{alone}
-use Rattle.model.proofs.Basic.{getD-map, map-app}
+use Rattle.model.proofs.Basic.{getD-map, map-app, and-both}
+use Rattle.model.proofs.Totals.{few-rows}
 use Rattle.worker.specs.declared.Worker.{Worker}
 use Rattle.worker.specs.Rep.{timesRead, workerRep}
 use Rattle.slots.specs.declared.Slot.{Slot}
@@ -150,10 +151,24 @@ parts-made n f e (suc p) d =
     ∙ ap (λ (l : List ℕ). l ++ drop n d) (sym (over-nil (take n d)))
     ∙ (λ i. over (sym e i) (take n d) ++ parts-made n f e p (drop n d) i)
 
-pub hub-made : (b : ℕ) (z : Sizes) (row : List Model.Slot) → z .P ≤ 16 → freshHub (z .P) (z .V') (z .N) (z .clock) ≡ hubRep (fresh b z row) emptyHub
+-- the rows of a list
+rows-length : (list : List ℕ) → length (rowsOf list) ≡ length list / 4
+unfolding rowsOf
+rows-length list = length-map (upFrom 0 (length list / 4)) _ ∙ up-length 0 (length list / 4)
+
+pub rows-few : (v : ℕ) (list : List ℕ) → listFits v list ≡ true → length (rowsOf list) ≤ 1024
+unfolding listFits
+rows-few v list e =
+    let a = and-both (eqb (length list % 4) 0) _ e in
+    omega (arith, few-rows v 0 0 (rowsOf list) (a .1) (omega arith) (omega arith))
+
+pub hub-made : (b : ℕ) (z : Sizes) (list : List ℕ) (row : List Model.Slot) → z .P ≤ 16 → length (rowsOf list) ≤ 1024
+    → freshHub (z .P) (z .V') (z .N) (z .clock) (length list / 4) (over (take 1024 (rowsOf list)) (replicate 1024 0))
+    ≡ hubRep (fresh b z (rowsOf list) row) emptyHub
 unfolding fresh
-hub-made b z row h =
-    hub-path refl refl refl refl (sym (up-length (z .V') (z .N - z .V'))) refl (parts-made 16 (λ x. timesRead (x .doing)) refl (z .P) (replicate 256 0))
+hub-made b z list row h few =
+    hub-path refl refl refl refl (sym (up-length (z .V') (z .N - z .V'))) refl (sym (rows-length list))
+    (ap (λ (l : List ℕ). over l (replicate 1024 0)) (take-all 1024 (rowsOf list) few)) (parts-made 16 (λ x. timesRead (x .doing)) refl (z .P) (replicate 256 0))
     (sym
     (ap (λ (l : List Worker). over l (replicate 16 (workerRep startWorker))) (map-replicate workerRep (z .P) startWorker)
     ∙ over-replicate (workerRep startWorker) (z .P) 16 h))

@@ -2,8 +2,11 @@
 -- worker's record is looked at only where the worker is below P, and there it is the model's worker in memory.
 use mathlib.Core.Path.{_≡_, refl, sym, ap, subst, _∙_}
 use mathlib.Core.Bool.{Bool, true, false, true≢false, cond}
+use mathlib.Core.List.{List}
 use Prim.Native.Nat.{ℕ, _<_}
 use lib.Dec.{ltb}
+use lib.ListN.{length}
+use Rattle.lists.proofs.Over.{take-over}
 use borrow.Author.Tests.{ltb-true}
 use Rattle.model.specs.Store as Model
 use Rattle.model.specs.Store.{Store, up, absent, workerAt, place}
@@ -11,33 +14,34 @@ use Rattle.model.specs.Rules.{inForce}
 use Rattle.model.specs.Answer.{Ok, Stepped, Applied}
 use Rattle.model.specs.Record as Record
 use Rattle.model.specs.Steps.{stepAt}
-use Rattle.model.specs.Apply.{refuse, Terms, terms, registerBelow, valueWithin, isIdle, mayOpen, mayUseTime, setUp, begin, step, obey, applyDecoded}
+use Rattle.model.specs.Apply.{refuse, Terms, terms, registerBelow, groupThere, valueWithin, isIdle, mayOpen, mayUseTime, setUp, begin, step, obey, applyDecoded}
 use Rattle.model.proofs.View.{idle-is}
 use Rattle.worker.specs.declared.Worker.{Worker}
 use Rattle.worker.specs.Rep.{doingRep, workerRep}
 use Rattle.record.specs.declared.Decoded.{Decoded}
 use Rattle.state.specs.declared.Hub.{Hub}
-use Rattle.state.specs.State.{emptyHub, workerIn}
+use Rattle.state.specs.State.{workerIn}
 use Rattle.worker.specs.About.{aboutOf}
 use Rattle.gate.specs.declared.Terms as Code
 use Rattle.gate.specs.declared.Gate.{Gate}
 use Rattle.gate.specs.declared.Gate.the-variants.{Refuse, Make, Start, Go}
-use Rattle.gate.specs.Gate.{operationRep, decodedRep, registerOk, valueOk, openOk, timeOk, beginGate, gateOf, whoOf}
+use Rattle.gate.specs.Gate.{operationRep, decodedRep, registerOk, groupOk, valueOk, openOk, timeOk, beginGate, gateOf, whoOf}
 use Rattle.simulation.specs.Memory.{hubRep}
+use Rattle.simulation.specs.Shell.{rowsKept}
 use Rattle.simulation.proofs.Laws.{worker-in}
-use Rattle.simulation.proofs.Facts.{same-facts, termsRep, same-terms, same-register, same-value, same-open, same-use}
+use Rattle.simulation.proofs.Facts.{same-facts, termsRep, same-terms, same-register, same-group, same-value, same-open, same-use}
 use Rattle.simulation.proofs.Sound.{Sound}
 
--- the gate of a record that was read as r, by whether the memory is ready, the length of the row, and the hub by value
-abbrev pub gateBy : Decoded → Bool → ℕ → Hub → Gate
-gateBy r ready long h =
-    gateOf r ready (h .p) (h .v) long (workerIn h (whoOf r) .doing) (workerIn h (whoOf r) .announced)
+-- the gate of a record that was read as r, by whether the memory is ready, the length of the row, the list that is lent, and the hub by value
+abbrev pub gateBy : Decoded → Bool → ℕ → List ℕ → Hub → Gate
+gateBy r ready long list h =
+    gateOf r ready (h .p) (h .v) long (workerIn h (whoOf r) .doing) (workerIn h (whoOf r) .announced) list (rowsKept h)
 
 -- a begin of operation o by worker w in the store s is accepted
 pub record Begun (s : Store) (w : ℕ) (o : Record.Operation) (a : Applied) : Type 0 where
   pub inside : w < s .site .P
   pub idle : workerAt s w .doing ≡ Model.Idle
-  pub is : a ≡ record { hub = up (place s w (terms o .first)); answer = Ok }
+  pub is : a ≡ record { hub = up (place s w (terms (s .site .rows) o .first)); answer = Ok }
 
 -- what a step makes of the hub
 abbrev took : Stepped → Applied
@@ -52,7 +56,7 @@ pub record Stepping (s : Store) (w : ℕ) (a : Applied) : Type 0 where
 abbrev pub Means : Store → Gate → Applied → Type 0
 Means s (Refuse k) a = a ≡ refuse (up s) k
 Means s (Make p v n k) a = ⊥
-Means s (Start w d) a = (o : Record.Operation) × (d ≡ doingRep (terms o .first)) × Begun s w o a
+Means s (Start w d) a = (o : Record.Operation) × (d ≡ doingRep (terms (s .site .rows) o .first)) × Begun s w o a
 Means s (Go w) a = Stepping s w a
 
 ------------------------------------------------------------------------
@@ -66,28 +70,40 @@ both M true false g g′ a a′ e f f′ = absurd (true≢false e)
 both M false true g g′ a a′ e f f′ = absurd (true≢false (sym e))
 both M false false g g′ a a′ e f f′ = f′ refl
 
-module _ (s : Store) (S : Sound s) where
+module _ (s : Store) (S : Sound s) (k : Hub) (list : List ℕ) where
+  abbrev rows : List ℕ
+  rows = s .site .rows
+
+  -- the rows that count are the store's
+  kept-rows : rowsKept (hubRep s k) ≡ rows
+  kept-rows = take-over rows (k .rows) (length rows) refl
+
   -- a worker below P is the model's worker in memory
-  who-is : (w : ℕ) → ltb w (s .site .P) ≡ true → workerIn (hubRep s emptyHub) w ≡ workerRep (workerAt s w)
+  who-is : (w : ℕ) → ltb w (s .site .P) ≡ true → workerIn (hubRep s k) w ≡ workerRep (workerAt s w)
   who-is w i = worker-in s w (S .bounds .workers .2) (S .bounds .workers .1) (ltb-true w (s .site .P) i)
 
+  abbrev x : ℕ → Worker
+  x w = workerIn (hubRep s k) w
+
   begins : (w : ℕ) (o : Record.Operation)
-      → Means s (beginGate (s .site .P) (s .site .V') w (operationRep o) (workerIn (hubRep s emptyHub) w .doing) (workerIn (hubRep s emptyHub) w .announced))
-      (begin inForce s w o)
+      → Means s (beginGate (s .site .P) (s .site .V') w (operationRep o) (workerIn (hubRep s k) w .doing) (workerIn (hubRep s k) w .announced) rows)
+      (begin (inForce list) s w o)
   unfolding beginGate begin
   begins w o =
-      subst (λ (z : Code.Terms). M (chosen z) (begin inForce s w o)) (sym (same-terms o))
+      subst (λ (z : Code.Terms). M (chosen z) (begin (inForce list) s w o)) (sym (same-terms rows (S .bounds .rows .1) o))
       (both M (ltb w (s .site .P)) (ltb w (s .site .P)) _ _ _ _ refl
       (λ i. both M (registerOk (z .register) (s .site .V'))
       (registerBelow (s .site .V') (a .register)) _ _ _ _ (same-register (a .register) (s .site .V'))
-      (λ r. both M (valueOk (z .value)) (valueWithin (inForce .limit) (a .value)) _ _ _ _ (same-value (a .value))
-      (λ k. both M (aboutOf (x .doing) .idle) (isIdle (y .doing))
+      (λ r. both M (groupOk (z .row) rows) (groupThere rows (a .group)) _ _ _ _ (same-group rows (a .group))
+      (λ g. both M (valueOk (z .value)) (valueWithin (inForce list .limit) (a .value)) _ _ _ _ (same-value list (a .value))
+      (λ k. both M (aboutOf (x w .doing) .idle) (isIdle (y .doing))
       _ _ _ _ (ap (λ (k : Worker). aboutOf (k .doing) .idle) (who-is w i) ∙ same-facts (y .doing) .0)
-      (λ e. both M (openOk (z .time) (x .announced)) (mayOpen (a .time) (ltb (y .announced) absent)) _ _ _ _
+      (λ e. both M (openOk (z .time) (x w .announced)) (mayOpen (a .time) (ltb (y .announced) absent)) _ _ _ _
       (ap (λ (k : Worker). openOk (z .time) (k .announced)) (who-is w i) ∙ same-open (a .time) (y .announced))
-      (λ f. both M (timeOk (z .time) (x .announced)) (mayUseTime (a .time) (ltb (y .announced) absent)) _ _ _ _
+      (λ f. both M (timeOk (z .time) (x w .announced)) (mayUseTime (a .time) (ltb (y .announced) absent)) _ _ _ _
       (ap (λ (k : Worker). timeOk (z .time) (k .announced)) (who-is w i) ∙ same-use (a .time) (y .announced))
       (λ u. (o, refl, record { inside = ltb-true w (s .site .P) i; idle = idle-is (y .doing) e; is = refl }))
+      (λ n. refl))
       (λ n. refl))
       (λ n. refl))
       (λ n. refl))
@@ -98,38 +114,39 @@ module _ (s : Store) (S : Sound s) where
       M : Gate → Applied → Type 0
       M = Means s
 
-      x : Worker
-      x = workerIn (hubRep s emptyHub) w
-
       y : Model.Worker
       y = workerAt s w
 
       a : Terms
-      a = terms o
+      a = terms rows o
 
       z : Code.Terms
-      z = termsRep a
+      z = termsRep rows a
 
       -- the decision, of the terms given
       chosen : Code.Terms → Gate
       chosen q =
           cond (ltb w (s .site .P))
           (cond (registerOk (q .register) (s .site .V'))
+          (cond (groupOk (q .row) rows)
           (cond (valueOk (q .value))
-          (cond (aboutOf (x .doing) .idle)
-          (cond (openOk (q .time) (x .announced)) (cond (timeOk (q .time) (x .announced)) (Start w (q .first)) (Refuse 13)) (Refuse 12))
+          (cond (aboutOf (x w .doing) .idle)
+          (cond (openOk (q .time) (x w .announced)) (cond (timeOk (q .time) (x w .announced)) (Start w (q .first)) (Refuse 13)) (Refuse 12))
           (Refuse 10))
           (Refuse 16))
+          (Refuse 17))
           (Refuse 4))
           (Refuse 3)
 
   -- the decision on a record that was read as r is the model's
   pub gate-left : (r : Record.Decoded) (long : ℕ)
-      → Means s (gateBy (decodedRep r) true long (hubRep s emptyHub)) (applyDecoded inForce (up s) r)
+      → Means s (gateBy (decodedRep r) true long list (hubRep s k)) (applyDecoded (inForce list) (up s) r)
   unfolding whoOf gateOf applyDecoded obey setUp step
   gate-left (Record.Refuses k) long = refl
   gate-left (Record.Asks (Record.SetUp z)) long = refl
-  gate-left (Record.Asks (Record.Begin w o)) long = begins w o
+  gate-left (Record.Asks (Record.Begin w o)) long =
+      subst (λ (l : List ℕ). Means s (beginGate (s .site .P) (s .site .V') w (operationRep o) (x w .doing) (x w .announced) l)
+      (begin (inForce list) s w o)) (sym kept-rows) (begins w o)
   gate-left (Record.Asks (Record.Step w)) long =
       both (Means s) (ltb w (s .site .P)) (ltb w (s .site .P)) _ _ _ _ refl
       (λ i. record { inside = ltb-true w (s .site .P) i; is = refl })

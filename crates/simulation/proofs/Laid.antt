@@ -4,6 +4,7 @@ use mathlib.Core.Bool.{Bool, true, false, true≢false, cond}
 use mathlib.Core.List.{List, _++_, map, reverse}
 use Prim.Native.Nat.{ℕ, _*_, _≤_, _<_}
 use lib.ListN.{length, getD, set, length-set}
+use Rattle.lists.proofs.Over.{take-over}
 use lib.Seq.{getD-set-same}
 use native.Mathlib.Omega.{arith}
 use Rattle.lists.specs.Over.{over, overAt}
@@ -20,7 +21,8 @@ use Rattle.state.specs.declared.Hub.{Hub}
 use Rattle.state.specs.State.{emptyHub, workerIn, withWorkerIn, withWindowIn, withTimesIn}
 use Rattle.flush.specs.Flush.{partOf, withPart}
 use Rattle.values.specs.declared.Window.{Window}
-use Rattle.simulation.specs.Memory.{Memory, timesOver, hubRep, inHandWords, mergedOver, write, beginAt, writeHub}
+use Rattle.simulation.specs.Shell.{rowsKept}
+use Rattle.simulation.specs.Memory.{Memory, timesOver, hubRep, inHandWords, mergedOver, write, withHub, writeHub}
 use Rattle.queue.proofs.Rep.{window-kept}
 use Rattle.simulation.specs.Left.{Sized}
 use Rattle.simulation.proofs.Laws.{worker-in, worker-set, slot-at, part-of, part-set, part-kept}
@@ -46,9 +48,9 @@ memory-path h s n f q l g =
     λ i. record { hub = h i; slots = s i; newest = n i; free = f i; queue = q i; lens = l i; merged = g i }
 
 pub hub-path : {h h′ : Hub} → h .p ≡ h′ .p → h .v ≡ h′ .v → h .n ≡ h′ .n → h .clock ≡ h′ .clock → h .free ≡ h′ .free
-    → h .window ≡ h′ .window → h .times ≡ h′ .times → h .workers ≡ h′ .workers → h ≡ h′
-hub-path p v n c f q t w =
-    λ i. record { p = p i; v = v i; n = n i; clock = c i; free = f i; window = q i; times = t i; workers = w i }
+    → h .window ≡ h′ .window → h .listed ≡ h′ .listed → h .rows ≡ h′ .rows → h .times ≡ h′ .times → h .workers ≡ h′ .workers → h ≡ h′
+hub-path p v n c f q k r t w =
+    λ i. record { p = p i; v = v i; n = n i; clock = c i; free = f i; window = q i; listed = k i; rows = r i; times = t i; workers = w i }
 
 ------------------------------------------------------------------------
 -- The member of a list that was replaced
@@ -83,6 +85,11 @@ module _ (s : Store) (m : Memory) (laid : m ≡ write s m) where
   pub merged-is : m .merged ≡ mergedOver (s .workers) (m .merged)
   merged-is = ap (λ (x : Memory). x .merged) laid
 
+  -- the rows of totals that count
+  pub rows-is : rowsKept (m .hub) ≡ s .site .rows
+  rows-is =
+      ap (λ (x : Memory). rowsKept (x .hub)) laid ∙ take-over (s .site .rows) (m .hub .rows) (length (s .site .rows)) refl
+
   -- a slot that is loaded
   pub slot-is : (c : ℕ) → c < length (s .slots) → getD (m .slots) c vacantSlot ≡ slotRep (slotAt s c)
   slot-is c h = ap (λ (l : List Slot). getD l c vacantSlot) slots-is ∙ slot-at (s .slots) (m .slots) c h
@@ -90,7 +97,7 @@ module _ (s : Store) (m : Memory) (laid : m ≡ write s m) where
 -- a store without fewer pools is written where the window begins
 pub write-kept : (s t : Store) (m : Memory) → length (s .queue) ≤ length (t .queue) → write t m ≡ writeHub (up s) (up t) m
 write-kept s t m h =
-    ap (λ (v : Window). write t (beginAt m (withWindowIn (m .hub) v))) (sym (window-kept (s .queue) (t .queue) (m .hub .window) h))
+    ap (λ (v : Window). write t (withHub m (withWindowIn (m .hub) v))) (sym (window-kept (s .queue) (t .queue) (m .hub .window) h))
 
 ------------------------------------------------------------------------
 -- A worker of a sound store

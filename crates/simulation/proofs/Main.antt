@@ -14,10 +14,10 @@ use Rattle.simulation.proofs.Applied as Applied
 use Rattle.simulation.proofs.Steps.{steps}
 
 -- for one record
-pub does : (m : Memory) (b : List ℕ) → Sized m → Bytes b → Does m b (doneOf m b .answer) (doneOf m b .memory)
+pub does : (m : Memory) (list b : List ℕ) → Sized m → Bytes b → Does m list b (doneOf m list b .answer) (doneOf m list b .memory)
 does = Assembly.does steps
 
 -- for a buffer
-pub applies : (m : Memory) (bytes kinds numbers : List ℕ) (n : ℕ) (m′ : Memory) (kinds′ numbers′ : List ℕ) → Sized m → Bytes bytes
-    → RanAll m bytes kinds numbers n m′ kinds′ numbers′ → Applies m bytes kinds numbers n m′ kinds′ numbers′
+pub applies : (m : Memory) (list bytes kinds numbers : List ℕ) (n : ℕ) (m′ : Memory) (kinds′ numbers′ : List ℕ) → Sized m → Bytes bytes
+    → RanAll m list bytes kinds numbers n m′ kinds′ numbers′ → Applies m list bytes kinds numbers n m′ kinds′ numbers′
 applies = Applied.applies steps

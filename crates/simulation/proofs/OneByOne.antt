@@ -2,13 +2,13 @@
 -- set up: memory that records left is left by records again, and memory that does not count as set up stays as it was, or a setup is accepted
 -- and records left it. So each record does what the contract of one record says, and all of them together what the model does.
 use mathlib.Core.Path.{_≡_, refl, sym, ap, _∙_, subst}
-use mathlib.Core.Bool.{Bool, true, false, _||_}
+use mathlib.Core.Bool.{Bool, true, false, _||_, _&&_}
 use mathlib.Core.List.{List, [], _∷_, map}
 use Prim.Native.Nat.{ℕ, zero, suc}
 use lib.ListN.{length}
 use Rattle.model.specs.Store as Model
 use Rattle.model.specs.Store.{blank, up, upFrom}
-use Rattle.model.specs.Rules.{inForce}
+use Rattle.model.specs.Rules.{inForce, under}
 use Rattle.model.specs.Answer.{Ok}
 use Rattle.model.specs.Record as Record
 use Rattle.model.specs.Record.{SetUp, Asks}
@@ -26,7 +26,7 @@ use Rattle.gate.specs.declared.Gate.the-variants.{Refuse, Make}
 use Rattle.gate.specs.Gate.{decodedRep, decodedIn, sizesOk, gateOf, whoOf}
 use Rattle.simulation.specs.Memory.{Memory}
 use Rattle.simulation.specs.Left.{Sized, ready}
-use Rattle.simulation.specs.Shell.{obeyIn, gateIn, doneAs, doneOf}
+use Rattle.simulation.specs.Shell.{rowsKept, obeyIn, gateIn, doneAs, doneOf}
 use Rattle.simulation.specs.Holds.{Holds, sent, AsModel}
 use Rattle.simulation.specs.Public.{exchangeOf, Does}
 use Rattle.simulation.specs.Records.{recordAt}
@@ -39,72 +39,74 @@ use Rattle.simulation.proofs.Assembly.{StepsSimulate, left-ready, does}
 use Rattle.simulation.proofs.Compose.{nothing-sent, both-sent}
 
 -- before record k of the bytes, of which the first met the memory m: with no rows for the answers, which make no difference
-abbrev pub stateAt : Memory → List ℕ → ℕ → State
-stateAt m bytes k = after (before m [] []) bytes k
+abbrev pub stateAt : Memory → List ℕ → List ℕ → ℕ → State
+stateAt m list bytes k = after (before m [] []) list bytes k
 
 -- the answer to record k
-abbrev pub answerTo : Memory → List ℕ → ℕ → Answer
-answerTo m bytes k = stateAt m bytes (suc k) .last
+abbrev pub answerTo : Memory → List ℕ → List ℕ → ℕ → Answer
+answerTo m list bytes k = stateAt m list bytes (suc k) .last
 
 ------------------------------------------------------------------------
 -- The flag after one record
 
 -- where the memory does not count as set up, nothing begins and no step is taken
 blank-gate : (P : Gate → Type 0) → ((k : ℕ) → P (Refuse k)) → ((p v n k : ℕ) → P (Make p v n k))
-    → (r : Record.Decoded) (p v long : ℕ) (d : Doing) (t : Announced) → P (gateOf (decodedRep r) false p v long d t)
+    → (r : Record.Decoded) (p v long : ℕ) (d : Doing) (t : Announced) (list rows : List ℕ)
+    → P (gateOf (decodedRep r) false p v long d t list rows)
 unfolding gateOf
-blank-gate P f g (Record.Refuses k) p v long d t = f k
-blank-gate P f g (Asks (SetUp z)) p v long d t =
-    cond-both P (sizesOk (z .P) (z .V') (z .N) (z .clock) long) _ _ (λ e. g (z .P) (z .V') (z .N) (z .clock)) (λ e. f 5)
-blank-gate P f g (Asks (Record.Begin w o)) p v long d t = f 8
-blank-gate P f g (Asks (Record.Step w)) p v long d t = f 8
+blank-gate P f g (Record.Refuses k) p v long d t list rows = f k
+blank-gate P f g (Asks (SetUp z)) p v long d t list rows =
+    cond-both P (sizesOk (z .P) (z .V') (z .N) (z .clock) long && Record.listFits (z .V') list) _ _ (λ e. g (z .P) (z .V') (z .N) (z .clock)) (λ e. f 5)
+blank-gate P f g (Asks (Record.Begin w o)) p v long d t list rows = f 8
+blank-gate P f g (Asks (Record.Step w)) p v long d t list rows = f 8
 
 -- a hub that records left counts as set up where memory holds it
 held-ready : (h : Model.Hub) (m : Memory) → Holds h m → Sized m → LeftHub h → ready m ≡ true
 held-ready h m H Z (t, e, L) = left-ready m (subst (λ (k : Model.Hub). Holds k m) e H) Z
 
-module _ (steps : StepsSimulate) (m : Memory) (b : List ℕ) (Z : Sized m) (B : Bytes b) where
+module _ (steps : StepsSimulate) (m : Memory) (list b : List ℕ) (Z : Sized m) (B : Bytes b) where
   -- what the flag is after the record
   abbrev Flagged : Type 0
-  Flagged = ready (doneOf m b .memory) ≡ (ready m || makes (gateIn (ready m) m b))
+  Flagged = ready (doneOf m list b .memory) ≡ (ready m || makes (gateIn (ready m) m list b))
 
-  abbrev did : (h : Model.Hub) → Holds h m → AsModel h m (exchangeOf b (doneOf m b .answer) ∷ []) (doneOf m b .memory)
-  did = does steps m b Z B .asModel
+  abbrev did : (h : Model.Hub) → Holds h m → AsModel h m (exchangeOf list b (doneOf m list b .answer) ∷ []) (doneOf m list b .memory)
+  did = does steps m list b Z B .asModel
 
   -- the next hub is set up
-  now-ready : (h : Model.Hub) → Holds h m → LeftHub (apply inForce h b .hub) → ready (doneOf m b .memory) ≡ true
-  now-ready h H L = held-ready (apply inForce h b .hub) (doneOf m b .memory) (one-holds (did h H))
-      (holds-written m (doneOf m b .memory) Z h b H (one-memory (did h H)) .1) L
+  now-ready : (h : Model.Hub) → Holds h m → LeftHub (apply (inForce list) h b .hub) → ready (doneOf m list b .memory) ≡ true
+  now-ready h H L = held-ready (apply (inForce list) h b .hub) (doneOf m list b .memory) (one-holds (did h H))
+      (holds-written m (doneOf m list b .memory) Z list h b H (one-memory (did h H)) .1) L
 
   module _ (row : List Model.Slot) (H : Holds (blank row) m) where
     -- a refusal changes nothing
-    flag-refused : (k : ℕ) → gateIn (ready m) m b ≡ Refuse k → Flagged
+    flag-refused : (k : ℕ) → gateIn (ready m) m list b ≡ Refuse k → Flagged
     unfolding doneOf doneAs obeyIn
-    flag-refused k g = ap (λ (x : Gate). ready (obeyIn m x .memory)) g ∙ H .0 ∙ sym (λ i. H .0 i || makes (g i))
+    flag-refused k g = ap (λ (x : Gate). ready (obeyIn m list x .memory)) g ∙ H .0 ∙ sym (λ i. H .0 i || makes (g i))
 
     -- an accepted setup
-    flag-made : (p v n k : ℕ) → gateIn (ready m) m b ≡ Make p v n k → Flagged
+    flag-made : (p v n k : ℕ) → gateIn (ready m) m list b ≡ Make p v n k → Flagged
     unfolding doneOf doneAs obeyIn
     flag-made p v n k g =
-        let ok : apply inForce (blank row) b .answer ≡ Ok =
-        sym (one-answer (did (blank row) H)) ∙ ap (λ (x : Gate). answerOf (obeyIn m x .answer)) g in
-        now-ready (blank row) H (setup-left row b ok) ∙ sym (λ i. H .0 i || makes (g i))
+        let ok : apply (inForce list) (blank row) b .answer ≡ Ok =
+        sym (one-answer (did (blank row) H)) ∙ ap (λ (x : Gate). answerOf (obeyIn m list x .answer)) g in
+        now-ready (blank row) H (setup-left list row b ok) ∙ sym (λ i. H .0 i || makes (g i))
 
   flagged : (h : Model.Hub) → Holds h m → Flagged
   flagged (up s) L =
-      now-ready (up s) L (left-next (L .store) b) ∙ sym (ap (λ (t : Bool). t || makes (gateIn (ready m) m b)) (left-ready m L Z))
+      now-ready (up s) L (left-next (L .store) (under (inForce list) b)) ∙ sym (ap (λ (t : Bool). t || makes (gateIn (ready m) m list b)) (left-ready m L Z))
   flagged (blank row) H =
       let x : Worker = workerIn (m .hub) (whoOf (decodedIn b)) in
-      blank-gate (λ (g : Gate). gateIn (ready m) m b ≡ g → Flagged) (flag-refused row H) (flag-made row H)
-      (Record.decode b) (m .hub .p) (m .hub .v) (length (m .slots)) (x .doing) (x .announced) (ap (λ (t : Bool). gateIn t m b) (H .0))
+      blank-gate (λ (g : Gate). gateIn (ready m) m list b ≡ g → Flagged) (flag-refused row H) (flag-made row H)
+      (Record.decode b) (m .hub .p) (m .hub .v) (length (m .slots)) (x .doing) (x .announced) list (rowsKept (m .hub))
+      (ap (λ (t : Bool). gateIn t m list b) (H .0))
 
 ------------------------------------------------------------------------
 -- The records of a buffer on memory that holds a hub
 
-module _ (steps : StepsSimulate) (m : Memory) (bytes : List ℕ) (h : Model.Hub) (H : Holds h m) (Z : Sized m) (B : Bytes bytes) where
+module _ (steps : StepsSimulate) (m : Memory) (list bytes : List ℕ) (h : Model.Hub) (H : Holds h m) (Z : Sized m) (B : Bytes bytes) where
   -- record k and its answer
   abbrev pub given : ℕ → Exchange
-  given k = exchangeOf (recordAt bytes k) (answerTo m bytes k)
+  given k = exchangeOf list (recordAt bytes k) (answerTo m list bytes k)
 
   -- the model's hub before record k
   abbrev pub hubTo : ℕ → Model.Hub
@@ -112,41 +114,41 @@ module _ (steps : StepsSimulate) (m : Memory) (bytes : List ℕ) (h : Model.Hub)
 
   -- so far all is as the model has it, and the flag says whether the memory counts as set up
   pub record SoFar (k : ℕ) : Type 0 where
-    pub asModel : AsModel h m (map given (upFrom 0 k)) (stateAt m bytes k .memory)
-    pub sized : Sized (stateAt m bytes k .memory)
-    pub flag : stateAt m bytes k .up ≡ ready (stateAt m bytes k .memory)
+    pub asModel : AsModel h m (map given (upFrom 0 k)) (stateAt m list bytes k .memory)
+    pub sized : Sized (stateAt m list bytes k .memory)
+    pub flag : stateAt m list bytes k .up ≡ ready (stateAt m list bytes k .memory)
 
   module _ (k : ℕ) (S : SoFar k) where
     abbrev x : Memory
-    x = stateAt m bytes k .memory
+    x = stateAt m list bytes k .memory
 
     abbrev b : List ℕ
     b = recordAt bytes k
 
-    does-next : Does x b (answerTo m bytes k) (stateAt m bytes (suc k) .memory)
+    does-next : Does x list b (answerTo m list bytes k) (stateAt m list bytes (suc k) .memory)
     unfolding after next doneOf
     does-next =
-        subst (λ (u : Bool). Does x b (doneAs u x b .answer) (doneAs u x b .memory)) (sym (S .flag))
-        (does steps x b (S .sized) (record-bytes bytes k B))
+        subst (λ (u : Bool). Does x list b (doneAs u x list b .answer) (doneAs u x list b .memory)) (sym (S .flag))
+        (does steps x list b (S .sized) (record-bytes bytes k B))
 
-    next-as-model : AsModel (hubTo k) x (given k ∷ []) (stateAt m bytes (suc k) .memory)
+    next-as-model : AsModel (hubTo k) x (given k ∷ []) (stateAt m list bytes (suc k) .memory)
     next-as-model = does-next .asModel (hubTo k) (S .asModel .holds)
 
-    flag-next : stateAt m bytes (suc k) .up ≡ ready (stateAt m bytes (suc k) .memory)
+    flag-next : stateAt m list bytes (suc k) .up ≡ ready (stateAt m list bytes (suc k) .memory)
     unfolding after next doneOf
     flag-next =
-        (λ i. S .flag i || makes (gateIn (S .flag i) x b))
-        ∙ sym (flagged steps x b (S .sized) (record-bytes bytes k B) (hubTo k) (S .asModel .holds))
-        ∙ sym (λ i. ready (doneAs (S .flag i) x b .memory))
+        (λ i. S .flag i || makes (gateIn (S .flag i) x list b))
+        ∙ sym (flagged steps x list b (S .sized) (record-bytes bytes k B) (hubTo k) (S .asModel .holds))
+        ∙ sym (λ i. ready (doneAs (S .flag i) x list b .memory))
 
     one-more : SoFar (suc k)
     one-more =
-        let x′ : Memory = stateAt m bytes (suc k) .memory in
+        let x′ : Memory = stateAt m list bytes (suc k) .memory in
         record {
           asModel =
               subst (λ (l : List Exchange). AsModel h m l x′) (sym (map-last given k))
               (both-sent h m x x′ (map given (upFrom 0 k)) (given k ∷ []) (S .asModel) next-as-model);
-          sized = holds-written x x′ (S .sized) (hubTo k) b (S .asModel .holds) (one-memory next-as-model) .1;
+          sized = holds-written x x′ (S .sized) list (hubTo k) b (S .asModel .holds) (one-memory next-as-model) .1;
           flag = flag-next;
         }
 
@@ -156,15 +158,15 @@ module _ (steps : StepsSimulate) (m : Memory) (bytes : List ℕ) (h : Model.Hub)
   so-far (suc k) = one-more k (so-far k)
 
   -- each record does what the contract of one record says
-  pub does-each : (k : ℕ) → Does (stateAt m bytes k .memory) (recordAt bytes k) (answerTo m bytes k) (stateAt m bytes (suc k) .memory)
+  pub does-each : (k : ℕ) → Does (stateAt m list bytes k .memory) list (recordAt bytes k) (answerTo m list bytes k) (stateAt m list bytes (suc k) .memory)
   does-each k = does-next k (so-far k)
 
   -- and is the call for one record, which tests the memory anew
   pub one-by-one : (k : ℕ)
-      → (stateAt m bytes (suc k) .memory ≡ doneOf (stateAt m bytes k .memory) (recordAt bytes k) .memory)
-      × (answerTo m bytes k ≡ doneOf (stateAt m bytes k .memory) (recordAt bytes k) .answer)
+      → (stateAt m list bytes (suc k) .memory ≡ doneOf (stateAt m list bytes k .memory) list (recordAt bytes k) .memory)
+      × (answerTo m list bytes k ≡ doneOf (stateAt m list bytes k .memory) list (recordAt bytes k) .answer)
   unfolding after next doneOf
   one-by-one k =
-      let x : Memory = stateAt m bytes k .memory in
+      let x : Memory = stateAt m list bytes k .memory in
       let f = so-far k .flag in
-      (λ i. doneAs (f i) x (recordAt bytes k) .memory, λ i. doneAs (f i) x (recordAt bytes k) .answer)
+      (λ i. doneAs (f i) x list (recordAt bytes k) .memory, λ i. doneAs (f i) x list (recordAt bytes k) .answer)

@@ -9,11 +9,12 @@ use lib.Dec.{ltb, leb, eqb, lit<}
 use lib.ListN.{length, getD}
 use Rattle.model.specs.Store as Model
 use Rattle.model.specs.Store.{Store, Range, blank, up, lastClock, workerAt, slotAt}
-use Rattle.model.specs.Rules.{inForce}
-use Rattle.model.specs.Answer.{Answer, Ok, Going, Freed, At, Value, Done, No, Stepped, Applied}
-use Rattle.model.specs.Record.{SetUp, Begin, Step, Decoded, Asks, Refuses, commandOf, unusedZero, decode}
+use Rattle.model.specs.Rules.{twelveDigits, inForce}
+use Rattle.model.specs.Totals.{goesOn, Sum}
+use Rattle.model.specs.Answer.{Answer, Ok, Going, Freed, At, Value, Below, Done, No, Stepped, Applied}
+use Rattle.model.specs.Record.{SetUp, Begin, Step, Decoded, Asks, Refuses, commandOf, unusedZero, decode, listFits}
 use Rattle.model.specs.Steps.{putPublish, putStamp, putHandIn, flushTake, flushSplit, flushRead, flushFree}
-use Rattle.model.specs.Steps.{openAnnounce, openPass, answerFor, readEnter, readStand, getShow, closeWithdraw, timeStep, stepAt}
+use Rattle.model.specs.Steps.{openAnnounce, openPass, answerFor, signed, totalFound, found, readEnter, readStand, getShow, closeWithdraw, timeStep, stepAt}
 use Rattle.model.specs.Apply.{inRanges, setUp, step, obey, applyDecoded, apply}
 use Rattle.model.specs.Demand.{All}
 use Rattle.model.specs.Refusals.{onReading}
@@ -36,6 +37,7 @@ Ranged Going = Unit {0}
 Ranged (Freed c) = c < 65536
 Ranged (At t) = t < 4294967296
 Ranged (Value x) = Unit {0}
+Ranged (Below x) = Unit {0}
 Ranged Done = Unit {0}
 Ranged (No k) = k < 256
 
@@ -59,6 +61,19 @@ module _ (s : Store) (S : Sound s) (w : ℕ) (below : w < s .site .P) where
   free-ranged [] p = tt
   free-ranged (ρ ∷ l) p = omega (arith, p .1 .0 .0, S .bounds .slots .1)
 
+  signed-ranged : (y : Sum) → Ranged (signed y)
+  unfolding signed
+  signed-ranged y = cond-both Ranged (leb (y .minus) (y .plus)) _ _ (λ q. tt) (λ q. tt)
+
+  found-ranged : (y : Model.Purpose) (x : Model.Reading) → RangedStep (found s w y x)
+  unfolding found totalFound answerFor
+  found-ranged Model.Single x = tt
+  found-ranged (Model.Totaling g i y) x =
+      cond-both RangedStep (leb (x .count) twelveDigits) _ _
+      (λ e. cond-both RangedStep (goesOn (s .site .rows) g i) _ _ (λ f. tt)
+      (λ f. signed-ranged _))
+      (λ e. lit< tt)
+
   step-ranged : (d : Model.Doing) → PlaceIn s (workerAt s w .announced) d → RangedStep (stepAt s w d)
   unfolding stepAt timeStep putStamp putHandIn flushTake flushSplit flushRead openAnnounce openPass readEnter readStand getShow closeWithdraw answerFor
   step-ranged Model.Idle p = lit< tt
@@ -72,7 +87,8 @@ module _ (s : Store) (S : Sound s) (w : ℕ) (below : w < s .site .P) where
   step-ranged (Model.OnTime Model.OpenPass) p = omega (arith, p .1)
   step-ranged (Model.OnTime Model.CloseWithdraw) p = tt
   step-ranged (Model.ReadEnter g) p = tt
-  step-ranged (Model.ReadStand g c) p = cond-both RangedStep (leb (slotAt s c .low) (workerAt s w .announced)) _ _ (λ e. tt) (λ e. tt)
+  step-ranged (Model.ReadStand g c) p =
+      cond-both RangedStep (leb (slotAt s c .low) (workerAt s w .announced)) _ _ (λ e. found-ranged (g .purpose) (slotAt s c .value)) (λ e. tt)
   step-ranged (Model.GetShow r) p = tt
 
 ------------------------------------------------------------------------
@@ -87,7 +103,7 @@ read-ranged : (b : List ℕ) → RangedRead (decode b)
 unfolding decode
 read-ranged b =
     cond-both RangedRead (ltb (length b) 16) _ _ (λ e. lit< tt)
-    (λ e. cond-both RangedRead (ltb 7 (getD b 0 0)) _ _ (λ f. lit< tt)
+    (λ e. cond-both RangedRead (ltb 8 (getD b 0 0)) _ _ (λ f. lit< tt)
     (λ f. cond-both RangedRead (unusedZero b (commandOf b (getD b 0 0))) _ _ (λ g. tt) (λ g. lit< tt)))
 
 -- memory that holds a hub has a sound one
@@ -99,16 +115,16 @@ SoundIn (up s) = Sound s
 numbers-small : All (λ (i : ℕ). i < 256) onReading
 numbers-small = search arith
 
-decoded-ranged : (h : Model.Hub) → SoundIn h → (d : Decoded) → RangedRead d → RangedBy (applyDecoded inForce h d)
+decoded-ranged : (list : List ℕ) (h : Model.Hub) → SoundIn h → (d : Decoded) → RangedRead d → RangedBy (applyDecoded (inForce list) h d)
 unfolding applyDecoded obey setUp step
-decoded-ranged h S (Refuses k) r = r
-decoded-ranged (blank row) S (Asks (SetUp z)) r = cond-both RangedBy (inRanges z && leb (z .N) (length row)) _ _ (λ e. tt) (λ e. lit< tt)
-decoded-ranged (blank row) S (Asks (Begin w o)) r = lit< tt
-decoded-ranged (blank row) S (Asks (Step w)) r = lit< tt
-decoded-ranged (up s) S (Asks (SetUp z)) r = lit< tt
-decoded-ranged (up s) S (Asks (Begin w o)) r =
-    begin-by RangedBy inForce s w o (λ k n. All-get (λ (i : ℕ). i < 256) onReading numbers-small k n) (λ t. tt)
-decoded-ranged (up s) S (Asks (Step w)) r =
+decoded-ranged list h S (Refuses k) r = r
+decoded-ranged list (blank row) S (Asks (SetUp z)) r = cond-both RangedBy (inRanges z && leb (z .N) (length row) && listFits (z .V') list) _ _ (λ e. tt) (λ e. lit< tt)
+decoded-ranged list (blank row) S (Asks (Begin w o)) r = lit< tt
+decoded-ranged list (blank row) S (Asks (Step w)) r = lit< tt
+decoded-ranged list (up s) S (Asks (SetUp z)) r = lit< tt
+decoded-ranged list (up s) S (Asks (Begin w o)) r =
+    begin-by RangedBy (inForce list) s w o (λ k n. All-get (λ (i : ℕ). i < 256) onReading numbers-small k n) (λ t. tt)
+decoded-ranged list (up s) S (Asks (Step w)) r =
     cond-both RangedBy (ltb w (s .site .P)) _ _
     (λ e. let below : w < s .site .P = ltb-true w (s .site .P) e in step-ranged s S w below (workerAt s w .doing) (S .places w below))
     (λ e. lit< tt)
@@ -126,11 +142,12 @@ in-range Is.Going r = tt
 in-range (Is.Freed c) r = r
 in-range (Is.At t) r = r
 in-range (Is.Value x) r = tt
+in-range (Is.Below x) r = tt
 in-range Is.Done r = tt
 in-range (Is.No k) r = r
 
-pub comes-back : (h : Model.Hub) (m : Memory) (b : List ℕ) (y : Code.Answer) → Holds h m → answerOf y ≡ apply inForce h b .answer
+pub comes-back : (list : List ℕ) (h : Model.Hub) (m : Memory) (b : List ℕ) (y : Code.Answer) → Holds h m → answerOf y ≡ apply (inForce list) h b .answer
     → answerFrom (kindOf y) (numberOf y) ≡ y
 unfolding apply
-comes-back h m b y H e =
-    faithful y (in-range y (subst Ranged (sym e) (decoded-ranged h (held-sound h m H) (decode b) (read-ranged b))))
+comes-back list h m b y H e =
+    faithful y (in-range y (subst Ranged (sym e) (decoded-ranged list h (held-sound h m H) (decode b) (read-ranged b))))

@@ -4,15 +4,21 @@ use mathlib.Core.Path.{_≡_, refl, sym, subst}
 use mathlib.Core.Bool.{Bool, true, false, cond, _&&_, true≢false}
 use Prim.Native.Nat.{ℕ, _+_, _*_, _≤_, _<_, min}
 use native.Mathlib.Omega.{arith}
-use lib.Dec.{leb, eqb}
+use lib.Dec.{ltb, leb, eqb}
 use lib.ListN.{length, getD}
-use borrow.Author.Tests.{le-leb, lt-leb, eq-eqb, leb-true, eqb-true}
+use borrow.Author.Tests.{lt-ltb, le-leb, lt-leb, eq-eqb, ltb-true, leb-true, eqb-true}
+use Rattle.model.specs.Rules.{twelveDigits}
+use Rattle.worker.specs.declared.Purpose.{Purpose}
+use Rattle.worker.specs.declared.Purpose.the-variants.{Single, Totaling}
 use Rattle.worker.specs.declared.Facts.{Facts}
 use Rattle.worker.specs.declared.Worker.{Worker}
 use Rattle.worker.specs.About.{aboutOf}
 use Rattle.slots.specs.Slots.{linkedTo}
 use Rattle.state.specs.State.{workerIn}
 use Rattle.ready.specs.Ready.{
+  rowsBelow,
+  sumFits,
+  purposeFits,
   belowTo,
   slotsBelow,
   poolFits,
@@ -31,7 +37,7 @@ use Rattle.ready.specs.Ready.{
 use Rattle.ready.proofs.Sizes.{WindowIn, and-both, sizes-tell, sizes-yes}
 use Rattle.simulation.specs.Memory.{Memory}
 use Rattle.simulation.specs.Left.{ready}
-use Rattle.simulation.specs.Ranges.{batchIn, PlaceInRange, WorkerInRange, InRanges, ReadyExactly}
+use Rattle.simulation.specs.Ranges.{batchIn, PurposeInRange, PlaceInRange, WorkerInRange, InRanges, ReadyExactly}
 use Rattle.simulation.proofs.Scans as Scans
 
 -- a test that is made where another passes
@@ -50,27 +56,42 @@ module _ (m : Memory) where
   abbrev pub list : ℕ
   list = min (4 * batchIn (m .hub)) (besides (m .hub))
 
+  -- what a value is read for
+  purpose-tells : (y : Purpose) → purposeFits y (m .hub .listed) ≡ true → PurposeInRange (m .hub) y
+  purpose-tells Single e = tt
+  purpose-tells (Totaling g i plus minus) e =
+      let a = and-both (ltb i (m .hub .listed)) _ e in
+      let b = and-both (sumFits plus) (sumFits minus) (a .1) in
+      (ltb-true i (m .hub .listed) (a .0), leb-true plus (31 * twelveDigits) (b .0), leb-true minus (31 * twelveDigits) (b .1))
+
+  purpose-yes : (y : Purpose) → PurposeInRange (m .hub) y → purposeFits y (m .hub .listed) ≡ true
+  purpose-yes Single P = refl
+  purpose-yes (Totaling g i plus minus) P =
+      rw (lt-ltb i (m .hub .listed) (P .0), le-leb plus (31 * twelveDigits) (P .1), le-leb minus (31 * twelveDigits) (P .2))
+
   module _ (w : ℕ) (few : w < 16) where
     -- the tests of a worker's place and of its list
     Place : Facts → Type 0
     Place y =
-        (placeFits y (m .hub .p) (m .hub .v) (m .hub .n) ≡ true) × (handFits (y .ranges) w (m .merged) list (m .hub .n) ≡ true)
+        (placeFits y (m .hub .p) (m .hub .v) (m .hub .n) (m .hub .listed) ≡ true) × (handFits (y .ranges) w (m .merged) list (m .hub .n) ≡ true)
 
     place-tells : (y : Facts) → Place y → PlaceInRange m w y
     unfolding placeFits handFits Place
     place-tells y e =
         let R : Bool = namedBelow (y .register) (m .hub .v) in
         let C : Bool = namedBelow (y .slot) (m .hub .n) in
-        let all = and-both (R && C) (leb (y .read) (m .hub .p)) (e .0) in
+        let all = and-both (R && C) (leb (y .read) (m .hub .p) && purposeFits (y .purpose) (m .hub .listed)) (e .0) in
         let both = and-both R C (all .0) in
+        let rest = and-both (leb (y .read) (m .hub .p)) (purposeFits (y .purpose) (m .hub .listed)) (all .1) in
         let hand : rangesFit (y .ranges) w (m .merged) list (m .hub .n) ≡ true = rw (lt-leb 16 w few) at (e .1) in
         let ranges = Scans.ranges-tell w (m .merged) list (m .hub .n) (y .ranges) hand in
         record {
           register = Scans.named-tells (y .register) (m .hub .v) (both .0);
           slot = Scans.named-tells (y .slot) (m .hub .n) (both .1);
-          read = leb-true (y .read) (m .hub .p) (all .1);
+          read = leb-true (y .read) (m .hub .p) (rest .0);
           list = λ k q. (omega (arith, ranges k q .0), omega (arith, ranges k q .0));
           listSlots = λ k q. ranges k q .1;
+          purpose = purpose-tells (y .purpose) (rest .1);
         }
 
     place-yes : (y : Facts) → PlaceInRange m w y → Place y
@@ -80,16 +101,17 @@ module _ (m : Memory) where
         Scans.named-yes (y .register) (m .hub .v) (P .register),
         Scans.named-yes (y .slot) (m .hub .n) (P .slot),
         le-leb (y .read) (m .hub .p) (P .read),
+        purpose-yes (y .purpose) (P .purpose),
       ),
       rw (lt-leb 16 w few)
           (Scans.ranges-yes w (m .merged) list (m .hub .n) (y .ranges) (λ k q. omega (arith, P .list k q .0, P .list k q .1)) (P .listSlots)),
     )
 
-    pub worker-tells : (x : Worker) → workerFits x w (m .merged) local list (m .hub .p) (m .hub .v) (m .hub .n) ≡ true → WorkerInRange m w x
+    pub worker-tells : (x : Worker) → workerFits x w (m .merged) local list (m .hub .p) (m .hub .v) (m .hub .n) (m .hub .listed) ≡ true → WorkerInRange m w x
     unfolding workerFits Place
     worker-tells x e =
         let y : Facts = aboutOf (x .doing) in
-        let Y : Bool = placeFits y (m .hub .p) (m .hub .v) (m .hub .n) in
+        let Y : Bool = placeFits y (m .hub .p) (m .hub .v) (m .hub .n) (m .hub .listed) in
         let Q : Bool = poolFits (x .pool) local (m .hub .n) in
         let all = and-both (Y && Q) (handFits (y .ranges) w (m .merged) list (m .hub .n)) e in
         let both = and-both Y Q (all .0) in
@@ -100,7 +122,7 @@ module _ (m : Memory) where
           poolSlots = pool .1;
         }
 
-    worker-yes : (x : Worker) → WorkerInRange m w x → workerFits x w (m .merged) local list (m .hub .p) (m .hub .v) (m .hub .n) ≡ true
+    worker-yes : (x : Worker) → WorkerInRange m w x → workerFits x w (m .merged) local list (m .hub .p) (m .hub .v) (m .hub .n) (m .hub .listed) ≡ true
     unfolding workerFits Place
     worker-yes x W =
         let place = place-yes (aboutOf (x .doing)) (W .place) in
@@ -122,9 +144,11 @@ module _ (m : Memory) where
       let E : Bool = eqb (lensSum (m .lens) (w .first) (w .pools)) (w .queued) in
       let F : Bool = workersFit h (m .merged) local list (h .p) in
       let G : Bool = linkedTo (m .slots) (h .n) (h .n) in
-      let all = where-both (sizesFit h (length (m .slots))) (A && B && (C && D) && (E && F) && G) e in
+      let H : Bool = rowsBelow (h .rows) (h .v) (h .listed) in
+      let all = where-both (sizesFit h (length (m .slots))) (A && B && (C && D) && (E && F) && (H && G)) e in
       let z = sizes-tell h (length (m .slots)) (all .0) in
-      let parts = and-both (A && B && (C && D) && (E && F)) G (all .1) in
+      let parts = and-both (A && B && (C && D) && (E && F)) (H && G) (all .1) in
+      let hg = and-both H G (parts .1) in
       let front = and-both (A && B && (C && D)) (E && F) (parts .0) in
       let scans = and-both (A && B) (C && D) (front .0) in
       let ab = and-both A B (scans .0) in
@@ -143,7 +167,9 @@ module _ (m : Memory) where
         newest = Scans.below-tells (m .newest) (h .n) (h .v) (ab .0);
         freeSlots = Scans.below-tells (m .free) (h .n) (h .free) (ab .1);
         queueSlots = Scans.slots-tell (m .queue) (w .from) (h .n) (w .queued) (cd .0);
-        neighbours = Scans.linked-tells (m .slots) (h .n) (h .n) (parts .1);
+        listed = z .listed;
+        rows = Scans.rows-tell (h .rows) (h .v) (h .listed) (hg .0);
+        neighbours = Scans.linked-tells (m .slots) (h .n) (h .n) (hg .1);
         workers =
             λ w b.
             worker-tells w (omega (arith, b, z .p .1)) (workerIn h w)
@@ -159,13 +185,14 @@ module _ (m : Memory) where
       record { pools = R .pools; queued = R .queued; first = R .begins .first; from = R .begins .from } in
       rw (
         sizes-yes h (length (m .slots))
-            (record { p = R .p; v = R .v; n = R .n; free = R .free; window = window }),
+            (record { p = R .p; v = R .v; n = R .n; free = R .free; window = window; listed = R .listed }),
         Scans.below-yes (m .newest) (h .n) (h .v) (R .newest),
         Scans.below-yes (m .free) (h .n) (h .free) (R .freeSlots),
         Scans.slots-yes (m .queue) (w .from) (h .n) (w .queued) (R .queueSlots),
         Scans.lens-yes (m .lens) (w .first) (2 * batchIn h) (w .pools) (R .lengths),
         eq-eqb (lensSum (m .lens) (w .first) (w .pools)) (w .queued) (R .sum),
         Scans.workers-yes h (m .merged) local list (h .p) (λ w b. worker-yes w (omega (arith, b, R .p .1)) (workerIn h w) (R .workers w b)),
+        Scans.rows-yes (h .rows) (h .v) (h .listed) (R .rows),
         Scans.linked-yes (m .slots) (h .n) (h .n) (R .neighbours),
       )
 

@@ -1,14 +1,14 @@
 -- Memory in which a sound store lies counts as set up: each entry that has a range is one of the store's, and the store's numbers are in
 -- range.
 use mathlib.Core.Path.{_≡_, refl, sym, ap, _∙_, subst}
-use mathlib.Core.Bool.{true}
+use mathlib.Core.Bool.{true, _&&_}
 use mathlib.Core.List.{List, [], _∷_, map, reverse}
 use Prim.Native.Nat.{ℕ, _+_, _*_, _-_, _≤_, _<_}
 use native.Mathlib.Omega.{arith}
 use lib.Dec.{leb}
 use lib.ListN.{length, getD, drop, length-map, length-append, length-reverse}
 use lib.Seq.{getD-take, getD-drop}
-use borrow.Author.Tests.{lt-ltb, le-leb, lt-leb}
+use borrow.Author.Tests.{ltb-true, lt-ltb, le-leb, lt-leb}
 use Rattle.lists.specs.Over.{over}
 use Rattle.lists.proofs.Over.{getD-over-in}
 use Rattle.model.specs.Store as Model
@@ -16,11 +16,14 @@ use Rattle.model.specs.Store.{Store, Range, absent, startWorker, workerAt, newe
 use Rattle.model.specs.About.{about}
 use Rattle.model.specs.Batch.{batchOf}
 use Rattle.model.specs.Demand.{All}
-use Rattle.model.specs.Reached.{sumBy, inHand, versionsHeld}
-use Rattle.model.proofs.Basic.{All-map, All-occurrences, getD-map, All-at}
+use Rattle.model.specs.Rules.{twelveDigits}
+use Rattle.model.specs.Totals.{groupOf, signOf, registerOf, rowAt}
+use Rattle.model.specs.Reached.{sumBy, inHand, versionsHeld, TotalFits}
+use Rattle.model.proofs.Basic.{All-map, All-occurrences, getD-map, All-at, and-both}
+use Rattle.model.proofs.Totals.{row-fits}
 use Rattle.model.proofs.Count.{sumBy-one}
 use Rattle.worker.specs.About.{aboutOf}
-use Rattle.worker.specs.Rep.{timesRead, padded, poolRep, doingRep}
+use Rattle.worker.specs.Rep.{timesRead, padded, poolRep, purposeRep, doingRep}
 use Rattle.worker.proofs.Rep.{padded-at}
 use Rattle.slots.specs.Slots.{vacantSlot}
 use Rattle.values.specs.declared.Window.{Window}
@@ -31,7 +34,7 @@ use Rattle.queue.specs.State.{Begins}
 use Rattle.queue.specs.Rep.{joinedRanges}
 use Rattle.queue.proofs.Rep.{lens-held, words-held}
 use Rattle.flush.specs.Flush.{partOf}
-use Rattle.ready.specs.Ready.{poolFits, listFits, rangesFit, handFits, placeFits, workerFits, lensSum}
+use Rattle.ready.specs.Ready.{poolFits, listFits, rangesFit, handFits, purposeFits, placeFits, workerFits, lensSum}
 use Rattle.simulation.specs.Memory.{Memory, memory, hubRep, handWords, inHandWords, write}
 use Rattle.simulation.specs.Left.{Sized, ready}
 use Rattle.simulation.specs.Shell.{queueIn}
@@ -49,10 +52,17 @@ use Rattle.simulation.proofs.Laid.{worker-at, among, pool-short, list-i
 ------------------------------------------------------------------------
 -- One worker
 
+-- a total's row and sums
+purpose-yes : (rows : List ℕ) (y : Model.Purpose) → TotalFits rows y → purposeFits (purposeRep y) (length rows) ≡ true
+purpose-yes rows Model.Single f = refl
+purpose-yes rows (Model.Totaling g i y) f =
+    rw (lt-ltb i (length rows) (f .0), le-leb (y .plus) (31 * twelveDigits) (omega (arith, f .2)), le-leb (y .minus) (31 * twelveDigits) (omega (arith, f .2)))
+
 place-yes : (s : Store) (t : ℕ) (d : Model.Doing) → PlaceIn s t d
-    → placeFits (aboutOf (doingRep d)) (s .site .P) (s .site .V') (s .site .N) ≡ true
+    → TotalFits (s .site .rows) (about d .purpose)
+    → placeFits (aboutOf (doingRep d)) (s .site .P) (s .site .V') (s .site .N) (length (s .site .rows)) ≡ true
 unfolding placeFits
-place-yes s t d a = go d a
+place-yes s t d a f = go d a f
   where
     p : ℕ
     p = s .site .P
@@ -67,18 +77,21 @@ place-yes s t d a = go d a
     none : leb 0 p ≡ true
     none = le-leb 0 p (omega arith)
 
-    go : (d : Model.Doing) → PlaceIn s t d → placeFits (aboutOf (doingRep d)) p v n ≡ true
-    go Model.Idle a = none
-    go (Model.PutPublish r x) a = rw (lt-ltb r v a, none)
-    go (Model.PutStamp r c) a = rw (lt-ltb r v (a .0), lt-ltb c n (a .1), none)
-    go (Model.PutHandIn r c) a = rw (lt-ltb r v (a .0), lt-ltb c n (a .1), none)
-    go Model.FlushTake a = none
-    go (Model.FlushRead m ts) a = le-leb (length ts) p (a .2)
-    go (Model.FlushFree m) a = none
-    go (Model.OnTime y) a = none
-    go (Model.ReadEnter g) a = rw (lt-ltb (g .register) v a, none)
-    go (Model.ReadStand g c) a = rw (lt-ltb (g .register) v (a .0), lt-ltb c n (a .1), none)
-    go (Model.GetShow r) a = rw (lt-ltb r v a, none)
+    k : List ℕ
+    k = s .site .rows
+
+    go : (d : Model.Doing) → PlaceIn s t d → TotalFits k (about d .purpose) → placeFits (aboutOf (doingRep d)) p v n (length k) ≡ true
+    go Model.Idle a f = rw none
+    go (Model.PutPublish r x) a f = rw (lt-ltb r v a, none)
+    go (Model.PutStamp r c) a f = rw (lt-ltb r v (a .0), lt-ltb c n (a .1), none)
+    go (Model.PutHandIn r c) a f = rw (lt-ltb r v (a .0), lt-ltb c n (a .1), none)
+    go Model.FlushTake a f = rw none
+    go (Model.FlushRead m ts) a f = rw (le-leb (length ts) p (a .2))
+    go (Model.FlushFree m) a f = rw none
+    go (Model.OnTime y) a f = rw none
+    go (Model.ReadEnter g) a f = rw (lt-ltb (g .register) v a, none, purpose-yes k (g .purpose) f)
+    go (Model.ReadStand g c) a f = rw (lt-ltb (g .register) v (a .0), lt-ltb c n (a .1), none, purpose-yes k (g .purpose) f)
+    go (Model.GetShow r) a f = rw (lt-ltb r v a, none)
 
 -- a list of ranges in a worker's part of the memory
 list-yes : (l : List Range) (n w : ℕ) (merged : List ℕ) (most : ℕ) → length l ≤ most → length l ≤ 256 → All (λ ρ. ρ .slot < n) l
@@ -189,7 +202,9 @@ module _ {s : Store} (m : Memory) (S : Sound s) (Z : Sized m) (B : Begins (m .hu
       omega (arith, a, S .batch)
 
   worker-yes : (w : ℕ) → w < s .site .P
-      → workerFits (workerIn (hubRep s emptyHub) w) w (m .merged) (local same) (list same) (s .site .P) (s .site .V') (s .site .N) ≡ true
+      → workerFits (workerIn (hubRep s emptyHub) w) w (m .merged) (local same) (list same) (s .site .P) (s .site .V') (s .site .N)
+      (length (s .site .rows))
+      ≡ true
   unfolding workerFits handFits
   worker-yes w b =
       let t : ℕ = workerAt s w .announced in
@@ -198,7 +213,8 @@ module _ {s : Store} (m : Memory) (S : Sound s) (Z : Sized m) (B : Begins (m .hu
       let hand : inHand (about d .hand) ≤ list same = omega (arith, hand-few w b, held w b) in
       rw (
         worker-at s S w b d refl,
-        place-yes s t d (S .places w b),
+        place-yes s t d (S .places w b) (All-at (λ x. TotalFits (s .site .rows) (about (x .doing) .purpose)) (s .workers) w startWorker
+            (among s S w b) (S .bounds .totals)),
         pool-fits s (workerAt s w .pool) (local same) pool (omega (arith, S .bounds .batch .1, pool-short s S w b)) (S .pools w b),
         lt-leb 16 w (omega (arith, b, S .bounds .workers .1)),
         hand-yes s t d w (m .merged) (list same) (S .places w b) hand
@@ -211,6 +227,13 @@ module _ {s : Store} (m : Memory) (S : Sound s) (Z : Sized m) (B : Begins (m .hu
       let e : getD (m .newest) r 0 ≡ newestOf s r =
       ap (λ (l : List ℕ). getD l r 0) (newest-is s m laid) ∙ getD-over-in (s .newest) (m .newest) r 0 h ∙ getD-inside (s .newest) r 0 absent h in
       omega (arith, e, S .newest r b)
+
+  rows-below : (i : ℕ) → i < length (s .site .rows) → registerOf (rowAt (over (s .site .rows) (m .hub .rows)) i) < s .site .V'
+  rows-below i b =
+      let e : rowAt (over (s .site .rows) (m .hub .rows)) i ≡ rowAt (s .site .rows) i = getD-over-in (s .site .rows) (m .hub .rows) i 0 b in
+      let row : ℕ = rowAt (s .site .rows) i in
+      rw e (ltb-true (registerOf row) (s .site .V')
+      (and-both (leb (groupOf row) 31 && leb (signOf row) 1) _ (row-fits (s .site .V') 0 0 (s .site .rows) (S .bounds .rows .0) i b) .1))
 
   free-below : (i : ℕ) → i < length (s .free) → getD (m .free) i 0 < s .site .N
   free-below i b =
@@ -279,6 +302,8 @@ module _ {s : Store} (m : Memory) (S : Sound s) (Z : Sized m) (B : Begins (m .hu
             newest = newest-below;
             freeSlots = free-below;
             queueSlots = queue-below;
+            listed = S .bounds .rows .1;
+            rows = rows-below;
             neighbours = near-in;
             workers = λ w b. worker-tells same w (omega (arith, b, S .bounds .workers .1)) (workerIn (hubRep s emptyHub) w) (worker-yes w b);
           }

@@ -1,5 +1,6 @@
 -- What it means that the code does with a record what the model does, and a refused record: it changes nothing.
 use mathlib.Core.Path.{_≡_, refl}
+use mathlib.Core.List.{List}
 use Prim.Native.Nat.{ℕ}
 use Rattle.model.specs.Store as Model
 use Rattle.model.specs.Answer.{Applied}
@@ -10,12 +11,13 @@ use Rattle.gate.specs.declared.Gate.the-variants.{Refuse}
 use Rattle.simulation.specs.Memory.{Memory, writeHub}
 use Rattle.simulation.specs.Shell.{obeyIn}
 
--- what the model makes of a record, a, on the hub h, is what the code leaves and answers that carries out the decision g on the memory m
-pub record Follows (h : Model.Hub) (m : Memory) (g : Gate) (a : Applied) : Type 0 where
-  pub memory : obeyIn m g .memory ≡ writeHub h (a .hub) m
-  pub answer : answerOf (obeyIn m g .answer) ≡ a .answer
+-- what the model makes of a record, a, on the hub h, is what the code leaves and answers that carries out the decision g on the memory m,
+-- with the list lent
+pub record Follows (list : List ℕ) (h : Model.Hub) (m : Memory) (g : Gate) (a : Applied) : Type 0 where
+  pub memory : obeyIn m list g .memory ≡ writeHub h (a .hub) m
+  pub answer : answerOf (obeyIn m list g .answer) ≡ a .answer
 
 -- refusal k, of a hub of the model that lies in the memory
-pub refused : (h : Model.Hub) (m : Memory) (k : ℕ) → m ≡ writeHub h h m → Follows h m (Refuse k) (refuse h k)
+pub refused : {list : List ℕ} (h : Model.Hub) (m : Memory) (k : ℕ) → m ≡ writeHub h h m → Follows list h m (Refuse k) (refuse h k)
 unfolding obeyIn
 refused h m k laid = record { memory = laid; answer = refl }

@@ -12,6 +12,7 @@ use borrow.Author.Tests.{lt-ltb, le-ltb, le-leb, eq-eqb, ltb-true, ltb-false, le
 use lib.Seq.{getD-drop, drop-drop}
 use Rattle.lists.specs.Over.{over}
 use Rattle.lists.proofs.Over.{getD-over-in}
+use Rattle.model.specs.Totals.{registerOf, rowAt}
 use Rattle.model.specs.Store.{Range, absent}
 use Rattle.model.proofs.Basic.{All-at, eq-cases}
 use Rattle.model.specs.Demand.{All}
@@ -27,6 +28,7 @@ use Rattle.ranges.specs.Words.{flat}
 use Rattle.ranges.proofs.WordLaws.{length-flat}
 use Rattle.queue.specs.Rep.{joinedRanges}
 use Rattle.ready.specs.Ready.{
+  rowsBelow,
   belowTo,
   slotsBelow,
   poolFits,
@@ -78,6 +80,19 @@ module _ (l : List ℕ) (n k : ℕ) where
   pub below-tells : belowTo l n k ≡ true → (i : ℕ) → i < k → getD l i 0 < n
   unfolding belowTo test-below
   below-tells e i h = ltb-true (getD l i 0) n (all-tell (belowTo l n) test-below (λ j. refl) k e i h)
+
+-- the rows of totals
+module _ (rows : List ℕ) (v k : ℕ) where
+  test-row : ℕ → Bool
+  test-row i = ltb (registerOf (rowAt rows i)) v
+
+  pub rows-yes : ((i : ℕ) → i < k → registerOf (rowAt rows i) < v) → rowsBelow rows v k ≡ true
+  unfolding rowsBelow test-row
+  rows-yes g = all-yes (rowsBelow rows v) test-row (λ j. refl) refl k (λ i h. lt-ltb (registerOf (rowAt rows i)) v (g i h))
+
+  pub rows-tell : rowsBelow rows v k ≡ true → (i : ℕ) → i < k → registerOf (rowAt rows i) < v
+  unfolding rowsBelow test-row
+  rows-tell e i h = ltb-true (registerOf (rowAt rows i)) v (all-tell (rowsBelow rows v) test-row (λ j. refl) k e i h)
 
 module _ (words : List ℕ) (i n k : ℕ) where
   test-slot : ℕ → Bool
@@ -207,15 +222,15 @@ lens-sum (l ∷ q) lens d i e =
 
 module _ (h : Hub) (merged : List ℕ) (local list k : ℕ) where
   test-worker : ℕ → Bool
-  test-worker w = workerFits (workerIn h w) w merged local list (h .p) (h .v) (h .n)
+  test-worker w = workerFits (workerIn h w) w merged local list (h .p) (h .v) (h .n) (h .listed)
 
-  pub workers-yes : ((w : ℕ) → w < k → workerFits (workerIn h w) w merged local list (h .p) (h .v) (h .n) ≡ true)
+  pub workers-yes : ((w : ℕ) → w < k → workerFits (workerIn h w) w merged local list (h .p) (h .v) (h .n) (h .listed) ≡ true)
       → workersFit h merged local list k ≡ true
   unfolding workersFit test-worker
   workers-yes g = all-yes (workersFit h merged local list) test-worker (λ j. refl) refl k g
 
   pub workers-tell : workersFit h merged local list k ≡ true
-      → (w : ℕ) → w < k → workerFits (workerIn h w) w merged local list (h .p) (h .v) (h .n) ≡ true
+      → (w : ℕ) → w < k → workerFits (workerIn h w) w merged local list (h .p) (h .v) (h .n) (h .listed) ≡ true
   unfolding workersFit test-worker
   workers-tell e w b = all-tell (workersFit h merged local list) test-worker (λ j. refl) k e w b
 

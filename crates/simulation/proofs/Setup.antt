@@ -15,7 +15,7 @@ use Rattle.model.specs.Batch.{batchOf}
 use Rattle.model.specs.Rules.{inForce}
 use Rattle.model.specs.Answer as Answers
 use Rattle.model.specs.Record as Record
-use Rattle.model.specs.Record.{Sizes, commandOf, unusedZero, decode}
+use Rattle.model.specs.Record.{Sizes, commandOf, unusedZero, decode, rowsOf, listFits}
 use Rattle.model.specs.Apply.{inRanges, fresh, setUp, obey, applyDecoded}
 use Rattle.model.proofs.Basic.{cond-both, and-both}
 use Rattle.model.proofs.Setup.{InRanges, in-ranges}
@@ -29,7 +29,7 @@ use Rattle.simulation.proofs.Bytes.{Bytes}
 use Rattle.simulation.proofs.Laid.{memory-path}
 use Rattle.simulation.proofs.Gates.{gateBy, both}
 use Rattle.simulation.proofs.Refuse.{Follows, refused}
-use Rattle.simulation.proofs.Fresh.{hub-made, slots-made, newest-made, free-made, merged-made}
+use Rattle.simulation.proofs.Fresh.{rows-few, hub-made, slots-made, newest-made, free-made, merged-made}
 
 ------------------------------------------------------------------------
 -- The clock of a setup is four bytes
@@ -50,13 +50,14 @@ command-clock b bytes (suc (suc (suc zero))) = tt
 command-clock b bytes (suc (suc (suc (suc zero)))) = tt
 command-clock b bytes (suc (suc (suc (suc (suc zero))))) = tt
 command-clock b bytes (suc (suc (suc (suc (suc (suc zero)))))) = tt
-command-clock b bytes (suc (suc (suc (suc (suc (suc (suc n))))))) = tt
+command-clock b bytes (suc (suc (suc (suc (suc (suc (suc zero))))))) = tt
+command-clock b bytes (suc (suc (suc (suc (suc (suc (suc (suc n)))))))) = tt
 
 pub clock-fits : (b : List ℕ) → Bytes b → ClockFits (decode b)
 unfolding decode
 clock-fits b bytes =
     cond-both ClockFits (ltb (length b) 16) _ _ (λ e. tt)
-    (λ e. cond-both ClockFits (ltb 7 (getD b 0 0)) _ _ (λ f. tt)
+    (λ e. cond-both ClockFits (ltb 8 (getD b 0 0)) _ _ (λ f. tt)
     (λ f. cond-both ClockFits (unusedZero b (commandOf b (getD b 0 0))) _ _ (λ g. command-clock b bytes (getD b 0 0)) (λ g. tt)))
 
 ------------------------------------------------------------------------
@@ -79,18 +80,18 @@ same-sizes z long h =
 ------------------------------------------------------------------------
 -- A record that was read as r
 
-module _ (m : Memory) (Z : Sized m) where
+module _ (m : Memory) (Z : Sized m) (list : List ℕ) where
   abbrev row : List Model.Slot
   row = map slotOf (m .slots)
 
   -- an accepted setup
-  made : (z : Sizes) → InRanges z → z .N ≤ length (m .slots)
-      → Follows (blank row) m (Make (z .P) (z .V') (z .N) (z .clock)) (record { hub = up (fresh (batchOf (z .P)) z row); answer = Answers.Ok })
+  made : (z : Sizes) → InRanges z → z .N ≤ length (m .slots) → listFits (z .V') list ≡ true
+      → Follows list (blank row) m (Make (z .P) (z .V') (z .N) (z .clock)) (record { hub = up (fresh (batchOf (z .P)) z (rowsOf list) row); answer = Answers.Ok })
   unfolding obeyIn setUpIn fresh
-  made z I long =
+  made z I long lf =
       record {
         memory =
-            memory-path (hub-made (batchOf (z .P)) z row (I .P≤16)) (slots-made (m .slots) (z .V') (z .N) long)
+            memory-path (hub-made (batchOf (z .P)) z list row (I .P≤16) (rows-few (z .V') list lf)) (slots-made (m .slots) (z .V') (z .N) long)
             (newest-made (m .newest) (z .V') (omega (arith, I .V≤256, Z .newest)) (omega (arith, I .V≤256)))
             (free-made (m .free) (z .N) (z .N - z .V') (z .V') (omega (arith, I .V≤N)) (omega (arith, I .N≤2048, Z .free)) (omega (arith, I .N≤2048)))
             (overAt-none (m .queue) 0 []) (overAt-none (m .lens) 0 []) (merged-made (z .P) (m .merged));
@@ -98,20 +99,23 @@ module _ (m : Memory) (Z : Sized m) where
       }
 
   set-up : (z : Sizes) → z .clock ≤ lastClock
-      → Follows (blank row) m (cond (sizesOk (z .P) (z .V') (z .N) (z .clock) (length (m .slots))) (Make (z .P) (z .V') (z .N) (z .clock)) (Refuse 5))
-      (setUp inForce (blank row) z)
+      → Follows list (blank row) m (cond (sizesOk (z .P) (z .V') (z .N) (z .clock) (length (m .slots)) && listFits (z .V') list) (Make (z .P) (z .V') (z .N) (z .clock)) (Refuse 5))
+      (setUp (inForce list) (blank row) z)
   unfolding setUp
   set-up z h =
       let long : length (m .slots) ≡ length row = sym (length-map (m .slots) slotOf) in
-      both (Follows (blank row) m) (sizesOk (z .P) (z .V') (z .N) (z .clock) (length (m .slots))) (inRanges z && leb (z .N) (length row)) _ _ _ _
-      (same-sizes z (length (m .slots)) h ∙ ap (λ (n : ℕ). inRanges z && leb (z .N) n) long)
-      (λ e. let a = and-both (inRanges z) (leb (z .N) (length row)) e in
-      made z (in-ranges z (a .0)) (omega (arith, leb-true (z .N) (length row) (a .1))))
+      both (Follows list (blank row) m) (sizesOk (z .P) (z .V') (z .N) (z .clock) (length (m .slots)) && listFits (z .V') list)
+      (inRanges z && leb (z .N) (length row) && listFits (z .V') list) _ _ _ _
+      (ap (λ (t : Bool). t && listFits (z .V') list) (same-sizes z (length (m .slots)) h ∙ ap (λ (n : ℕ). inRanges z && leb (z .N) n) long))
+      (λ e.
+      let t = and-both (inRanges z && leb (z .N) (length row)) _ e in
+      let a = and-both (inRanges z) (leb (z .N) (length row)) (t .0) in
+      made z (in-ranges z (a .0)) (omega (arith, leb-true (z .N) (length row) (a .1))) (t .1))
       (λ e. refused (blank row) m 5 refl)
 
   -- the code does what the model's hub does that is not set up and whose row is lent
   pub follows-blank : (r : Record.Decoded) → ClockFits r
-      → Follows (blank row) m (gateBy (decodedRep r) false (length (m .slots)) (m .hub)) (applyDecoded inForce (blank (map slotOf (m .slots))) r)
+      → Follows list (blank row) m (gateBy (decodedRep r) false (length (m .slots)) list (m .hub)) (applyDecoded (inForce list) (blank (map slotOf (m .slots))) r)
   unfolding whoOf gateOf applyDecoded obey
   follows-blank (Record.Refuses k) f = refused (blank row) m k refl
   follows-blank (Record.Asks (Record.SetUp z)) f = set-up z f

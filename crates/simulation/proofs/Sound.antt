@@ -10,7 +10,8 @@ use lib.ListN.{length}
 use Rattle.model.specs.Store as Model
 use Rattle.model.specs.Store.{Store, Range, up, absent, lastClock, startWorker, workerAt, slotAt, newestOf}
 use Rattle.model.specs.Batch.{batchOf}
-use Rattle.model.specs.Rules.{Rules, inForce, Ruled, under}
+use Rattle.model.specs.Rules.{Rules, Ruled}
+use Rattle.model.specs.Record.{rowsOf}
 use Rattle.model.specs.Apply.{fresh, apply, applyRuled, hubAfter}
 use Rattle.model.specs.Demand.{Call, Plain, occurrences, All}
 use Rattle.model.specs.About.{about}
@@ -93,7 +94,7 @@ pub reached : {s : Store} (L : LeftByRecords s) → Reached (L .setup .rules) s
 reached {s} L =
     let rules : Rules = L .setup .rules in
     let A = accepts rules (L .row) (L .setup .bytes) (L .accepted) in
-    reached-from rules (L .records) (fresh (rules .batch (A .sizes .P)) (A .sizes) (A .row)) s (reached-start rules (allowed rules (L .batch)) A)
+    reached-from rules (L .records) (fresh (rules .batch (A .sizes .P)) (A .sizes) (rowsOf (rules .list)) (A .row)) s (reached-start rules (allowed rules (L .batch)) A)
     (subst (λ (h : Model.Hub). hubAfter h (L .records) ≡ up s) (A .is) (L .left))
 
 ------------------------------------------------------------------------
@@ -247,9 +248,9 @@ after-more h [] b = refl
 after-more h (c ∷ bs) b = after-more (applyRuled h c .hub) bs b
 
 -- a record more leaves such a store again
-pub left-next : {s : Store} → LeftByRecords s → (b : List ℕ) → (t : Store) × (apply inForce (up s) b .hub ≡ up t) × LeftByRecords t
+pub left-next : {s : Store} → LeftByRecords s → (b : Ruled) → (t : Store) × (applyRuled (up s) b .hub ≡ up t) × LeftByRecords t
 left-next {s} L b =
-    let N = reached-apply inForce s (reached L) b in (
+    let N = reached-apply (b .rules) s (reached L) (b .bytes) in (
       N .0,
       N .1,
       record {
@@ -257,10 +258,10 @@ left-next {s} L b =
         setup = L .setup;
         batch = L .batch;
         accepted = L .accepted;
-        records = L .records ++ (under inForce b ∷ []);
+        records = L .records ++ (b ∷ []);
         left =
-            after-more (applyRuled (Model.blank (L .row)) (L .setup) .hub) (L .records) (under inForce b)
-            ∙ ap (λ (h : Model.Hub). apply inForce h b .hub) (L .left)
+            after-more (applyRuled (Model.blank (L .row)) (L .setup) .hub) (L .records) b
+            ∙ ap (λ (h : Model.Hub). applyRuled h b .hub) (L .left)
             ∙ N .1;
       },
     )

@@ -3,7 +3,7 @@ use mathlib.Core.Path.{_≡_}
 use mathlib.Core.Bool.{false}
 use mathlib.Core.List.{List, [], _∷_, map}
 use Rattle.model.specs.Store.{Hub, blank, up}
-use Rattle.model.specs.Rules.{inForce, Ruled, allUnder}
+use Rattle.model.specs.Rules.{inForce, Ruled, under}
 use Rattle.model.specs.Apply.{applyRuled, hubAfter}
 use Rattle.model.specs.Demand.{events, Exchange, exchange}
 use Rattle.slots.specs.Slots.{slotOf}
@@ -20,9 +20,9 @@ Holds (up s) m = Left s m
 abbrev pub Decided : Memory → Type 0
 Decided m = (h : Hub) × Holds h m
 
--- the records of what was sent and answered, under the rules in force
+-- the records of what was sent and answered, under the rules in force, each with its list
 abbrev pub sent : List Exchange → List Ruled
-sent es = allUnder inForce (map (λ e. e .bytes) es)
+sent es = map (λ e. under (inForce (e .list)) (e .bytes)) es
 
 -- the memory after a list of records that starts with hub h: each writes the hub that it leaves over the memory
 unfoldable pub memoryAfter : Hub → List Ruled → Memory → Memory

@@ -43,6 +43,7 @@ pub record Left (s : Store) (m : Memory) : Type 0 where
 pub record Sized (m : Memory) : Type 0 where
   pub workers : length (m .hub .workers) ≡ 16
   pub times : length (m .hub .times) ≡ 256
+  pub rows : length (m .hub .rows) ≡ 1024
   pub newest : length (m .newest) ≡ 256
   pub free : length (m .free) ≡ 2048
   pub queue : length (m .queue) ≡ 12288

@@ -31,36 +31,36 @@ pub record State : Type 0 where
   pub numbers : List ℕ
   pub last : Answer
 
--- record k has the bytes b
-unfoldable pub next : State → ℕ → List ℕ → State
-next s k b =
+-- record k has the bytes b, and the list is lent
+unfoldable pub next : State → List ℕ → ℕ → List ℕ → State
+next s list k b =
     record {
-      up = s .up || makes (gateIn (s .up) (s .memory) b);
-      memory = doneAs (s .up) (s .memory) b .memory;
-      kinds = set (s .kinds) k (kindOf (doneAs (s .up) (s .memory) b .answer));
-      numbers = set (s .numbers) k (numberOf (doneAs (s .up) (s .memory) b .answer));
-      last = doneAs (s .up) (s .memory) b .answer;
+      up = s .up || makes (gateIn (s .up) (s .memory) list b);
+      memory = doneAs (s .up) (s .memory) list b .memory;
+      kinds = set (s .kinds) k (kindOf (doneAs (s .up) (s .memory) list b .answer));
+      numbers = set (s .numbers) k (numberOf (doneAs (s .up) (s .memory) list b .answer));
+      last = doneAs (s .up) (s .memory) list b .answer;
     }
 
 -- after the first k records of the bytes
-unfoldable pub after : State → List ℕ → ℕ → State
-after s bytes zero = s
-after s bytes (suc k) = next (after s bytes k) k (recordAt bytes k)
+unfoldable pub after : State → List ℕ → List ℕ → ℕ → State
+after s list bytes zero = s
+after s list bytes (suc k) = next (after s list bytes k) list k (recordAt bytes k)
 
 -- before the first record: memory is tested once
 abbrev pub before : Memory → List ℕ → List ℕ → State
 before m kinds numbers = record { up = ready m; memory = m; kinds = kinds; numbers = numbers; last = Ok }
 
--- The first n records of the bytes met the memory m; the memory m′ was left, and the answers were written over the two rows, y the
+-- The first n records of the bytes, with the list lent, met the memory m; the memory m′ was left, and the answers were written over the two rows, y the
 -- last of them.
-pub record Ran (m : Memory) (bytes kinds numbers : List ℕ) (n : ℕ) (m′ : Memory) (kinds′ numbers′ : List ℕ) (y : Answer) : Type 0 where
-  pub memory : m′ ≡ after (before m kinds numbers) bytes n .memory
-  pub answerKinds : kinds′ ≡ after (before m kinds numbers) bytes n .kinds
-  pub answerNumbers : numbers′ ≡ after (before m kinds numbers) bytes n .numbers
-  pub last : y ≡ after (before m kinds numbers) bytes n .last
+pub record Ran (m : Memory) (list bytes kinds numbers : List ℕ) (n : ℕ) (m′ : Memory) (kinds′ numbers′ : List ℕ) (y : Answer) : Type 0 where
+  pub memory : m′ ≡ after (before m kinds numbers) list bytes n .memory
+  pub answerKinds : kinds′ ≡ after (before m kinds numbers) list bytes n .kinds
+  pub answerNumbers : numbers′ ≡ after (before m kinds numbers) list bytes n .numbers
+  pub last : y ≡ after (before m kinds numbers) list bytes n .last
 
 -- as many records as the bytes have and as there is room for answers
-pub record RanAll (m : Memory) (bytes kinds numbers : List ℕ) (n : ℕ) (m′ : Memory) (kinds′ numbers′ : List ℕ) : Type 0 where
+pub record RanAll (m : Memory) (list bytes kinds numbers : List ℕ) (n : ℕ) (m′ : Memory) (kinds′ numbers′ : List ℕ) : Type 0 where
   pub count : n ≡ countOf bytes kinds numbers
   pub last : Answer
-  pub ran : Ran m bytes kinds numbers n m′ kinds′ numbers′ last
+  pub ran : Ran m list bytes kinds numbers n m′ kinds′ numbers′ last

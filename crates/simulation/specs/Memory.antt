@@ -43,6 +43,19 @@ cut m =
       merged = m .merged;
     }
 
+-- memory with another hub by value
+abbrev pub withHub : Memory → Hub → Memory
+withHub m h =
+    record {
+      hub = h;
+      slots = m .slots;
+      newest = m .newest;
+      free = m .free;
+      queue = m .queue;
+      lens = m .lens;
+      merged = m .merged;
+    }
+
 ------------------------------------------------------------------------
 -- A store in memory
 
@@ -65,6 +78,8 @@ hubRep s h =
       clock = s .clock;
       free = length (s .free);
       window = windowAt (s .queue) (h .window .first) (h .window .from);
+      listed = length (s .site .rows);
+      rows = over (s .site .rows) (h .rows);
       times = timesOver (s .workers) (h .times);
       workers = over (map workerRep (s .workers)) (replicate 16 (workerRep startWorker));
     }
@@ -98,19 +113,6 @@ write s m =
       merged = mergedOver (s .workers) (m .merged);
     }
 
--- memory whose hub by value is another
-abbrev pub beginAt : Memory → Hub → Memory
-beginAt m h =
-    record {
-      hub = h;
-      slots = m .slots;
-      newest = m .newest;
-      free = m .free;
-      queue = m .queue;
-      lens = m .lens;
-      merged = m .merged;
-    }
-
 -- What the store s is written over after the hub k, whose hub by value was h: a setup starts with an empty one, any other record with h, its
 -- window moved on where pools were taken.
 abbrev pub nextHub : Model.Hub → Store → Hub → Hub
@@ -120,4 +122,4 @@ nextHub (Model.up s₀) s h = withWindowIn h (windowAfter (s₀ .queue) (s .queu
 -- the memory of the hub k with the next hub written over it; where that is not set up, the memory is as it was
 abbrev pub writeHub : Model.Hub → Model.Hub → Memory → Memory
 writeHub k (Model.blank row) m = m
-writeHub k (Model.up s) m = write s (beginAt m (nextHub k s (m .hub)))
+writeHub k (Model.up s) m = write s (withHub m (nextHub k s (m .hub)))

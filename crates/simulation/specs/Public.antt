@@ -15,22 +15,13 @@ use Rattle.values.specs.declared.Answer.{Answer}
 use Rattle.worker.specs.declared.Doing.the-variants.{Idle}
 use Rattle.worker.specs.About.{aboutOf}
 use Rattle.state.specs.State.{workerIn, withWorkerIn, atPlace}
-use Rattle.simulation.specs.Memory.{Memory}
+use Rattle.simulation.specs.Memory.{Memory, withHub}
 use Rattle.simulation.specs.Left.{ready}
 use Rattle.simulation.specs.Holds.{Holds, AsModel}
 
 -- the memory with worker w idle, and nothing else changed
 abbrev pub idleIn : Memory → ℕ → Memory
-idleIn m w =
-    record {
-      hub = withWorkerIn (m .hub) w (atPlace (workerIn (m .hub) w) Idle);
-      slots = m .slots;
-      newest = m .newest;
-      free = m .free;
-      queue = m .queue;
-      lens = m .lens;
-      merged = m .merged;
-    }
+idleIn m w = withHub m (withWorkerIn (m .hub) w (atPlace (workerIn (m .hub) w) Idle))
 
 -- A step is taken: the memory counts as set up, as `up` says, and the record is a step of a worker below P that is not idle.
 unfoldable pub takesStepIn : Bool → Memory → Decoded → Bool
@@ -67,14 +58,15 @@ pub record OnAny (up : Bool) (m : Memory) (b : List ℕ) (y : Answer) (m′ : Me
   -- a setup on memory that counts as set up gets 9 (H8.6)
   pub nine : up ≡ true → (z : Sizes) → decode b ≡ Asks (SetUp z) → answerOf y ≡ No 9
 
--- what was sent and answered
-abbrev pub exchangeOf : List ℕ → Answer → Exchange
-exchangeOf b y = record { bytes = b; answer = answerOf y }
+-- what was sent, with the list that was lent, and answered
+abbrev pub exchangeOf : List ℕ → List ℕ → Answer → Exchange
+exchangeOf list b y = record { list = list; bytes = b; answer = answerOf y }
 
--- A record of the bytes b, any bytes and any number of them, met the memory m, was answered y and left the memory m′.
-pub record Does (m : Memory) (b : List ℕ) (y : Answer) (m′ : Memory) : Type 0 where
+-- A record of the bytes b, any bytes and any number of them, with the list that is lent, any bytes too, met the memory m, was answered y and left
+-- the memory m′.
+pub record Does (m : Memory) (list b : List ℕ) (y : Answer) (m′ : Memory) : Type 0 where
   -- Memory that holds a hub of the model: what the model does is done. This is demand 2 (H6.2). Where the memory does not count as set up, every
   -- record but a setup that gets that far gets 8, and a setup is accepted or gets 5.
-  pub asModel : (h : Hub) → Holds h m → AsModel h m (exchangeOf b y ∷ []) m′
+  pub asModel : (h : Hub) → Holds h m → AsModel h m (exchangeOf list b y ∷ []) m′
   -- Any memory.
   pub onAny : OnAny (ready m) m b y m′

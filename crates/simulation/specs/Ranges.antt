@@ -7,6 +7,10 @@ use Prim.Native.Nat.{ℕ, _+_, _*_, _-_, _≤_, _<_}
 use lib.ListN.{length, getD}
 use Rattle.model.specs.Store.{absent}
 use Rattle.model.specs.Batch.{batchOf}
+use Rattle.model.specs.Totals.{registerOf, rowAt}
+use Rattle.model.specs.Rules.{twelveDigits}
+use Rattle.worker.specs.declared.Purpose.{Purpose}
+use Rattle.worker.specs.declared.Purpose.the-variants.{Single, Totaling}
 use Rattle.worker.specs.declared.Facts.{Facts}
 use Rattle.worker.specs.declared.Named.the-variants.{Is}
 use Rattle.worker.specs.declared.Worker.{Worker}
@@ -35,7 +39,12 @@ Neighbour h o = (o ≡ absent) ⊎ (o < h .n)
 abbrev pub lengthIn : Memory → ℕ → ℕ
 lengthIn m i = getD (m .lens) (m .hub .window .first + i) 0
 
--- what worker w's place names: a register, a slot, a list in hand of so many ranges, a count of times read
+-- what a value is read for: a total's row is one of those listed, and each of its sums is of at most 31 values of twelve digits (H8.24)
+abbrev pub PurposeInRange : Hub → Purpose → Type 0
+PurposeInRange h Single = Unit {0}
+PurposeInRange h (Totaling g i plus minus) = (i < h .listed) × (plus ≤ 31 * twelveDigits) × (minus ≤ 31 * twelveDigits)
+
+-- what worker w's place names: a register, a slot, a list in hand of so many ranges, a count of times read, a total
 pub record PlaceInRange (m : Memory) (w : ℕ) (y : Facts) : Type 0 where
   -- its register is one of the V (H8.18)
   pub register : (r : ℕ) → y .register ≡ Is r → r < m .hub .v
@@ -47,6 +56,8 @@ pub record PlaceInRange (m : Memory) (w : ℕ) (y : Facts) : Type 0 where
   pub list : (k : ℕ) → y .ranges ≡ Is k → FewRanges (m .hub) k (4 * batchIn (m .hub))
   -- their slots are below N (H8.17); worker w's list starts at range 256 w, and a range has three words, the slot first
   pub listSlots : (k : ℕ) → y .ranges ≡ Is k → (j : ℕ) → j < k → getD (m .merged) (3 * (256 * w + j)) 0 < m .hub .n
+  -- and what it reads for (H8.24)
+  pub purpose : PurposeInRange (m .hub) (y .purpose)
 
 -- worker w's record
 pub record WorkerInRange (m : Memory) (w : ℕ) (x : Worker) : Type 0 where
@@ -82,6 +93,9 @@ pub record InRanges (m : Memory) : Type 0 where
   pub freeSlots : (i : ℕ) → i < m .hub .free → getD (m .free) i 0 < m .hub .n
   -- that of each queued range, which has three words, the slot first
   pub queueSlots : (j : ℕ) → j < m .hub .window .queued → getD (m .queue) (3 * (m .hub .window .from + j)) 0 < m .hub .n
+  -- the list of totals has at most 1,024 rows, and the register of each is below V (H8.23)
+  pub listed : m .hub .listed ≤ 1024
+  pub rows : (i : ℕ) → i < m .hub .listed → registerOf (rowAt (m .hub .rows) i) < m .hub .v
   -- each neighbour of a slot below N, if there is one, is below N (H8.19)
   pub neighbours : (c : ℕ) → c < m .hub .n
       → Neighbour (m .hub) (getD (m .slots) c vacantSlot .older) × Neighbour (m .hub) (getD (m .slots) c vacantSlot .newer)

@@ -2,9 +2,10 @@
 -- The steps of one place are in step/specs/Step.antt and flush/specs/Flush.antt; here is what each writes where.
 use mathlib.Core.Bool.{Bool}
 use mathlib.Core.List.{List, [], map}
-use Prim.Native.Nat.{ℕ, _+_, _-_, _%_}
-use lib.ListN.{length, set}
+use Prim.Native.Nat.{ℕ, _+_, _-_, _/_, _%_}
+use lib.ListN.{length, set, take, replicate}
 use Rattle.lists.specs.Over.{over}
+use Rattle.model.specs.Record.{rowsOf}
 use Rattle.values.specs.declared.Answer.{Answer}
 use Rattle.values.specs.declared.Answer.the-variants.{Ok, Going, Freed, No}
 use Rattle.slots.specs.declared.Slot.{Slot}
@@ -28,26 +29,13 @@ use Rattle.step.specs.Step.{Stepped, stepOf}
 use Rattle.flush.specs.Flush.{putHandInStep, partOf, withPart, flushReadStep}
 use Rattle.splitting.specs.Splitting.{splitLeft, splitQueue, splitMerged}
 use Rattle.freeing.specs.Freeing.{freedStep, freedRow, freedFree, offDoing}
-use Rattle.simulation.specs.Memory.{Memory}
+use Rattle.simulation.specs.Memory.{Memory, withHub}
 use Rattle.simulation.specs.Left.{ready}
 
 -- what is left and answered
 pub record Result : Type 0 where
   pub memory : Memory
   pub answer : Answer
-
--- memory with another hub by value
-abbrev pub withHub : Memory → Hub → Memory
-withHub m h =
-    record {
-      hub = h;
-      slots = m .slots;
-      newest = m .newest;
-      free = m .free;
-      queue = m .queue;
-      lens = m .lens;
-      merged = m .merged;
-    }
 
 -- memory with another row of slots and other newest versions
 abbrev pub withRow : Memory → List Slot → List ℕ → Memory
@@ -69,6 +57,10 @@ withRecord m w x = withHub m (withWorkerIn (m .hub) w x)
 -- nothing is left but what was there
 abbrev pub answered : Memory → Answer → Result
 answered m y = record { memory = m; answer = y }
+
+-- the rows of totals that count
+abbrev pub rowsKept : Hub → List ℕ
+rowsKept h = take (h .listed) (h .rows)
 
 abbrev pub queueIn : Memory → Queue
 queueIn m = record { queue = m .queue; lens = m .lens; window = m .hub .window }
@@ -178,7 +170,8 @@ finishIn m w x s = nextIn (withRow m (s .row) (s .newest)) w x (s .next)
 
 -- the step at the place d of a worker with the record x
 abbrev pub stepAtIn : Memory → Worker → Doing → Stepped
-stepAtIn m x d = stepOf d (x .announced) (m .hub .clock) (m .hub .free) (m .hub .p) (m .slots) (m .newest) (m .free)
+stepAtIn m x d =
+    stepOf d (x .announced) (m .hub .clock) (m .hub .free) (m .hub .p) (m .slots) (m .newest) (m .free) (rowsKept (m .hub))
 
 unfoldable pub goIn : Memory → ℕ → Worker → Doing → Result
 goIn m w x d = finishIn m w x (stepAtIn m x d)
@@ -186,11 +179,11 @@ goIn m w x d = finishIn m w x (stepAtIn m x d)
 ------------------------------------------------------------------------
 -- A record
 
--- a setup that is accepted
-unfoldable pub setUpIn : Memory → ℕ → ℕ → ℕ → ℕ → Memory
-setUpIn m p v n k =
+-- a setup that is accepted, with the bytes of the list of totals
+unfoldable pub setUpIn : Memory → List ℕ → ℕ → ℕ → ℕ → ℕ → Memory
+setUpIn m list p v n k =
     record {
-      hub = freshHub p v n k;
+      hub = freshHub p v n k (length list / 4) (over (take 1024 (rowsOf list)) (replicate 1024 0));
       slots = madeTo (m .slots) v n;
       newest = fillTo (m .newest) short v;
       free = fillTo (m .free) (λ j. short (n - 1 - j)) (n - v);
@@ -200,21 +193,21 @@ setUpIn m p v n k =
     }
 
 -- by the decision on it
-unfoldable pub obeyIn : Memory → Gate → Result
-obeyIn m (Refuse k) = answered m (No k)
-obeyIn m (Make p v n k) = answered (setUpIn m p v n k) Ok
-obeyIn m (Start w d) = answered (withRecord m w (atPlace (workerIn (m .hub) w) d)) Ok
-obeyIn m (Go w) = goIn m w (workerIn (m .hub) w) (workerIn (m .hub) w .doing)
+unfoldable pub obeyIn : Memory → List ℕ → Gate → Result
+obeyIn m list (Refuse k) = answered m (No k)
+obeyIn m list (Make p v n k) = answered (setUpIn m list p v n k) Ok
+obeyIn m list (Start w d) = answered (withRecord m w (atPlace (workerIn (m .hub) w) d)) Ok
+obeyIn m list (Go w) = goIn m w (workerIn (m .hub) w) (workerIn (m .hub) w .doing)
 
 -- the decision, where `up` says that the memory counts as set up
-abbrev pub gateIn : Bool → Memory → List ℕ → Gate
-gateIn up m b =
+abbrev pub gateIn : Bool → Memory → List ℕ → List ℕ → Gate
+gateIn up m list b =
     let x = workerIn (m .hub) (whoOf (decodedIn b)) in
-    gateOf (decodedIn b) up (m .hub .p) (m .hub .v) (length (m .slots)) (x .doing) (x .announced)
+    gateOf (decodedIn b) up (m .hub .p) (m .hub .v) (length (m .slots)) (x .doing) (x .announced) list (rowsKept (m .hub))
 
-unfoldable pub doneAs : Bool → Memory → List ℕ → Result
-doneAs up m b = obeyIn m (gateIn up m b)
+unfoldable pub doneAs : Bool → Memory → List ℕ → List ℕ → Result
+doneAs up m list b = obeyIn m list (gateIn up m list b)
 
--- a record of the bytes b
-unfoldable pub doneOf : Memory → List ℕ → Result
-doneOf m b = doneAs (ready m) m b
+-- a record of the bytes b, with the list lent
+unfoldable pub doneOf : Memory → List ℕ → List ℕ → Result
+doneOf m list b = doneAs (ready m) m list b

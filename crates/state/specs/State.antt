@@ -16,8 +16,9 @@ abbrev pub emptyWindow : Window
 emptyWindow = record { first = 0; pools = 0; from = 0; queued = 0 }
 
 -- H2.6 to H2.8, H8.10: all workers at their start, the queue empty. H2.10: the n - v slots that hold no register's version are free.
-abbrev pub freshHub : ℕ → ℕ → ℕ → ℕ → Hub
-freshHub p v n t =
+-- H12.3: so many rows of totals.
+abbrev pub freshHub : ℕ → ℕ → ℕ → ℕ → ℕ → List ℕ → Hub
+freshHub p v n t k rows =
     record {
       p = p;
       v = v;
@@ -25,13 +26,15 @@ freshHub p v n t =
       clock = t;
       free = n - v;
       window = emptyWindow;
+      listed = k;
+      rows = rows;
       times = replicate 256 0;
       workers = replicate 16 (workerRep startWorker);
     }
 
 -- that of a hub without workers
 abbrev pub emptyHub : Hub
-emptyHub = freshHub 0 0 0 0
+emptyHub = freshHub 0 0 0 0 0 (replicate 1024 0)
 
 -- what stands where a list of workers has no entry
 abbrev pub nobody : Worker
@@ -57,6 +60,8 @@ withWorkersIn h l =
       clock = h .clock;
       free = h .free;
       window = h .window;
+      listed = h .listed;
+      rows = h .rows;
       times = h .times;
       workers = l;
     }
@@ -74,6 +79,8 @@ withClockIn h k =
       clock = k;
       free = h .free;
       window = h .window;
+      listed = h .listed;
+      rows = h .rows;
       times = h .times;
       workers = h .workers;
     }
@@ -87,6 +94,8 @@ withFreeIn h k =
       clock = h .clock;
       free = k;
       window = h .window;
+      listed = h .listed;
+      rows = h .rows;
       times = h .times;
       workers = h .workers;
     }
@@ -100,6 +109,8 @@ withWindowIn h w =
       clock = h .clock;
       free = h .free;
       window = w;
+      listed = h .listed;
+      rows = h .rows;
       times = h .times;
       workers = h .workers;
     }
@@ -113,6 +124,8 @@ withTimesIn h ts =
       clock = h .clock;
       free = h .free;
       window = h .window;
+      listed = h .listed;
+      rows = h .rows;
       times = ts;
       workers = h .workers;
     }

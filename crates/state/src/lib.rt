@@ -4,8 +4,8 @@ ghost use Rattle.state.specs.State.{freshHub};
 use values::Window;
 use worker::Worker;
 
-// P, V and N (H1.1 to H1.3), the clock, how many slots are free, where the queue lies in its memory, and sixteen times for each worker: those
-// that its flush has read stand first among them.
+// P, V and N (H1.1 to H1.3), the clock, how many slots are free, where the queue lies in its memory, how many rows the list of totals has and
+// the rows, and sixteen times for each worker: those that its flush has read stand first among them.
 pub struct Hub {
     pub p: usize,
     pub v: usize,
@@ -13,14 +13,16 @@ pub struct Hub {
     pub clock: u32,
     pub free: usize,
     pub window: Window,
+    pub listed: usize,
+    pub rows: [u32; 1024],
     pub times: [u64; 256],
     pub workers: [Worker; 16],
 }
 
 impl Hub {
-    // H2.6 to H2.8: all workers at their start, the queue empty. H2.10: slots V to N - 1 are free.
-    pub fn fresh(p: usize, v: usize, n: usize, clock: u32) -> Hub
-        ensures { λ r. ⌜ r ≡ freshHub p v n clock ⌝ }
+    // H2.6 to H2.8: all workers at their start, the queue empty. H2.10: slots V to N - 1 are free. H12.3: so many rows of totals.
+    pub fn fresh(p: usize, v: usize, n: usize, clock: u32, listed: usize, rows: [u32; 1024]) -> Hub
+        ensures { λ r. ⌜ r ≡ freshHub p v n clock listed rows ⌝ }
     {
         let x = Worker::start();
         let mut free = 0;
@@ -40,6 +42,8 @@ impl Hub {
             clock,
             free,
             window,
+            listed,
+            rows,
             times: [0u64; 256],
             workers: [x; 16],
         }

@@ -19,7 +19,7 @@ use Rattle.worker.specs.Rep.{timeOf}
 use Rattle.announcing.specs.declared.Outcome.{Outcome}
 use Rattle.step.specs.declared.Next.the-variants.{Taken}
 use Rattle.announcing.specs.Announcing.{outcomeOf}
-use Rattle.step.specs.Step.{Stepped, newestAt, nextFree, putPublishStep, putStampStep, readEnterStep, readStandStep, getShowStep}
+use Rattle.step.specs.Step.{Stepped, newestAt, nextFree, putPublishStep, putStampStep, readEnterStep, foundOf, readStandStep, getShowStep}
 
 abbrev leaves : Outcome → List Slot → List ℕ → Stepped
 leaves o l newest = record { next = Taken o; row = l; newest = newest }
@@ -57,16 +57,17 @@ unfolding readEnterStep
 read-entered l ei e₁ eo = rw (eo, e₁, ei)
 
 -- read (2), where the version's low is at most the worker's time and where it is not
-pub read-answered : (g : Goal) (l : List Slot) {c : ℕ} {t : Announced} {k n w time : ℕ} {v : Slot} {o : Outcome} → w ≡ c → v ≡ slotAtIn l w
-    → time ≡ timeOf t → leb (v .low) time ≡ true → o ≡ outcomeOf Idle t k n (Value (v .value)) → o ≡ readStandStep g c t k n l
+pub read-found : (g : Goal) (t : Announced) (k n : ℕ) (l : List Slot) (rows : List ℕ) {c w time : ℕ} {v : Slot} {o : Outcome} → w ≡ c
+    → v ≡ slotAtIn l w → time ≡ timeOf t → leb (v .low) time ≡ true → o ≡ foundOf (g .purpose) (v .value) t k n rows
+    → o ≡ readStandStep g c t k n l rows
 unfolding readStandStep
-read-answered g l ew ev et early eo = rw (← ew, ← ev, ← et, early, eo)
+read-found g t k n l rows ew ev et early eo = rw (← ew, ← ev, ← et, early, eo)
 
-pub read-moved : (l : List Slot) {g : Goal} {c : ℕ} {t : Announced} {k n w time : ℕ} {v : Slot} {o : Outcome} → w ≡ c → v ≡ slotAtIn l w
-    → time ≡ timeOf t → leb (v .low) time ≡ false → o ≡ outcomeOf (ReadStand g (short (v .older))) t k n Going
-    → o ≡ readStandStep g c t k n l
+pub read-moved : (l : List Slot) (rows : List ℕ) {g : Goal} {c : ℕ} {t : Announced} {k n w time : ℕ} {v : Slot} {o : Outcome} → w ≡ c
+    → v ≡ slotAtIn l w → time ≡ timeOf t → leb (v .low) time ≡ false → o ≡ outcomeOf (ReadStand g (short (v .older))) t k n Going
+    → o ≡ readStandStep g c t k n l rows
 unfolding readStandStep
-read-moved l ew ev et late eo = rw (← ew, ← ev, ← et, late, eo)
+read-moved l rows ew ev et late eo = rw (← ew, ← ev, ← et, late, eo)
 
 -- get
 pub got : (r : ℕ) (l : List Slot) {t : Announced} {k n i : ℕ} {v : Slot} {l₁ : List Slot} {newest : List ℕ} {o : Outcome}

@@ -18,20 +18,20 @@ either-step : (n : ℕ) (t : Bool) (a b : Stepped) → length (a .row) ≡ n →
 either-step n true a b e f = e
 either-step n false a b e f = f
 
-pub length-step : (d : Doing) (t : Announced) (k n p : ℕ) (l : List Slot) (newest free : List ℕ)
-    → length (stepOf d t k n p l newest free .row) ≡ length l
+pub length-step : (d : Doing) (t : Announced) (k n p : ℕ) (l : List Slot) (newest free rows : List ℕ)
+    → length (stepOf d t k n p l newest free rows .row) ≡ length l
 unfolding stepOf putPublishStep putStampStep readEnterStep getShowStep
-length-step Idle t k n p l newest free = refl
-length-step (PutPublish r x) t k n p l newest free =
+length-step Idle t k n p l newest free rows = refl
+length-step (PutPublish r x) t k n p l newest free rows =
     let i : ℕ = newestAt newest r in
     either-step (length l) (eqb n 0) _ _ refl (length-linked (stampedIn l i k) i (nextFree free n) x ∙ length-stamped l i k)
-length-step (PutStamp r c) t k n p l newest free =
+length-step (PutStamp r c) t k n p l newest free rows =
     either (length l) (eqb (slotAtIn l c .high) absent) (stampedIn l (newestAt newest r) k) l (length-stamped l (newestAt newest r) k) refl
-length-step (PutHandIn r c) t k n p l newest free = refl
-length-step FlushTake t k n p l newest free = refl
-length-step (FlushRead m j) t k n p l newest free = refl
-length-step (FlushFree m) t k n p l newest free = refl
-length-step (OnTime y) t k n p l newest free = refl
-length-step (ReadEnter g) t k n p l newest free = length-stamped l (newestAt newest (g .register)) k
-length-step (ReadStand g c) t k n p l newest free = refl
-length-step (GetShow r) t k n p l newest free = length-stamped l (newestAt newest r) k
+length-step (PutHandIn r c) t k n p l newest free rows = refl
+length-step FlushTake t k n p l newest free rows = refl
+length-step (FlushRead m j) t k n p l newest free rows = refl
+length-step (FlushFree m) t k n p l newest free rows = refl
+length-step (OnTime y) t k n p l newest free rows = refl
+length-step (ReadEnter g) t k n p l newest free rows = length-stamped l (newestAt newest (g .register)) k
+length-step (ReadStand g c) t k n p l newest free rows = refl
+length-step (GetShow r) t k n p l newest free rows = length-stamped l (newestAt newest r) k

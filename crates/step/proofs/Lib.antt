@@ -1,3 +1,4 @@
 pub mod Leaves
+pub mod Totals
 pub mod Said
 pub mod Lengths

@@ -34,16 +34,16 @@ either : (p : ℕ) (t : Bool) (x y : Stepped) → Said p (x .next) → Said p (y
 either p true x y f g = f
 either p false x y f g = g
 
-pub said : (d : Doing) (t : Announced) (k n p : ℕ) (l : List Slot) (newest free : List ℕ) → Said p (stepOf d t k n p l newest free .next)
+pub said : (d : Doing) (t : Announced) (k n p : ℕ) (l : List Slot) (newest free rows : List ℕ) → Said p (stepOf d t k n p l newest free rows .next)
 unfolding stepOf putPublishStep putStampStep readEnterStep getShowStep
-said Idle t k n p l newest free = tt
-said (PutPublish r x) t k n p l newest free = either p (eqb n 0) _ _ tt tt
-said (PutStamp r c) t k n p l newest free = tt
-said (PutHandIn r c) t k n p l newest free = tt
-said FlushTake t k n p l newest free = tt
-said (FlushRead m j) t k n p l newest free = read-said m j p (ltb j p) refl
-said (FlushFree m) t k n p l newest free = free-said m p k n t (eqb m 0) refl
-said (OnTime y) t k n p l newest free = tt
-said (ReadEnter g) t k n p l newest free = tt
-said (ReadStand g c) t k n p l newest free = tt
-said (GetShow r) t k n p l newest free = tt
+said Idle t k n p l newest free rows = tt
+said (PutPublish r x) t k n p l newest free rows = either p (eqb n 0) _ _ tt tt
+said (PutStamp r c) t k n p l newest free rows = tt
+said (PutHandIn r c) t k n p l newest free rows = tt
+said FlushTake t k n p l newest free rows = tt
+said (FlushRead m j) t k n p l newest free rows = read-said m j p (ltb j p) refl
+said (FlushFree m) t k n p l newest free rows = free-said m p k n t (eqb m 0) refl
+said (OnTime y) t k n p l newest free rows = tt
+said (ReadEnter g) t k n p l newest free rows = tt
+said (ReadStand g c) t k n p l newest free rows = tt
+said (GetShow r) t k n p l newest free rows = tt

@@ -1,22 +1,28 @@
--- The steps that are done at once: put (1) and (2), read, get and flush (5); open and close are in announcing/specs/Announcing.antt. Each is
+-- The steps that are done at once: put (1) and (2), read, total, get and flush (5); open and close are in announcing/specs/Announcing.antt. Each is
 -- the model's step of the same name (model/specs/Steps.antt) in this code's types, on the parts of memory that it uses. The other steps of a
 -- flush and put (3) also move pools and times; here they are only named (`Next`), and flush/specs/Flush.antt has what they do.
 use mathlib.Core.Bool.{cond}
 use mathlib.Core.List.{List}
-use Prim.Native.Nat.{ℕ, _-_}
+use Prim.Native.Nat.{ℕ, _+_, _-_}
 use lib.Dec.{ltb, leb, eqb}
 use lib.ListN.{getD, set}
 use Rattle.model.specs.Store.{absent}
+use Rattle.model.specs.Rules.{twelveDigits}
+use Rattle.model.specs.Totals.{signOf, rowAt, goesOn}
 use Rattle.values.specs.declared.Reading.{Reading}
-use Rattle.values.specs.declared.Answer.the-variants.{Going, Value, Done, No}
+use Rattle.values.specs.declared.Answer.{Answer}
+use Rattle.values.specs.declared.Answer.the-variants.{Going, Value, Below, Done, No}
 use Rattle.slots.specs.declared.Slot.{Slot}
 use Rattle.arrays.specs.Arrays.{short}
 use Rattle.versions.specs.Versions.{slotAtIn, stampedIn, linkedIn}
 use Rattle.worker.specs.declared.Announced.{Announced}
 use Rattle.worker.specs.declared.Doing.{Doing}
 use Rattle.worker.specs.declared.Doing.the-variants.{Idle, PutPublish, PutStamp, PutHandIn, FlushTake, FlushRead, FlushFree, OnTime, ReadEnter, ReadStand, GetShow}
+use Rattle.worker.specs.declared.Purpose.{Purpose}
+use Rattle.worker.specs.declared.Purpose.the-variants.{Single, Totaling}
 use Rattle.worker.specs.declared.Goal.{Goal}
 use Rattle.worker.specs.Rep.{timeOf}
+use Rattle.totals.specs.Rows.{goalIn, addedTo}
 use Rattle.announcing.specs.declared.Outcome.{Outcome}
 use Rattle.announcing.specs.Announcing.{outcomeOf, timeStepOf}
 use Rattle.step.specs.declared.Next.{Next}
@@ -66,7 +72,7 @@ putStampStep r c t k n l newest =
     }
 
 ------------------------------------------------------------------------
--- Read, get
+-- Read, total, get. The rows are those of the list of totals.
 
 -- Read (1) H5.36: the register is stamped, and the read stands on its newest version.
 unfoldable pub readEnterStep : Goal → Announced → ℕ → ℕ → List Slot → List ℕ → Stepped
@@ -78,11 +84,33 @@ readEnterStep g t k n l newest =
       newest = newest;
     }
 
--- Read (2) H5.37: with a low that is at most the worker's time, the value there is the answer; else the read goes to the older neighbour.
-unfoldable pub readStandStep : Goal → ℕ → Announced → ℕ → ℕ → List Slot → Outcome
-readStandStep g c t k n l =
+-- H12.8: what a total answers with the sums of all its rows: what was added less what was subtracted
+abbrev pub signedOf : ℕ → ℕ → Answer
+signedOf plus minus = cond (leb minus plus) (Value (record { count = plus - minus })) (Below (record { count = minus - plus }))
+
+-- H12.6: a total found the value x for row i. H12.9: refusal 18 where x has more than twelve digits. H12.7: the next row of the group is read as
+-- this one was; behind the last one the sum is the answer.
+unfoldable pub totalFoundOf : ℕ → ℕ → ℕ → ℕ → ℕ → Announced → ℕ → ℕ → List ℕ → Outcome
+totalFoundOf g i plus minus x t k n rows =
+    let adds = eqb (signOf (rowAt rows i)) 0 in
+    let plus′ = addedTo plus (cond adds x 0) in
+    let minus′ = addedTo minus (cond adds 0 x) in
+    let next = outcomeOf (ReadEnter (goalIn rows g (i + 1) plus′ minus′)) t k n Going in
+    let last = outcomeOf Idle t k n (signedOf plus′ minus′) in
+    cond (leb x twelveDigits) (cond (goesOn rows g i) next last) (outcomeOf Idle t k n (No 18))
+
+-- what follows where the version that the worker's time needs has the reading x
+abbrev pub foundOf : Purpose → Reading → Announced → ℕ → ℕ → List ℕ → Outcome
+foundOf Single x t k n rows = outcomeOf Idle t k n (Value x)
+foundOf (Totaling g i plus minus) x t k n rows = totalFoundOf g i plus minus (x .count) t k n rows
+
+-- Read (2) H5.37: with a low that is at most the worker's time, the value there is found, which is a read's answer; else the read goes to the
+-- older neighbour.
+unfoldable pub readStandStep : Goal → ℕ → Announced → ℕ → ℕ → List Slot → List ℕ → Outcome
+readStandStep g c t k n l rows =
     let v = slotAtIn l c in
-    cond (leb (v .low) (timeOf t)) (outcomeOf Idle t k n (Value (v .value))) (outcomeOf (ReadStand g (short (v .older))) t k n Going)
+    let on = outcomeOf (ReadStand g (short (v .older))) t k n Going in
+    cond (leb (v .low) (timeOf t)) (foundOf (g .purpose) (v .value) t k n rows) on
 
 -- Get, H5.39: the register is stamped, and the newest version's value is the answer.
 unfoldable pub getShowStep : ℕ → Announced → ℕ → ℕ → List Slot → List ℕ → Stepped
@@ -94,7 +122,8 @@ getShowStep r t k n l newest =
     }
 
 ------------------------------------------------------------------------
--- One step of a worker at the place given, with the announced time t, of p workers. An idle worker has none: refusal 11.
+-- One step of a worker at the place given, with the announced time t, of p workers; the last list is that of the rows of totals. An idle worker has
+-- none: refusal 11.
 
 -- flush (2) while times are left to read, then (3)
 abbrev pub readOrSplit : ℕ → ℕ → ℕ → Next
@@ -104,15 +133,15 @@ readOrSplit m j p = cond (ltb j p) (Read m j) (Split m)
 abbrev pub freeOrDone : ℕ → Announced → ℕ → ℕ → Next
 freeOrDone m t k n = cond (eqb m 0) (Taken (outcomeOf Idle t k n Done)) (Free m)
 
-unfoldable pub stepOf : Doing → Announced → ℕ → ℕ → ℕ → List Slot → List ℕ → List ℕ → Stepped
-stepOf Idle t k n p l newest free = stillAt (outcomeOf Idle t k n (No 11)) l newest
-stepOf (PutPublish r x) t k n p l newest free = putPublishStep r x t k n l newest free
-stepOf (PutStamp r c) t k n p l newest free = putStampStep r c t k n l newest
-stepOf (PutHandIn r c) t k n p l newest free = record { next = HandIn c; row = l; newest = newest }
-stepOf FlushTake t k n p l newest free = record { next = Take; row = l; newest = newest }
-stepOf (FlushRead m j) t k n p l newest free = record { next = readOrSplit m j p; row = l; newest = newest }
-stepOf (FlushFree m) t k n p l newest free = record { next = freeOrDone m t k n; row = l; newest = newest }
-stepOf (OnTime y) t k n p l newest free = stillAt (timeStepOf y t k n) l newest
-stepOf (ReadEnter g) t k n p l newest free = readEnterStep g t k n l newest
-stepOf (ReadStand g c) t k n p l newest free = stillAt (readStandStep g c t k n l) l newest
-stepOf (GetShow r) t k n p l newest free = getShowStep r t k n l newest
+unfoldable pub stepOf : Doing → Announced → ℕ → ℕ → ℕ → List Slot → List ℕ → List ℕ → List ℕ → Stepped
+stepOf Idle t k n p l newest free rows = stillAt (outcomeOf Idle t k n (No 11)) l newest
+stepOf (PutPublish r x) t k n p l newest free rows = putPublishStep r x t k n l newest free
+stepOf (PutStamp r c) t k n p l newest free rows = putStampStep r c t k n l newest
+stepOf (PutHandIn r c) t k n p l newest free rows = record { next = HandIn c; row = l; newest = newest }
+stepOf FlushTake t k n p l newest free rows = record { next = Take; row = l; newest = newest }
+stepOf (FlushRead m j) t k n p l newest free rows = record { next = readOrSplit m j p; row = l; newest = newest }
+stepOf (FlushFree m) t k n p l newest free rows = record { next = freeOrDone m t k n; row = l; newest = newest }
+stepOf (OnTime y) t k n p l newest free rows = stillAt (timeStepOf y t k n) l newest
+stepOf (ReadEnter g) t k n p l newest free rows = readEnterStep g t k n l newest
+stepOf (ReadStand g c) t k n p l newest free rows = stillAt (readStandStep g c t k n l rows) l newest
+stepOf (GetShow r) t k n p l newest free rows = getShowStep r t k n l newest

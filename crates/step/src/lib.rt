@@ -1,14 +1,17 @@
 // One step of a worker: the place is taken apart once, here. Steps on slots, on the clock and on the announced time are done at once; put (3)
 // and flush (1) to (4), which move pools, times and readers, are named for the caller.
 ghost use mathlib.Core.Path.{_≡_};
+ghost use mathlib.Core.Bool.{cond};
+ghost use lib.ListN.{take};
 ghost use Rattle.versions.specs.Versions.{rowOf};
-ghost use Rattle.step.specs.Step.{newestAt, nextFree, putPublishStep, putStampStep, readEnterStep, readStandStep, getShowStep, readOrSplit, freeOrDone, stepOf};
+ghost use Rattle.step.specs.Step.{newestAt, nextFree, putPublishStep, putStampStep, readEnterStep, signedOf, totalFoundOf, foundOf, readStandStep, getShowStep, readOrSplit, freeOrDone, stepOf};
 use announcing::Outcome;
 use values::Answer;
 use values::Reading;
 use worker::Announced;
 use worker::Doing;
 use worker::Goal;
+use worker::Purpose;
 
 // A step that is taken, or one that is still to do: put (3) of a covered version; flush (1); (2), of a merged list with so many times read;
 // (3), of a merged list; (4), with so many ranges left.
@@ -125,6 +128,83 @@ fn read_enter(
     Next::Taken(announcing::outcome_of(place, t, clock, n, Answer::Going))
 }
 
+// What a total answers with the sums of all its rows.
+fn signed(plus: u64, minus: u64) -> Answer
+    ensures { λ r. ⌜ r ≡ signedOf plus minus ⌝ }
+{
+    if minus <= plus {
+        return Answer::Value(Reading {
+            count: plus - minus,
+        });
+    }
+    Answer::Below(Reading {
+        count: minus - plus,
+    })
+}
+
+// The first number, or else the second.
+fn either(first: bool, x: u64, y: u64) -> u64
+    ensures { λ r. ⌜ r ≡ cond first x y ⌝ }
+{
+    if first {
+        return x;
+    }
+    y
+}
+
+// A total that found the value x for row i.
+fn total_found(
+    group: u16,
+    i: u16,
+    plus: u64,
+    minus: u64,
+    x: u64,
+    t: Announced,
+    clock: u32,
+    n: usize,
+    rows: &[u32; 1024],
+    listed: usize,
+) -> Outcome
+    ensures { λ r. ⌜ r ≡ totalFoundOf group i plus minus x t clock n (take listed (now (rows .entry))) ⌝ }
+{
+    if x <= 999999999999 {
+        let adds = totals::is_plus(totals::row_at(rows, listed, wide(i)));
+        let up = totals::added(plus, either(adds, x, 0));
+        let down = totals::added(minus, either(adds, 0, x));
+        if totals::goes_on(rows, listed, group, i) {
+            let goal = totals::goal_at(rows, listed, group, wide(i) + 1, up, down);
+            let place = Doing::ReadEnter { goal };
+            return announcing::outcome_of(place, t, clock, n, Answer::Going);
+        }
+        let answer = signed(up, down);
+        return announcing::outcome_of(Doing::Idle, t, clock, n, answer);
+    }
+    announcing::outcome_of(Doing::Idle, t, clock, n, Answer::No(18))
+}
+
+// What follows where the version that the worker's time needs has the reading x.
+fn found(
+    purpose: Purpose,
+    x: Reading,
+    t: Announced,
+    clock: u32,
+    n: usize,
+    rows: &[u32; 1024],
+    listed: usize,
+) -> Outcome
+    ensures { λ r. ⌜ r ≡ foundOf purpose x t clock n (take listed (now (rows .entry))) ⌝ }
+{
+    match purpose {
+        Purpose::Single => announcing::outcome_of(Doing::Idle, t, clock, n, Answer::Value(x)),
+        Purpose::Totaling {
+            group,
+            row,
+            plus,
+            minus,
+        } => total_found(group, row, plus, minus, x.count, t, clock, n, rows, listed),
+    }
+}
+
 // Read (2).
 fn read_stand(
     row: &[[u64; 5]],
@@ -133,13 +213,18 @@ fn read_stand(
     t: Announced,
     clock: u32,
     n: usize,
+    rows: &[u32; 1024],
+    listed: usize,
 ) -> Outcome
-    ensures { λ r. ⌜ r ≡ readStandStep goal slot t clock n (rowOf (now (row .entry))) ⌝ }
+    ensures { λ r. ⌜
+        r ≡ readStandStep goal slot t clock n (rowOf (now (row .entry))) (take listed (now (rows .entry)))
+        ⌝ }
 {
     let v = versions::load(row, wide(slot));
     if v.low <= worker::time_of(t) {
+        let purpose = goal.purpose;
         let x = v.value;
-        return announcing::outcome_of(Doing::Idle, t, clock, n, Answer::Value(x));
+        return found(purpose, x, t, clock, n, rows, listed);
     }
     let older = (v.older % 65536) as u16;
     let place = Doing::ReadStand { goal, slot: older };
@@ -187,7 +272,7 @@ fn free_or_done(left: u16, t: Announced, clock: u32, n: usize) -> Next
     Next::Free { left }
 }
 
-// A step of a worker at the place d with the announced time t, of p workers, with n slots free.
+// A step of a worker at the place d with the announced time t, of p workers, with n slots free, and so many rows of totals.
 pub fn step(
     row: &mut [[u64; 5]],
     newest: &mut [u16; 256],
@@ -197,10 +282,12 @@ pub fn step(
     clock: u32,
     n: usize,
     p: usize,
+    rows: &[u32; 1024],
+    listed: usize,
 ) -> Next
     ensures { λ r. ⌜
         record { next = r; row = rowOf (now (row .exit)); newest = now (newest .exit) }
-        ≡ stepOf d t clock n p (rowOf (now (row .entry))) (now (newest .entry)) (now (free .entry))
+        ≡ stepOf d t clock n p (rowOf (now (row .entry))) (now (newest .entry)) (now (free .entry)) (take listed (now (rows .entry)))
         ⌝ }
 {
     match d {
@@ -220,7 +307,9 @@ pub fn step(
         Doing::FlushFree { left } => free_or_done(left, t, clock, n),
         Doing::OnTime(y) => Next::Taken(announcing::time_step(y, t, clock, n)),
         Doing::ReadEnter { goal } => read_enter(row, newest, goal, t, clock, n),
-        Doing::ReadStand { goal, slot } => Next::Taken(read_stand(row, goal, slot, t, clock, n)),
+        Doing::ReadStand { goal, slot } => {
+            Next::Taken(read_stand(row, goal, slot, t, clock, n, rows, listed))
+        }
         Doing::GetShow { register } => get_show(row, newest, register, t, clock, n),
     }
 }

@@ -3,7 +3,7 @@ use Rattle.model.specs.Store as Model
 use Rattle.model.specs.Answer as Model·Answer
 use Rattle.values.specs.declared.Reading.{Reading}
 use Rattle.values.specs.declared.Answer.{Answer}
-use Rattle.values.specs.declared.Answer.the-variants.{Ok, Going, Freed, At, Value, Done, No}
+use Rattle.values.specs.declared.Answer.the-variants.{Ok, Going, Freed, At, Value, Below, Done, No}
 
 abbrev pub readingOf : Reading → Model.Reading
 readingOf x = record { count = x .count }
@@ -15,5 +15,6 @@ answerOf Going = Model·Answer.Going
 answerOf (Freed c) = Model·Answer.Freed c
 answerOf (At t) = Model·Answer.At t
 answerOf (Value x) = Model·Answer.Value (readingOf x)
+answerOf (Below x) = Model·Answer.Below (readingOf x)
 answerOf Done = Model·Answer.Done
 answerOf (No k) = Model·Answer.No k

@@ -12,6 +12,8 @@ pub enum Answer {
     Freed(u16),
     At(u32),
     Value(Reading),
+    // a total below zero, by so much
+    Below(Reading),
     Done,
     No(u8),
 }

@@ -7,21 +7,28 @@ use Rattle.worker.specs.declared.Named.{Named}
 use Rattle.worker.specs.declared.Named.the-variants.{Nothing, Is}
 use Rattle.worker.specs.declared.Stance.{Stance}
 use Rattle.worker.specs.declared.Stance.the-variants.{Nowhere, StandsOn}
+use Rattle.worker.specs.declared.Purpose.the-variants.{Single}
+use Rattle.worker.specs.declared.Goal.{Goal}
 use Rattle.worker.specs.declared.Facts.{Facts}
 
--- a place that names this register, slot, list of so many ranges and count of times
-abbrev pub naming : Bool → Named → Named → Named → ℕ → Stance → Facts
-naming i r c m j y = record { idle = i; register = r; slot = c; ranges = m; read = j; stance = y }
+-- a place that names this register, slot, list of so many ranges and count of times, and reads nothing
+abbrev pub naming : Bool → Named → Named → Named → ℕ → Facts
+naming i r c m j = record { idle = i; register = r; slot = c; ranges = m; read = j; stance = Nowhere; purpose = Single }
+
+-- the place of a read or a total
+abbrev pub reading : Goal → Named → Stance → Facts
+reading g c y =
+    record { idle = false; register = Is (g .register); slot = c; ranges = Nothing; read = 0; stance = y; purpose = g .purpose }
 
 abbrev pub aboutOf : Doing → Facts
-aboutOf Idle = naming true Nothing Nothing Nothing 0 Nowhere
-aboutOf (PutPublish r x) = naming false (Is r) Nothing Nothing 0 Nowhere
-aboutOf (PutStamp r c) = naming false (Is r) (Is c) Nothing 0 Nowhere
-aboutOf (PutHandIn r c) = naming false (Is r) (Is c) Nothing 0 Nowhere
-aboutOf FlushTake = naming false Nothing Nothing Nothing 0 Nowhere
-aboutOf (FlushRead m j) = naming false Nothing Nothing (Is m) j Nowhere
-aboutOf (FlushFree m) = naming false Nothing Nothing (Is m) 0 Nowhere
-aboutOf (OnTime y) = naming false Nothing Nothing Nothing 0 Nowhere
-aboutOf (ReadEnter g) = naming false (Is (g .register)) Nothing Nothing 0 Nowhere
-aboutOf (ReadStand g c) = naming false (Is (g .register)) (Is c) Nothing 0 (StandsOn g c)
-aboutOf (GetShow r) = naming false (Is r) Nothing Nothing 0 Nowhere
+aboutOf Idle = naming true Nothing Nothing Nothing 0
+aboutOf (PutPublish r x) = naming false (Is r) Nothing Nothing 0
+aboutOf (PutStamp r c) = naming false (Is r) (Is c) Nothing 0
+aboutOf (PutHandIn r c) = naming false (Is r) (Is c) Nothing 0
+aboutOf FlushTake = naming false Nothing Nothing Nothing 0
+aboutOf (FlushRead m j) = naming false Nothing Nothing (Is m) j
+aboutOf (FlushFree m) = naming false Nothing Nothing (Is m) 0
+aboutOf (OnTime y) = naming false Nothing Nothing Nothing 0
+aboutOf (ReadEnter g) = reading g Nothing Nowhere
+aboutOf (ReadStand g c) = reading g (Is c) (StandsOn g c)
+aboutOf (GetShow r) = naming false (Is r) Nothing Nothing 0

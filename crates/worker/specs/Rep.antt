@@ -28,6 +28,8 @@ use Rattle.worker.specs.declared.Doing.the-variants.{
 }
 use Rattle.worker.specs.declared.TimeStep.{TimeStep}
 use Rattle.worker.specs.declared.TimeStep.the-variants.{OpenAnnounce, OpenPass, CloseWithdraw}
+use Rattle.worker.specs.declared.Purpose.{Purpose}
+use Rattle.worker.specs.declared.Purpose.the-variants.{Single, Totaling}
 use Rattle.worker.specs.declared.Goal.{Goal}
 use Rattle.worker.specs.declared.Worker.{Worker}
 
@@ -62,8 +64,12 @@ timeStepRep Model.OpenAnnounce = OpenAnnounce
 timeStepRep Model.OpenPass = OpenPass
 timeStepRep Model.CloseWithdraw = CloseWithdraw
 
+abbrev pub purposeRep : Model.Purpose → Purpose
+purposeRep Model.Single = Single
+purposeRep (Model.Totaling g i y) = Totaling g i (y .plus) (y .minus)
+
 abbrev pub goalRep : Model.Goal → Goal
-goalRep g = record { register = g .register }
+goalRep g = record { register = g .register; purpose = purposeRep (g .purpose) }
 
 -- of a merged list and of the needless ranges only how many they are
 abbrev pub doingRep : Model.Doing → Doing

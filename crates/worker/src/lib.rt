@@ -3,7 +3,7 @@ ghost use mathlib.Core.Path.{_≡_};
 ghost use Rattle.model.specs.Store.{startWorker};
 ghost use Rattle.worker.specs.Rep.{timeOf, workerRep};
 ghost use Rattle.worker.specs.Pool.{placed, oneMore};
-ghost use Rattle.worker.specs.About.{naming, aboutOf};
+ghost use Rattle.worker.specs.About.{naming, reading, aboutOf};
 use values::Reading;
 
 // H1.19: a local pool, of at most 64 ranges: how many, and the slot, the low and the high of each.
@@ -34,9 +34,22 @@ pub enum TimeStep {
     CloseWithdraw,
 }
 
-// What a read is for: the register that it reads.
+// What a value is read for: it is the answer; or it goes into a total: the group, the index of the row in the list, and the sums of the
+// rows before it.
+pub enum Purpose {
+    Single,
+    Totaling {
+        group: u16,
+        row: u16,
+        plus: u64,
+        minus: u64,
+    },
+}
+
+// What a read, or a total, is at: the register that it reads, and what for.
 pub struct Goal {
     pub register: u16,
+    pub purpose: Purpose,
 }
 
 // What a worker is doing and its place in it. A place is named after the step that comes next.
@@ -78,6 +91,8 @@ pub struct Facts {
     // how many times were read
     pub read: u8,
     pub stance: Stance,
+    // what it reads for
+    pub purpose: Purpose,
 }
 
 // A worker's record.
@@ -100,9 +115,9 @@ impl Worker {
     }
 }
 
-// A place that names this much.
-fn names(idle: bool, register: Named, slot: Named, ranges: Named, read: u8, stance: Stance) -> Facts
-    ensures { λ r. ⌜ r ≡ naming idle register slot ranges read stance ⌝ }
+// A place that names this much and reads nothing.
+fn names(idle: bool, register: Named, slot: Named, ranges: Named, read: u8) -> Facts
+    ensures { λ r. ⌜ r ≡ naming idle register slot ranges read ⌝ }
 {
     Facts {
         idle,
@@ -110,7 +125,24 @@ fn names(idle: bool, register: Named, slot: Named, ranges: Named, read: u8, stan
         slot,
         ranges,
         read,
+        stance: Stance::Nowhere,
+        purpose: Purpose::Single,
+    }
+}
+
+// The place of a read: its slot, if it has one, and where it stands.
+fn reads(goal: Goal, slot: Named, stance: Stance) -> Facts
+    ensures { λ r. ⌜ r ≡ reading goal slot stance ⌝ }
+{
+    let purpose = goal.purpose;
+    Facts {
+        idle: false,
+        register: Named::Is(goal.register),
+        slot,
+        ranges: Named::Nothing,
+        read: 0,
         stance,
+        purpose,
     }
 }
 
@@ -119,57 +151,27 @@ pub fn about(d: Doing) -> Facts
     ensures { λ r. ⌜ r ≡ aboutOf d ⌝ }
 {
     let none = Named::Nothing;
-    let nowhere = Stance::Nowhere;
     match d {
-        Doing::Idle => names(true, none, none, none, 0, nowhere),
+        Doing::Idle => names(true, none, none, none, 0),
         Doing::PutPublish {
             register,
             reading: _,
-        } => names(false, Named::Is(register), none, none, 0, nowhere),
+        } => names(false, Named::Is(register), none, none, 0),
         Doing::PutStamp { register, covered } => {
-            names(
-                false,
-                Named::Is(register),
-                Named::Is(covered),
-                none,
-                0,
-                nowhere,
-            )
+            names(false, Named::Is(register), Named::Is(covered), none, 0)
         }
         Doing::PutHandIn { register, covered } => {
-            names(
-                false,
-                Named::Is(register),
-                Named::Is(covered),
-                none,
-                0,
-                nowhere,
-            )
+            names(false, Named::Is(register), Named::Is(covered), none, 0)
         }
-        Doing::FlushTake => names(false, none, none, none, 0, nowhere),
-        Doing::FlushRead { merged, read } => names(
-            false,
-            none,
-            none,
-            Named::Is(merged),
-            read,
-            nowhere,
-        ),
-        Doing::FlushFree { left } => names(false, none, none, Named::Is(left), 0, nowhere),
-        Doing::OnTime(_) => names(false, none, none, none, 0, nowhere),
-        Doing::ReadEnter { goal } => names(false, Named::Is(goal.register), none, none, 0, nowhere),
+        Doing::FlushTake => names(false, none, none, none, 0),
+        Doing::FlushRead { merged, read } => names(false, none, none, Named::Is(merged), read),
+        Doing::FlushFree { left } => names(false, none, none, Named::Is(left), 0),
+        Doing::OnTime(_) => names(false, none, none, none, 0),
+        Doing::ReadEnter { goal } => reads(goal, none, Stance::Nowhere),
         Doing::ReadStand { goal, slot } => {
-            let on = Stance::StandsOn { goal, slot };
-            names(
-                false,
-                Named::Is(goal.register),
-                Named::Is(slot),
-                none,
-                0,
-                on,
-            )
+            reads(goal, Named::Is(slot), Stance::StandsOn { goal, slot })
         }
-        Doing::GetShow { register } => names(false, Named::Is(register), none, none, 0, nowhere),
+        Doing::GetShow { register } => names(false, Named::Is(register), none, none, 0),
     }
 }
 

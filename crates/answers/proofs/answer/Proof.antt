@@ -1,4 +1,4 @@
--- `answer` meets its contract: each arm rewrites with its kind, and in the last the kind is none of the six before.
+-- `answer` meets its contract: each arm rewrites with its kind, and in the last the kind is none of those before.
 use Prim.Native.Nat.{zero-le}
 use Rattle.answers.proofs.Refusals.{past-three, refusal-past}
 use borrow.Author.Needs.{needs}
@@ -11,8 +11,8 @@ cast-t5 c = search needs
 cast-t7 : tie.Need-cast-t7
 cast-t7 c = search needs
 
-cast-t10 : tie.Need-cast-t10
-cast-t10 c = search needs
+cast-t11 : tie.Need-cast-t11
+cast-t11 c = search needs
 
 returns : tie.Need-returns
 returns c = search needs
@@ -33,9 +33,13 @@ returns-6 : tie.Need-returns-6
 returns-6 c = search needs
 
 returns-7 : tie.Need-returns-7
-returns-7 c =
-    let r = c .match .rest in refusal-past _ _ (past-three 3 (past-three 0 zero-le (r .0 .0 .0 .0 .0 .1) (r .0 .0 .0 .0 .1) (r .0 .0 .0 .1))
-    (r .0 .0 .1) (r .0 .1) (r .1))
+returns-7 c = rw (c .match .keys7)
+
+returns-8 : tie.Need-returns-8
+returns-8 c =
+    let r = c .match .rest in
+    let a = past-three 0 zero-le (r .0 .0 .0 .0 .0 .0 .1) (r .0 .0 .0 .0 .0 .1) (r .0 .0 .0 .0 .1) in
+    refusal-past _ _ (past-three 3 a (r .0 .0 .0 .1) (r .0 .0 .1) (r .0 .1)) (r .1)
 
 pub answer-spec : {M : Type 1} → statement M
 answer-spec =
@@ -43,11 +47,12 @@ answer-spec =
     (tie.spec
     cast-t5
     cast-t7
-    cast-t10
+    cast-t11
     returns
     returns-2
     returns-3
     returns-4
     returns-5
     returns-6
-    returns-7)
+    returns-7
+    returns-8)

@@ -1,10 +1,17 @@
 -- `make` meets its contract: each part is what the function that writes it ensures.
-use mathlib.Core.Path.{ap}
+use mathlib.Core.Path.{ap, _∙_}
+use mathlib.Core.List.{List}
+use Prim.Native.Nat.{ℕ, _/_}
+use lib.ListN.{length}
 use native.Mathlib.Omega.{arith}
 use borrow.Author.Needs.{needs}
 use Rattle.state.specs.declared.Hub.{Hub}
+use Rattle.state.specs.State.{freshHub}
 use Rattle.core.proofs.make.Statement.{statement}
 use Rattle.core.proofs.make.Tie as tie
+
+fill-rows-requires : tie.Need-fill-rows-requires
+fill-rows-requires c κs = search needs
 
 fresh-requires : tie.Need-fresh-requires
 fresh-requires c κs = search needs
@@ -26,12 +33,18 @@ returns c =
     let w = c .before in
     let f = w .before .before in
     let n = f .before .before in
-    (n .before .before .fresh .ensures, (w .set-up .ensures, (n .fill-newest .ensures, f .fill-free .ensures)))
+    let e = n .before .before in
+    let rows = e .before in
+    let a = rows .before .before .before .args in (
+      e .fresh .ensures ∙ ap (λ (l : List ℕ). freshHub (a .p) (a .v) (a .n) (a .clock) (length (a .list .now) / 4) l) (rows .fill-rows .ensures),
+      (w .set-up .ensures, (n .fill-newest .ensures, f .fill-free .ensures)),
+    )
 
 pub make-spec : {M : Type 1} → statement M
 make-spec =
     tie.close
     (tie.spec
+    fill-rows-requires
     fresh-requires
     fill-newest-requires
     fill-free-requires

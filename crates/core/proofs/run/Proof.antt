@@ -19,21 +19,21 @@ use Rattle.core.proofs.run.Statement.{statement}
 use Rattle.core.proofs.run.Tie as tie
 
 abbrev Inv-loop2 : tie.InvT-loop2
-Inv-loop2 row bytes count kinds numbers newest free queue lens merged linked up hub₀ window needed local joined k w left f j₀ hub j =
+Inv-loop2 row list bytes count kinds numbers newest free queue lens merged linked up hub₀ window needed local joined k w left f j₀ hub j =
     (j ≤ 16) × (hub ≡ withWorkersIn hub₀ (mapped (offWorker (f .slot) (f .older)) j (hub₀ .workers))) × (length (hub₀ .workers) ≡ 16)
 
 abbrev μ-loop2 : tie.MeasureT-loop2
-μ-loop2 row bytes count kinds numbers newest free queue lens merged linked up hub₀ window needed local joined k w left f j₀ hub j =
+μ-loop2 row list bytes count kinds numbers newest free queue lens merged linked up hub₀ window needed local joined k w left f j₀ hub j =
     16 - j
 
 abbrev Inv-loop : tie.InvT-loop
-Inv-loop row₀ bytes count kinds₀ numbers₀ newest₀ free₀ queue₀ lens₀ merged₀ linked up₀ hub₀ window₀ last₀ needed₀ local₀ joined₀ k₀
+Inv-loop row₀ list bytes count kinds₀ numbers₀ newest₀ free₀ queue₀ lens₀ merged₀ linked up₀ hub₀ window₀ last₀ needed₀ local₀ joined₀ k₀
     row kinds numbers newest free queue lens merged up hub window last needed local joined k =
-    SoFar (stateOf up₀ (withWindowIn hub₀ window₀) row₀ newest₀ free₀ queue₀ lens₀ merged₀ kinds₀ numbers₀ last₀) bytes count k
+    SoFar (stateOf up₀ (withWindowIn hub₀ window₀) row₀ newest₀ free₀ queue₀ lens₀ merged₀ kinds₀ numbers₀ last₀) list bytes count k
     (stateOf up (withWindowIn hub window) row newest free queue lens merged kinds numbers last)
 
 abbrev μ-loop : tie.MeasureT-loop
-μ-loop row₀ bytes count kinds₀ numbers₀ newest₀ free₀ queue₀ lens₀ merged₀ linked up₀ hub₀ window₀ last₀ needed₀ local₀ joined₀ k₀
+μ-loop row₀ list bytes count kinds₀ numbers₀ newest₀ free₀ queue₀ lens₀ merged₀ linked up₀ hub₀ window₀ last₀ needed₀ local₀ joined₀ k₀
     row kinds numbers newest free queue lens merged up hub window last needed local joined k =
     count - k
 
@@ -50,7 +50,7 @@ ready-requires c κs = tt
 loop-holds : tie.Need-loop-holds Inv-loop2 μ-loop2 Inv-loop μ-loop
 unfolding after
 loop-holds c =
-    let A = c .before .before .before .before .before .before .before .before .before .before .before .before in
+    let A = c .before .before .before .before .before .before .before .before .before .before .before .before .before in
     record {
       inside = omega arith;
       state = refl;
@@ -87,13 +87,15 @@ put-answer-requires c κs = tt
 
 add-k : tie.Need-add-k Inv-loop2 μ-loop2 Inv-loop μ-loop
 add-k c =
-    let I = c .before .before .before .before .before .before .before .before .before .before .before .before .before .before .before in
-    let A = I .before .before .before .before .before .before .before .before .before .before .before .before .before .before in
+    let I₀ = c .before .before .before .before .before .before .before .before in
+    let I = I₀ .before .before .before .before .before .before .before .before .before in
+    let A = I .before .before .before .before .before .before .before .before .before .before .before .before .before .before .before in
     omega (arith, I .loop-test .taken, A .fits)
 
 loop-less : tie.Need-loop-less Inv-loop2 μ-loop2 Inv-loop μ-loop
 loop-less c =
-    let I = c .before .before .before .before .before .before .before .before .before .before .before .before .before .before .before in
+    let I₀ = c .before .before .before .before .before .before .before .before in
+    let I = I₀ .before .before .before .before .before .before .before .before .before in
     omega (arith, I .loop-test .taken)
 
 loop-again : tie.Need-loop-again Inv-loop2 μ-loop2 Inv-loop μ-loop
@@ -101,10 +103,12 @@ loop-again c =
     let P = c .before .before .before .before in
     let K = P .before .before .before .before in
     let G = K .before .before in
-    on-refuse (deciding (G .before .before .before .before .before .before .loop .row) (G .before .before .before .before .before .before .loop .inv)
-    (G .before .before .before .before .before .loop-test .taken)
-    (G .before .decode .ensures ∙ ap Model.decode (G .before .before .before .before .record-at .ensures))
-    (named-by (G .before .before .before .worker-byte .ensures .0) (G .before .before .before .before .record-at .ensures)) (G .gate-for .ensures))
+    let G₁ = G .before .before .before in
+    let G₂ = G₁ .before .before .before in
+    on-refuse (deciding (G₂ .before .before .loop .row) (G₂ .before .before .loop .inv)
+    (G₂ .before .loop-test .taken)
+    (G₁ .decode .ensures ∙ ap Model.decode (G₂ .record-at .ensures))
+    (named-by (G₁ .before .before .worker-byte .ensures .0) (G₂ .record-at .ensures)) (G .gate-for .ensures))
     _ _ _ _ (K .g .given .1) (P .put-answer .ensures)
 
 enum-known-g-2 : tie.Need-enum-known-g-2 Inv-loop2 μ-loop2 Inv-loop μ-loop
@@ -119,14 +123,14 @@ put-answer-requires-2 c κs = tt
 add-k-2 : tie.Need-add-k-2 Inv-loop2 μ-loop2 Inv-loop μ-loop
 add-k-2 c =
     let J = c .before .before .before .before .before .before .before .before .before .before in
-    let I = J .before .before .before .before .before .before .before .before .before .before .before in
-    let A = I .before .before .before .before .before .before .before .before .before .before .before .before .before .before in
+    let I = J .before .before .before .before .before .before .before .before .before .before .before .before .before in
+    let A = I .before .before .before .before .before .before .before .before .before .before .before .before .before .before .before in
     omega (arith, I .loop-test .taken, A .fits)
 
 loop-less-2 : tie.Need-loop-less-2 Inv-loop2 μ-loop2 Inv-loop μ-loop
 loop-less-2 c =
     let J = c .before .before .before .before .before .before .before .before .before .before in
-    let I = J .before .before .before .before .before .before .before .before .before .before .before in
+    let I = J .before .before .before .before .before .before .before .before .before .before .before .before .before in
     omega (arith, I .loop-test .taken)
 
 loop-again-2 : tie.Need-loop-again-2 Inv-loop2 μ-loop2 Inv-loop μ-loop
@@ -135,18 +139,20 @@ loop-again-2 c =
     let M = P .before .before .before .before .before in
     let K = M .before .before .before .before .before in
     let G = K .before .before in
-    on-make (deciding (G .before .before .before .before .before .before .loop .row) (G .before .before .before .before .before .before .loop .inv)
-    (G .before .before .before .before .before .loop-test .taken)
-    (G .before .decode .ensures ∙ ap Model.decode (G .before .before .before .before .record-at .ensures))
-    (named-by (G .before .before .before .worker-byte .ensures .0) (G .before .before .before .before .record-at .ensures)) (G .gate-for .ensures))
+    let G₁ = G .before .before .before in
+    let G₂ = G₁ .before .before .before in
+    on-make (deciding (G₂ .before .before .loop .row) (G₂ .before .before .loop .inv)
+    (G₂ .before .loop-test .taken)
+    (G₁ .decode .ensures ∙ ap Model.decode (G₂ .record-at .ensures))
+    (named-by (G₁ .before .before .worker-byte .ensures .0) (G₂ .record-at .ensures)) (G .gate-for .ensures))
     _ _ _ _ _ _ _ _ _ _ _ (K .g2 .given .1) (M .make .ensures .0) (M .make .ensures .1 .0) (M .make .ensures .1 .1 .0) (M .make .ensures .1 .1 .1)
     (P .put-answer2 .ensures)
 
 enum-known-g-3 : tie.Need-enum-known-g-3 Inv-loop2 μ-loop2 Inv-loop μ-loop
 enum-known-g-3 c = search needs
 
-mul-t96 : tie.Need-mul-t96 Inv-loop2 μ-loop2 Inv-loop μ-loop
-mul-t96 c = omega arith
+mul-t99 : tie.Need-mul-t99 Inv-loop2 μ-loop2 Inv-loop μ-loop
+mul-t99 c = omega arith
 
 element-set-from-hub : tie.Need-element-set-from-hub Inv-loop2 μ-loop2 Inv-loop μ-loop
 element-set-from-hub c = omega arith
@@ -157,14 +163,14 @@ put-answer-requires-3 c κs = tt
 add-k-3 : tie.Need-add-k-3 Inv-loop2 μ-loop2 Inv-loop μ-loop
 add-k-3 c =
     let J = c .before .before .before .before .before .before .before .before .before in
-    let I = J .before .before .before .before .before .before .before in
-    let A = I .before .before .before .before .before .before .before .before .before .before .before .before .before .before in
+    let I = J .before .before .before .before .before .before .before .before .before in
+    let A = I .before .before .before .before .before .before .before .before .before .before .before .before .before .before .before in
     omega (arith, I .loop-test .taken, A .fits)
 
 loop-less-3 : tie.Need-loop-less-3 Inv-loop2 μ-loop2 Inv-loop μ-loop
 loop-less-3 c =
     let J = c .before .before .before .before .before .before .before .before .before in
-    let I = J .before .before .before .before .before .before .before in
+    let I = J .before .before .before .before .before .before .before .before .before in
     omega (arith, I .loop-test .taken)
 
 loop-again-3 : tie.Need-loop-again-3 Inv-loop2 μ-loop2 Inv-loop μ-loop
@@ -172,10 +178,12 @@ loop-again-3 c =
     let P = c .before .before .before .before in
     let K = P .before .before .before .before .before in
     let G = K .before .before in
-    on-start (deciding (G .before .before .before .before .before .before .loop .row) (G .before .before .before .before .before .before .loop .inv)
-    (G .before .before .before .before .before .loop-test .taken)
-    (G .before .decode .ensures ∙ ap Model.decode (G .before .before .before .before .record-at .ensures))
-    (named-by (G .before .before .before .worker-byte .ensures .0) (G .before .before .before .before .record-at .ensures)) (G .gate-for .ensures))
+    let G₁ = G .before .before .before in
+    let G₂ = G₁ .before .before .before in
+    on-start (deciding (G₂ .before .before .loop .row) (G₂ .before .before .loop .inv)
+    (G₂ .before .loop-test .taken)
+    (G₁ .decode .ensures ∙ ap Model.decode (G₂ .record-at .ensures))
+    (named-by (G₁ .before .before .worker-byte .ensures .0) (G₂ .record-at .ensures)) (G .gate-for .ensures))
     _ _ _ _ _ (K .g3 .given .1) (P .put-answer3 .ensures)
 
 enum-told : tie.Need-enum-told Inv-loop2 μ-loop2 Inv-loop μ-loop
@@ -187,8 +195,8 @@ step-requires c κs = tt
 enum-known-s : tie.Need-enum-known-s Inv-loop2 μ-loop2 Inv-loop μ-loop
 enum-known-s c = search needs
 
-mul-t113 : tie.Need-mul-t113 Inv-loop2 μ-loop2 Inv-loop μ-loop
-mul-t113 c = omega arith
+mul-t118 : tie.Need-mul-t118 Inv-loop2 μ-loop2 Inv-loop μ-loop
+mul-t118 c = omega arith
 
 element-set-from-hub-2 : tie.Need-element-set-from-hub-2 Inv-loop2 μ-loop2 Inv-loop μ-loop
 element-set-from-hub-2 c = omega arith
@@ -199,14 +207,14 @@ put-answer-requires-4 c κs = tt
 add-k-4 : tie.Need-add-k-4 Inv-loop2 μ-loop2 Inv-loop μ-loop
 add-k-4 c =
     let J = c .before .before .before .before .before .before .before .before .before .before .before .before in
-    let I = J .before .before .before .before .before .before .before .before .before .before .before in
-    let A = I .before .before .before .before .before .before .before .before .before .before .before .before .before .before in
+    let I = J .before .before .before .before .before .before .before .before .before .before .before .before .before .before .before in
+    let A = I .before .before .before .before .before .before .before .before .before .before .before .before .before .before .before in
     omega (arith, I .loop-test .taken, A .fits)
 
 loop-less-4 : tie.Need-loop-less-4 Inv-loop2 μ-loop2 Inv-loop μ-loop
 loop-less-4 c =
     let J = c .before .before .before .before .before .before .before .before .before .before .before .before in
-    let I = J .before .before .before .before .before .before .before .before .before .before .before in
+    let I = J .before .before .before .before .before .before .before .before .before .before .before .before .before .before .before in
     omega (arith, I .loop-test .taken)
 
 loop-again-4 : tie.Need-loop-again-4 Inv-loop2 μ-loop2 Inv-loop μ-loop
@@ -214,12 +222,14 @@ loop-again-4 c =
     let P = c .before .before .before .before in
     let K = P .before .before .before .before .before in
     let T = K .before .before .before in
-    let E = T .before .before .before .before in
+    let E = T .before .before .before .before .before .before in
     let G = E .before .before in
-    on-taken (deciding (G .before .before .before .before .before .before .loop .row) (G .before .before .before .before .before .before .loop .inv)
-    (G .before .before .before .before .before .loop-test .taken)
-    (G .before .decode .ensures ∙ ap Model.decode (G .before .before .before .before .record-at .ensures))
-    (named-by (G .before .before .before .worker-byte .ensures .0) (G .before .before .before .before .record-at .ensures)) (G .gate-for .ensures))
+    let G₁ = G .before .before .before in
+    let G₂ = G₁ .before .before .before in
+    on-taken (deciding (G₂ .before .before .loop .row) (G₂ .before .before .loop .inv)
+    (G₂ .before .loop-test .taken)
+    (G₁ .decode .ensures ∙ ap Model.decode (G₂ .record-at .ensures))
+    (named-by (G₁ .before .before .worker-byte .ensures .0) (G₂ .record-at .ensures)) (G .gate-for .ensures))
     _ (E .enum-told .given .1) _ _ _ (T .step .ensures)
     _ _ _ _ (K .s .given .1) (P .put-answer4 .ensures)
 
@@ -244,8 +254,8 @@ put-time-requires c κs = tt
 put-time-requires-2 : tie.Need-put-time-requires-2 Inv-loop2 μ-loop2 Inv-loop μ-loop
 put-time-requires-2 c κs = tt
 
-mul-t120 : tie.Need-mul-t120 Inv-loop2 μ-loop2 Inv-loop μ-loop
-mul-t120 c = omega arith
+mul-t125 : tie.Need-mul-t125 Inv-loop2 μ-loop2 Inv-loop μ-loop
+mul-t125 c = omega arith
 
 element-set-from-hub-3 : tie.Need-element-set-from-hub-3 Inv-loop2 μ-loop2 Inv-loop μ-loop
 element-set-from-hub-3 c = omega arith
@@ -256,14 +266,16 @@ put-answer-requires-5 c κs = tt
 add-k-5 : tie.Need-add-k-5 Inv-loop2 μ-loop2 Inv-loop μ-loop
 add-k-5 c =
     let J = c .before .before .before .before .before .before .before .before .before .before .before .before .before .before .before .before in
-    let I = J .before .before .before .before .before .before .before .before .before .before .before .before .before .before .before .before in
-    let A = I .before .before .before .before .before .before .before .before .before .before .before .before .before .before in
+    let I₀ = J .before .before .before .before .before .before .before .before .before .before in
+    let I = I₀ .before .before .before .before .before .before .before .before .before .before in
+    let A = I .before .before .before .before .before .before .before .before .before .before .before .before .before .before .before in
     omega (arith, I .loop-test .taken, A .fits)
 
 loop-less-5 : tie.Need-loop-less-5 Inv-loop2 μ-loop2 Inv-loop μ-loop
 loop-less-5 c =
     let J = c .before .before .before .before .before .before .before .before .before .before .before .before .before .before .before .before in
-    let I = J .before .before .before .before .before .before .before .before .before .before .before .before .before .before .before .before in
+    let I₀ = J .before .before .before .before .before .before .before .before .before .before in
+    let I = I₀ .before .before .before .before .before .before .before .before .before .before in
     omega (arith, I .loop-test .taken)
 
 loop-again-5 : tie.Need-loop-again-5 Inv-loop2 μ-loop2 Inv-loop μ-loop
@@ -275,12 +287,14 @@ loop-again-5 c =
     let H = O .before .before in
     let K = H .before .before .before .before .before in
     let T = K .before .before .before in
-    let E = T .before .before .before .before in
+    let E = T .before .before .before .before .before .before in
     let G = E .before .before in
-    on-hand-in (deciding (G .before .before .before .before .before .before .loop .row) (G .before .before .before .before .before .before .loop .inv)
-    (G .before .before .before .before .before .loop-test .taken)
-    (G .before .decode .ensures ∙ ap Model.decode (G .before .before .before .before .record-at .ensures))
-    (named-by (G .before .before .before .worker-byte .ensures .0) (G .before .before .before .before .record-at .ensures)) (G .gate-for .ensures))
+    let G₁ = G .before .before .before in
+    let G₂ = G₁ .before .before .before in
+    on-hand-in (deciding (G₂ .before .before .loop .row) (G₂ .before .before .loop .inv)
+    (G₂ .before .loop-test .taken)
+    (G₁ .decode .ensures ∙ ap Model.decode (G₂ .record-at .ensures))
+    (named-by (G₁ .before .before .worker-byte .ensures .0) (G₂ .record-at .ensures)) (G .gate-for .ensures))
     _ (E .enum-told .given .1) _ _ _ (T .step .ensures)
     _ _ _ _ _ _ _ _ (K .s2 .given .1) (H .put-hand-in .ensures) (O .put-slot .ensures) (L .put-time .ensures) (U .put-time2 .ensures)
     (P .put-answer5 .ensures)
@@ -291,19 +305,21 @@ enum-told-2 c = search needs
 flush-take-requires : tie.Need-flush-take-requires Inv-loop2 μ-loop2 Inv-loop μ-loop
 flush-take-requires c κs =
     let T = c .before .before .before .before .before .before in
-    let E = T .before .before .before .before in
+    let E = T .before .before .before .before .before .before in
     let G = E .before .before in
-    below (deciding (G .before .before .before .before .before .before .loop .row) (G .before .before .before .before .before .before .loop .inv)
-    (G .before .before .before .before .before .loop-test .taken)
-    (G .before .decode .ensures ∙ ap Model.decode (G .before .before .before .before .record-at .ensures))
-    (named-by (G .before .before .before .worker-byte .ensures .0) (G .before .before .before .before .record-at .ensures)) (G .gate-for .ensures))
+    let G₁ = G .before .before .before in
+    let G₂ = G₁ .before .before .before in
+    below (deciding (G₂ .before .before .loop .row) (G₂ .before .before .loop .inv)
+    (G₂ .before .loop-test .taken)
+    (G₁ .decode .ensures ∙ ap Model.decode (G₂ .record-at .ensures))
+    (named-by (G₁ .before .before .worker-byte .ensures .0) (G₂ .record-at .ensures)) (G .gate-for .ensures))
     _ (E .enum-told .given .1) _ _ _ (T .step .ensures)
 
-cast-t142 : tie.Need-cast-t142 Inv-loop2 μ-loop2 Inv-loop μ-loop
-cast-t142 c = omega arith
+cast-t147 : tie.Need-cast-t147 Inv-loop2 μ-loop2 Inv-loop μ-loop
+cast-t147 c = omega arith
 
-mul-t147 : tie.Need-mul-t147 Inv-loop2 μ-loop2 Inv-loop μ-loop
-mul-t147 c = omega arith
+mul-t152 : tie.Need-mul-t152 Inv-loop2 μ-loop2 Inv-loop μ-loop
+mul-t152 c = omega arith
 
 element-set-from-hub-4 : tie.Need-element-set-from-hub-4 Inv-loop2 μ-loop2 Inv-loop μ-loop
 element-set-from-hub-4 c = omega arith
@@ -314,14 +330,16 @@ put-answer-requires-6 c κs = tt
 add-k-6 : tie.Need-add-k-6 Inv-loop2 μ-loop2 Inv-loop μ-loop
 add-k-6 c =
     let J = c .before .before .before .before .before .before .before .before .before .before .before .before .before .before in
-    let I = J .before .before .before .before .before .before .before .before .before .before .before .before .before .before in
-    let A = I .before .before .before .before .before .before .before .before .before .before .before .before .before .before in
+    let I₀ = J .before .before .before .before .before .before .before .before .before in
+    let I = I₀ .before .before .before .before .before .before .before .before .before in
+    let A = I .before .before .before .before .before .before .before .before .before .before .before .before .before .before .before in
     omega (arith, I .loop-test .taken, A .fits)
 
 loop-less-6 : tie.Need-loop-less-6 Inv-loop2 μ-loop2 Inv-loop μ-loop
 loop-less-6 c =
     let J = c .before .before .before .before .before .before .before .before .before .before .before .before .before .before in
-    let I = J .before .before .before .before .before .before .before .before .before .before .before .before .before .before in
+    let I₀ = J .before .before .before .before .before .before .before .before .before in
+    let I = I₀ .before .before .before .before .before .before .before .before .before in
     omega (arith, I .loop-test .taken)
 
 loop-again-6 : tie.Need-loop-again-6 Inv-loop2 μ-loop2 Inv-loop μ-loop
@@ -330,12 +348,14 @@ loop-again-6 c =
     let H = P .before .before .before .before .before .before in
     let K = H .before .before .before .before in
     let T = K .before .before .before in
-    let E = T .before .before .before .before in
+    let E = T .before .before .before .before .before .before in
     let G = E .before .before in
-    on-take (deciding (G .before .before .before .before .before .before .loop .row) (G .before .before .before .before .before .before .loop .inv)
-    (G .before .before .before .before .before .loop-test .taken)
-    (G .before .decode .ensures ∙ ap Model.decode (G .before .before .before .before .record-at .ensures))
-    (named-by (G .before .before .before .worker-byte .ensures .0) (G .before .before .before .before .record-at .ensures)) (G .gate-for .ensures))
+    let G₁ = G .before .before .before in
+    let G₂ = G₁ .before .before .before in
+    on-take (deciding (G₂ .before .before .loop .row) (G₂ .before .before .loop .inv)
+    (G₂ .before .loop-test .taken)
+    (G₁ .decode .ensures ∙ ap Model.decode (G₂ .record-at .ensures))
+    (named-by (G₁ .before .before .worker-byte .ensures .0) (G₂ .record-at .ensures)) (G .gate-for .ensures))
     _ (E .enum-told .given .1) _ _ _ (T .step .ensures)
     _ _ _ _ _ _ _ (K .enum-told2 .given .1) (H .flush-take .ensures) (P .put-answer6 .ensures)
 
@@ -372,22 +392,24 @@ mul-hub-2 c = omega arith
 element-write-hub : tie.Need-element-write-hub Inv-loop2 μ-loop2 Inv-loop μ-loop
 element-write-hub c = omega arith
 
-add-t155 : tie.Need-add-t155 Inv-loop2 μ-loop2 Inv-loop μ-loop
-add-t155 c =
+add-t160 : tie.Need-add-t160 Inv-loop2 μ-loop2 Inv-loop μ-loop
+add-t160 c =
     let K = c .before .before .before .before in
     let T = K .before .before .before in
-    let E = T .before .before .before .before in
+    let E = T .before .before .before .before .before .before in
     let G = E .before .before in
-    let D = (deciding (G .before .before .before .before .before .before .loop .row) (G .before .before .before .before .before .before .loop .inv)
-    (G .before .before .before .before .before .loop-test .taken)
-    (G .before .decode .ensures ∙ ap Model.decode (G .before .before .before .before .record-at .ensures))
-    (named-by (G .before .before .before .worker-byte .ensures .0) (G .before .before .before .before .record-at .ensures)) (G .gate-for .ensures)) in
+    let G₁ = G .before .before .before in
+    let G₂ = G₁ .before .before .before in
+    let D = (deciding (G₂ .before .before .loop .row) (G₂ .before .before .loop .inv)
+    (G₂ .before .loop-test .taken)
+    (G₁ .decode .ensures ∙ ap Model.decode (G₂ .record-at .ensures))
+    (named-by (G₁ .before .before .worker-byte .ensures .0) (G₂ .record-at .ensures)) (G .gate-for .ensures)) in
     let l = told D _ (E .enum-told .given .1) _ _ _ (T .step .ensures) _ (K .s3 .given .1) in
     let p = workers D _ (E .enum-told .given .1) _ _ _ (T .step .ensures) in
     omega (arith, l, p)
 
-mul-t164 : tie.Need-mul-t164 Inv-loop2 μ-loop2 Inv-loop μ-loop
-mul-t164 c = omega arith
+mul-t169 : tie.Need-mul-t169 Inv-loop2 μ-loop2 Inv-loop μ-loop
+mul-t169 c = omega arith
 
 element-set-from-hub-5 : tie.Need-element-set-from-hub-5 Inv-loop2 μ-loop2 Inv-loop μ-loop
 element-set-from-hub-5 c = omega arith
@@ -398,14 +420,14 @@ put-answer-requires-7 c κs = tt
 add-k-7 : tie.Need-add-k-7 Inv-loop2 μ-loop2 Inv-loop μ-loop
 add-k-7 c =
     let J = c .before .before .before .before .before .before .before .before .before .before .before .before .before .before in
-    let I = J .before .before .before .before .before .before .before .before .before .before .before .before in
-    let A = I .before .before .before .before .before .before .before .before .before .before .before .before .before .before in
+    let I = J .before .before .before .before .before .before .before .before .before .before .before .before .before .before .before .before in
+    let A = I .before .before .before .before .before .before .before .before .before .before .before .before .before .before .before in
     omega (arith, I .loop-test .taken, A .fits)
 
 loop-less-7 : tie.Need-loop-less-7 Inv-loop2 μ-loop2 Inv-loop μ-loop
 loop-less-7 c =
     let J = c .before .before .before .before .before .before .before .before .before .before .before .before .before .before in
-    let I = J .before .before .before .before .before .before .before .before .before .before .before .before in
+    let I = J .before .before .before .before .before .before .before .before .before .before .before .before .before .before .before .before in
     omega (arith, I .loop-test .taken)
 
 loop-again-7 : tie.Need-loop-again-7 Inv-loop2 μ-loop2 Inv-loop μ-loop
@@ -414,12 +436,14 @@ loop-again-7 c =
     let H = P .before .before .before .before in
     let K = H .before .before .before .before in
     let T = K .before .before .before in
-    let E = T .before .before .before .before in
+    let E = T .before .before .before .before .before .before in
     let G = E .before .before in
-    on-read (deciding (G .before .before .before .before .before .before .loop .row) (G .before .before .before .before .before .before .loop .inv)
-    (G .before .before .before .before .before .loop-test .taken)
-    (G .before .decode .ensures ∙ ap Model.decode (G .before .before .before .before .record-at .ensures))
-    (named-by (G .before .before .before .worker-byte .ensures .0) (G .before .before .before .before .record-at .ensures)) (G .gate-for .ensures))
+    let G₁ = G .before .before .before in
+    let G₂ = G₁ .before .before .before in
+    on-read (deciding (G₂ .before .before .loop .row) (G₂ .before .before .loop .inv)
+    (G₂ .before .loop-test .taken)
+    (G₁ .decode .ensures ∙ ap Model.decode (G₂ .record-at .ensures))
+    (named-by (G₁ .before .before .worker-byte .ensures .0) (G₂ .record-at .ensures)) (G .gate-for .ensures))
     _ (E .enum-told .given .1) _ _ _ (T .step .ensures)
     _ _ _ _ _ _ (K .s3 .given .1) (rw (H .time-of .ensures)) (P .put-answer7 .ensures)
 
@@ -429,8 +453,8 @@ enum-known-s-4 c = search needs
 flush-split-requires : tie.Need-flush-split-requires Inv-loop2 μ-loop2 Inv-loop μ-loop
 flush-split-requires c κs = tt
 
-mul-t181 : tie.Need-mul-t181 Inv-loop2 μ-loop2 Inv-loop μ-loop
-mul-t181 c = omega arith
+mul-t186 : tie.Need-mul-t186 Inv-loop2 μ-loop2 Inv-loop μ-loop
+mul-t186 c = omega arith
 
 element-set-from-hub-6 : tie.Need-element-set-from-hub-6 Inv-loop2 μ-loop2 Inv-loop μ-loop
 element-set-from-hub-6 c = omega arith
@@ -440,15 +464,19 @@ put-answer-requires-8 c κs = tt
 
 add-k-8 : tie.Need-add-k-8 Inv-loop2 μ-loop2 Inv-loop μ-loop
 add-k-8 c =
-    let J = c .before .before .before .before .before .before .before .before .before .before .before .before .before .before .before .before .before in
-    let I = J .before .before .before .before .before .before .before .before .before .before .before .before .before .before .before .before in
-    let A = I .before .before .before .before .before .before .before .before .before .before .before .before .before .before in
+    let J₀ = c .before .before .before .before .before .before .before .before in
+    let J = J₀ .before .before .before .before .before .before .before .before .before in
+    let I₀ = J .before .before .before .before .before .before .before .before .before .before in
+    let I = I₀ .before .before .before .before .before .before .before .before .before .before in
+    let A = I .before .before .before .before .before .before .before .before .before .before .before .before .before .before .before in
     omega (arith, I .loop-test .taken, A .fits)
 
 loop-less-8 : tie.Need-loop-less-8 Inv-loop2 μ-loop2 Inv-loop μ-loop
 loop-less-8 c =
-    let J = c .before .before .before .before .before .before .before .before .before .before .before .before .before .before .before .before .before in
-    let I = J .before .before .before .before .before .before .before .before .before .before .before .before .before .before .before .before in
+    let J₀ = c .before .before .before .before .before .before .before .before in
+    let J = J₀ .before .before .before .before .before .before .before .before .before in
+    let I₀ = J .before .before .before .before .before .before .before .before .before .before in
+    let I = I₀ .before .before .before .before .before .before .before .before .before .before in
     omega (arith, I .loop-test .taken)
 
 loop-again-8 : tie.Need-loop-again-8 Inv-loop2 μ-loop2 Inv-loop μ-loop
@@ -457,12 +485,14 @@ loop-again-8 c =
     let H = P .before .before .before .before in
     let K = H .before .before .before .before .before .before .before .before .before .before .before in
     let T = K .before .before .before in
-    let E = T .before .before .before .before in
+    let E = T .before .before .before .before .before .before in
     let G = E .before .before in
-    on-split (deciding (G .before .before .before .before .before .before .loop .row) (G .before .before .before .before .before .before .loop .inv)
-    (G .before .before .before .before .before .loop-test .taken)
-    (G .before .decode .ensures ∙ ap Model.decode (G .before .before .before .before .record-at .ensures))
-    (named-by (G .before .before .before .worker-byte .ensures .0) (G .before .before .before .before .record-at .ensures)) (G .gate-for .ensures))
+    let G₁ = G .before .before .before in
+    let G₂ = G₁ .before .before .before in
+    on-split (deciding (G₂ .before .before .loop .row) (G₂ .before .before .loop .inv)
+    (G₂ .before .loop-test .taken)
+    (G₁ .decode .ensures ∙ ap Model.decode (G₂ .record-at .ensures))
+    (named-by (G₁ .before .before .worker-byte .ensures .0) (G₂ .record-at .ensures)) (G .gate-for .ensures))
     _ (E .enum-told .given .1) _ _ _ (T .step .ensures)
     _ _ _ _ _ _ _ _ (K .s4 .given .1) (H .flush-split .ensures .0) (H .flush-split .ensures .1 .0) (H .flush-split .ensures .1 .1 .0)
     (P .put-answer8 .ensures)
@@ -474,30 +504,34 @@ flush-free-requires : tie.Need-flush-free-requires Inv-loop2 μ-loop2 Inv-loop �
 flush-free-requires c κs =
     let K = c .before .before .before .before in
     let T = K .before .before .before in
-    let E = T .before .before .before .before in
+    let E = T .before .before .before .before .before .before in
     let G = E .before .before in
-    let D = (deciding (G .before .before .before .before .before .before .loop .row) (G .before .before .before .before .before .before .loop .inv)
-    (G .before .before .before .before .before .loop-test .taken)
-    (G .before .decode .ensures ∙ ap Model.decode (G .before .before .before .before .record-at .ensures))
-    (named-by (G .before .before .before .worker-byte .ensures .0) (G .before .before .before .before .record-at .ensures)) (G .gate-for .ensures)) in
+    let G₁ = G .before .before .before in
+    let G₂ = G₁ .before .before .before in
+    let D = (deciding (G₂ .before .before .loop .row) (G₂ .before .before .loop .inv)
+    (G₂ .before .loop-test .taken)
+    (G₁ .decode .ensures ∙ ap Model.decode (G₂ .record-at .ensures))
+    (named-by (G₁ .before .before .worker-byte .ensures .0) (G₂ .record-at .ensures)) (G .gate-for .ensures)) in
     (below D _ (E .enum-told .given .1) _ _ _ (T .step .ensures), told D _ (E .enum-told .given .1) _ _ _ (T .step .ensures) _ (K .s5 .given .1))
 
-sub-t204 : tie.Need-sub-t204 Inv-loop2 μ-loop2 Inv-loop μ-loop
-sub-t204 c =
+sub-t209 : tie.Need-sub-t209 Inv-loop2 μ-loop2 Inv-loop μ-loop
+sub-t209 c =
     let K = c .before .before .before .before .before .before in
     let T = K .before .before .before in
-    let E = T .before .before .before .before in
+    let E = T .before .before .before .before .before .before in
     let G = E .before .before in
+    let G₁ = G .before .before .before in
+    let G₂ = G₁ .before .before .before in
     let l = told
-    (deciding (G .before .before .before .before .before .before .loop .row) (G .before .before .before .before .before .before .loop .inv)
-    (G .before .before .before .before .before .loop-test .taken)
-    (G .before .decode .ensures ∙ ap Model.decode (G .before .before .before .before .record-at .ensures))
-    (named-by (G .before .before .before .worker-byte .ensures .0) (G .before .before .before .before .record-at .ensures)) (G .gate-for .ensures))
+    (deciding (G₂ .before .before .loop .row) (G₂ .before .before .loop .inv)
+    (G₂ .before .loop-test .taken)
+    (G₁ .decode .ensures ∙ ap Model.decode (G₂ .record-at .ensures))
+    (named-by (G₁ .before .before .worker-byte .ensures .0) (G₂ .record-at .ensures)) (G .gate-for .ensures))
     _ (E .enum-told .given .1) _ _ _ (T .step .ensures) _ (K .s5 .given .1) in
     omega (arith, l)
 
-mul-t203 : tie.Need-mul-t203 Inv-loop2 μ-loop2 Inv-loop μ-loop
-mul-t203 c = omega arith
+mul-t208 : tie.Need-mul-t208 Inv-loop2 μ-loop2 Inv-loop μ-loop
+mul-t208 c = omega arith
 
 element-set-from-hub-7 : tie.Need-element-set-from-hub-7 Inv-loop2 μ-loop2 Inv-loop μ-loop
 element-set-from-hub-7 c = omega arith
@@ -505,7 +539,7 @@ element-set-from-hub-7 c = omega arith
 loop2-holds : tie.Need-loop2-holds Inv-loop2 μ-loop2 Inv-loop μ-loop
 loop2-holds c =
     let J = c .before .before .before .before .before .before .before .before .before in
-    let W = J .before .before .before .before .before .before .before .before .before in
+    let W = J .before .before .before .before .before .before .before .before .before .before .before .before .before in
     let I = W .before .before .before .before in
     (omega arith, refl, length-set (I .loop .hub .workers) (W .before .worker-byte .result % 16) _ ∙ I .loop .inv .sixteen)
 
@@ -521,8 +555,8 @@ stands-on-requires c κs = tt
 off-requires : tie.Need-off-requires Inv-loop2 μ-loop2 Inv-loop μ-loop
 off-requires c κs = tt
 
-mul-t220 : tie.Need-mul-t220 Inv-loop2 μ-loop2 Inv-loop μ-loop
-mul-t220 c = omega arith
+mul-t225 : tie.Need-mul-t225 Inv-loop2 μ-loop2 Inv-loop μ-loop
+mul-t225 c = omega arith
 
 element-set-from-hub-8 : tie.Need-element-set-from-hub-8 Inv-loop2 μ-loop2 Inv-loop μ-loop
 element-set-from-hub-8 c = omega arith
@@ -569,14 +603,16 @@ put-answer-requires-9 c κs = tt
 add-k-9 : tie.Need-add-k-9 Inv-loop2 μ-loop2 Inv-loop μ-loop
 add-k-9 c =
     let J = c .before .before .before .before .before .before .before .before .before .before .before .before .before .before .before .before in
-    let I = J .before .before .before .before .before .before .before .before .before .before .before .before .before .before in
-    let A = I .before .before .before .before .before .before .before .before .before .before .before .before .before .before in
+    let I₀ = J .before .before .before .before .before .before .before .before .before in
+    let I = I₀ .before .before .before .before .before .before .before .before .before in
+    let A = I .before .before .before .before .before .before .before .before .before .before .before .before .before .before .before in
     omega (arith, I .loop-test .taken, A .fits)
 
 loop-less-9 : tie.Need-loop-less-9 Inv-loop2 μ-loop2 Inv-loop μ-loop
 loop-less-9 c =
     let J = c .before .before .before .before .before .before .before .before .before .before .before .before .before .before .before .before in
-    let I = J .before .before .before .before .before .before .before .before .before .before .before .before .before .before in
+    let I₀ = J .before .before .before .before .before .before .before .before .before in
+    let I = I₀ .before .before .before .before .before .before .before .before .before in
     omega (arith, I .loop-test .taken)
 
 loop-again-9 : tie.Need-loop-again-9 Inv-loop2 μ-loop2 Inv-loop μ-loop
@@ -587,36 +623,38 @@ loop-again-9 c =
     let H = J .before .before .before in
     let K = H .before .before .before .before .before in
     let T = K .before .before .before in
-    let E = T .before .before .before .before in
+    let E = T .before .before .before .before .before .before in
     let G = E .before .before in
-    on-free (deciding (G .before .before .before .before .before .before .loop .row) (G .before .before .before .before .before .before .loop .inv)
-    (G .before .before .before .before .before .loop-test .taken)
-    (G .before .decode .ensures ∙ ap Model.decode (G .before .before .before .before .record-at .ensures))
-    (named-by (G .before .before .before .worker-byte .ensures .0) (G .before .before .before .before .record-at .ensures)) (G .gate-for .ensures))
+    let G₁ = G .before .before .before in
+    let G₂ = G₁ .before .before .before in
+    on-free (deciding (G₂ .before .before .loop .row) (G₂ .before .before .loop .inv)
+    (G₂ .before .loop-test .taken)
+    (G₁ .decode .ensures ∙ ap Model.decode (G₂ .record-at .ensures))
+    (named-by (G₁ .before .before .worker-byte .ensures .0) (G₂ .record-at .ensures)) (G .gate-for .ensures))
     _ (E .enum-told .given .1) _ _ _ (T .step .ensures)
     _ _ _ _ _ _ _ _ _ (K .s5 .given .1) (H .flush-free .ensures .0) (H .flush-free .ensures .1 .0) (H .flush-free .ensures .1 .1)
     (J .loop2 .inv .0) (X .loop2-test .left)
-    (ap (λ (z : Hub). withWindowIn z (G .before .before .before .before .before .before .loop .window)) (J .loop2 .inv .1)) (P .put-answer9 .ensures)
+    (ap (λ (z : Hub). withWindowIn z (G₂ .before .before .loop .window)) (J .loop2 .inv .1)) (P .put-answer9 .ensures)
 
 same-length : tie.Need-same-length Inv-loop2 μ-loop2 Inv-loop μ-loop
 same-length c =
-    let L = c .before .before .before in
-    let A = L .before .before .before .before .before .before .before .before .before .before .before .before .before in
+    let L = c .before .before .before .before in
+    let A = L .before .before .before .before .before .before .before .before .before .before .before .before .before .before in
     words-long (L .loop .row) (A .args .row .now) (L .loop .inv .row)
 
 same-length-2 : tie.Need-same-length-2 Inv-loop2 μ-loop2 Inv-loop μ-loop
-same-length-2 c = c .before .before .before .loop .inv .kinds-long
+same-length-2 c = c .before .before .before .before .loop .inv .kinds-long
 
 same-length-3 : tie.Need-same-length-3 Inv-loop2 μ-loop2 Inv-loop μ-loop
-same-length-3 c = c .before .before .before .loop .inv .numbers-long
+same-length-3 c = c .before .before .before .before .loop .inv .numbers-long
 
 returns : tie.Need-returns Inv-loop2 μ-loop2 Inv-loop μ-loop
 returns c =
-    let L = c .before .before .before in
+    let L = c .before .before .before .before in
     let Q = L .before .before in
     let B = Q .before .before .before .before .before .before in
-    let A = B .before .before .before .before .before in
-    finished _ _ _ _ _ _ _ _ (L .loop .inv) (c .before .before .loop-test .left)
+    let A = B .before .before .before .before .before .before in
+    finished _ _ _ _ _ _ _ _ _ (L .loop .inv) (c .before .before .before .loop-test .left)
     (ready-is _ (A .args .row .now) _ _ _ _ _ _ _ (B .all-linked .ensures) (Q .ready .ensures))
 
 pub run-spec : {M : Type 1} → statement M
@@ -648,7 +686,7 @@ run-spec =
     loop-less-2
     loop-again-2
     enum-known-g-3
-    mul-t96
+    mul-t99
     element-set-from-hub
     put-answer-requires-3
     add-k-3
@@ -657,7 +695,7 @@ run-spec =
     enum-told
     step-requires
     enum-known-s
-    mul-t113
+    mul-t118
     element-set-from-hub-2
     put-answer-requires-4
     add-k-4
@@ -670,7 +708,7 @@ run-spec =
     put-slot-requires
     put-time-requires
     put-time-requires-2
-    mul-t120
+    mul-t125
     element-set-from-hub-3
     put-answer-requires-5
     add-k-5
@@ -678,8 +716,8 @@ run-spec =
     loop-again-5
     enum-told-2
     flush-take-requires
-    cast-t142
-    mul-t147
+    cast-t147
+    mul-t152
     element-set-from-hub-4
     put-answer-requires-6
     add-k-6
@@ -696,8 +734,8 @@ run-spec =
     add-hub
     mul-hub-2
     element-write-hub
-    add-t155
-    mul-t164
+    add-t160
+    mul-t169
     element-set-from-hub-5
     put-answer-requires-7
     add-k-7
@@ -705,7 +743,7 @@ run-spec =
     loop-again-7
     enum-known-s-4
     flush-split-requires
-    mul-t181
+    mul-t186
     element-set-from-hub-6
     put-answer-requires-8
     add-k-8
@@ -713,15 +751,15 @@ run-spec =
     loop-again-8
     enum-known-s-5
     flush-free-requires
-    sub-t204
-    mul-t203
+    sub-t209
+    mul-t208
     element-set-from-hub-7
     loop2-holds
     mul-z-2
     element-copy-out-z-2
     stands-on-requires
     off-requires
-    mul-t220
+    mul-t225
     element-set-from-hub-8
     add-j
     loop2-less

@@ -1,15 +1,68 @@
--- `begin` meets its contract: each return rewrites with what the tests are, and with those that led to it, in the order of the refusals.
-use borrow.Author.Tests.{lt-ltb, le-ltb}
-use Rattle.gate.specs.Gate.{beginGate}
+-- `begin` meets its contract: what the tests gave stands in the definition, in the order of the refusals, and each return rewrites with those that
+-- led to it.
+use mathlib.Core.Path.{_≡_}
+use mathlib.Core.Bool.{Bool, cond}
+use Prim.Native.Nat.{ℕ}
+use lib.Dec.{ltb}
+use lib.ListN.{take}
 use borrow.Author.Needs.{needs}
+use Rattle.worker.specs.declared.Doing.{Doing}
+use Rattle.gate.specs.declared.Gate.{Gate}
+use Rattle.gate.specs.declared.Gate.the-variants.{Refuse, Start}
+use Rattle.gate.specs.Gate.{beginGate}
 use Rattle.gate.proofs.begin.Statement.{statement}
 use Rattle.gate.proofs.begin.Tie as tie
+
+-- the decision from what the tests gave: the worker is below p, its register is known, its group is there, its value fits, it is idle, it may
+-- open, and it may use its time
+abbrev decided : ℕ → Doing → Bool → Bool → Bool → Bool → Bool → Bool → Bool → Gate
+decided w d below known there fits idle opens uses =
+    cond below
+    (cond known
+    (cond there
+    (cond fits (cond idle (cond opens (cond uses (Start w d) (Refuse 13)) (Refuse 12)) (Refuse 10)) (Refuse 16))
+    (Refuse 17))
+    (Refuse 4))
+    (Refuse 3)
+
+tests : (c : tie.After-time-ok)
+    → let known = c .before .before .before .before .before in
+    let x = known .before .before .terms-of .result in
+    let a = known .before .before .before .args in
+    beginGate (a .p) (a .v) (a .worker) (a .o) (a .d) (a .t) (take (a .n) (a .rows .now))
+    ≡ decided (a .worker) (x .first)
+    (ltb (known .before .wide8 .result) (a .p))
+    (known .register-ok .result)
+    (c .before .before .before .before .group-ok .result)
+    (c .before .before .before .value-ok .result)
+    (c .before .before .about .result .idle)
+    (c .before .open-ok .result)
+    (c .time-ok .result)
+unfolding beginGate
+tests c =
+    let known = c .before .before .before .before .before in
+    rw (
+      ← known .before .before .terms-of .ensures,
+      ← known .before .wide8 .ensures .0,
+      ← known .register-ok .ensures,
+      ← c .before .before .before .before .group-ok .ensures,
+      ← c .before .before .before .value-ok .ensures,
+      ← c .before .before .about .ensures,
+      ← c .before .open-ok .ensures,
+      ← c .time-ok .ensures,
+    )
 
 terms-of-requires : tie.Need-terms-of-requires
 terms-of-requires c κs = search needs
 
+wide8-requires : tie.Need-wide8-requires
+wide8-requires c κs = search needs
+
 register-ok-requires : tie.Need-register-ok-requires
 register-ok-requires c κs = search needs
+
+group-ok-requires : tie.Need-group-ok-requires
+group-ok-requires c κs = search needs
 
 value-ok-requires : tie.Need-value-ok-requires
 value-ok-requires c κs = search needs
@@ -23,169 +76,125 @@ open-ok-requires c κs = search needs
 time-ok-requires : tie.Need-time-ok-requires
 time-ok-requires c κs = search needs
 
-wide8-requires : tie.Need-wide8-requires
-wide8-requires c κs = search needs
-
 returns : tie.Need-returns
-unfolding beginGate
 returns c =
     let opens = c .before in
     let idle = opens .before in
     let fits = idle .before in
-    let known = fits .before in
-    let worker = known .before in
-    let tests = worker .before in
+    let there = fits .before in
+    let known = there .before in
+    let below = known .before in
     rw (
-      ← tests .before .before .before .before .before .before .terms-of .ensures,
-      ← tests .wide8 .ensures .0,
-      ← tests .before .before .before .before .before .register-ok .ensures,
-      ← tests .before .before .before .before .value-ok .ensures,
-      ← tests .before .before .before .about .ensures,
-      ← tests .before .before .open-ok .ensures,
-      ← tests .before .time-ok .ensures,
-      lt-ltb _ _ (worker .if1 .taken),
+      tests (below .before),
+      below .if1 .taken,
       known .if2 .taken,
-      fits .if3 .taken,
-      idle .if4 .taken,
-      opens .if5 .taken,
-      c .if6 .taken,
+      there .if3 .taken,
+      fits .if4 .taken,
+      idle .if5 .taken,
+      opens .if6 .taken,
+      c .if7 .taken,
     )
 
 returns-2 : tie.Need-returns-2
-unfolding beginGate
 returns-2 c =
     let opens = c .before in
     let idle = opens .before in
     let fits = idle .before in
-    let known = fits .before in
-    let worker = known .before in
-    let tests = worker .before in
+    let there = fits .before in
+    let known = there .before in
+    let below = known .before in
     rw (
-      ← tests .before .before .before .before .before .before .terms-of .ensures,
-      ← tests .wide8 .ensures .0,
-      ← tests .before .before .before .before .before .register-ok .ensures,
-      ← tests .before .before .before .before .value-ok .ensures,
-      ← tests .before .before .before .about .ensures,
-      ← tests .before .before .open-ok .ensures,
-      ← tests .before .time-ok .ensures,
-      lt-ltb _ _ (worker .if1 .taken),
+      tests (below .before),
+      below .if1 .taken,
       known .if2 .taken,
-      fits .if3 .taken,
-      idle .if4 .taken,
-      opens .if5 .taken,
-      c .if6 .left,
+      there .if3 .taken,
+      fits .if4 .taken,
+      idle .if5 .taken,
+      opens .if6 .taken,
+      c .if7 .left,
     )
 
 returns-3 : tie.Need-returns-3
-unfolding beginGate
 returns-3 c =
     let idle = c .before in
     let fits = idle .before in
-    let known = fits .before in
-    let worker = known .before in
-    let tests = worker .before in
+    let there = fits .before in
+    let known = there .before in
+    let below = known .before in
     rw (
-      ← tests .before .before .before .before .before .before .terms-of .ensures,
-      ← tests .wide8 .ensures .0,
-      ← tests .before .before .before .before .before .register-ok .ensures,
-      ← tests .before .before .before .before .value-ok .ensures,
-      ← tests .before .before .before .about .ensures,
-      ← tests .before .before .open-ok .ensures,
-      ← tests .before .time-ok .ensures,
-      lt-ltb _ _ (worker .if1 .taken),
+      tests (below .before),
+      below .if1 .taken,
       known .if2 .taken,
-      fits .if3 .taken,
-      idle .if4 .taken,
-      c .if5 .left,
+      there .if3 .taken,
+      fits .if4 .taken,
+      idle .if5 .taken,
+      c .if6 .left,
     )
 
 returns-4 : tie.Need-returns-4
-unfolding beginGate
 returns-4 c =
     let fits = c .before in
-    let known = fits .before in
-    let worker = known .before in
-    let tests = worker .before in
+    let there = fits .before in
+    let known = there .before in
+    let below = known .before in
     rw (
-      ← tests .before .before .before .before .before .before .terms-of .ensures,
-      ← tests .wide8 .ensures .0,
-      ← tests .before .before .before .before .before .register-ok .ensures,
-      ← tests .before .before .before .before .value-ok .ensures,
-      ← tests .before .before .before .about .ensures,
-      ← tests .before .before .open-ok .ensures,
-      ← tests .before .time-ok .ensures,
-      lt-ltb _ _ (worker .if1 .taken),
+      tests (below .before),
+      below .if1 .taken,
       known .if2 .taken,
-      fits .if3 .taken,
-      c .if4 .left,
+      there .if3 .taken,
+      fits .if4 .taken,
+      c .if5 .left,
     )
 
 returns-5 : tie.Need-returns-5
-unfolding beginGate
 returns-5 c =
-    let known = c .before in
-    let worker = known .before in
-    let tests = worker .before in
+    let there = c .before in
+    let known = there .before in
+    let below = known .before in
     rw (
-      ← tests .before .before .before .before .before .before .terms-of .ensures,
-      ← tests .wide8 .ensures .0,
-      ← tests .before .before .before .before .before .register-ok .ensures,
-      ← tests .before .before .before .before .value-ok .ensures,
-      ← tests .before .before .before .about .ensures,
-      ← tests .before .before .open-ok .ensures,
-      ← tests .before .time-ok .ensures,
-      lt-ltb _ _ (worker .if1 .taken),
+      tests (below .before),
+      below .if1 .taken,
+      known .if2 .taken,
+      there .if3 .taken,
+      c .if4 .left,
+    )
+
+returns-6 : tie.Need-returns-6
+returns-6 c =
+    let known = c .before in
+    let below = known .before in
+    rw (
+      tests (below .before),
+      below .if1 .taken,
       known .if2 .taken,
       c .if3 .left,
     )
 
-returns-6 : tie.Need-returns-6
-unfolding beginGate
-returns-6 c =
-    let worker = c .before in
-    let tests = worker .before in
-    rw (
-      ← tests .before .before .before .before .before .before .terms-of .ensures,
-      ← tests .wide8 .ensures .0,
-      ← tests .before .before .before .before .before .register-ok .ensures,
-      ← tests .before .before .before .before .value-ok .ensures,
-      ← tests .before .before .before .about .ensures,
-      ← tests .before .before .open-ok .ensures,
-      ← tests .before .time-ok .ensures,
-      lt-ltb _ _ (worker .if1 .taken),
-      c .if2 .left,
-    )
-
 returns-7 : tie.Need-returns-7
-unfolding beginGate
 returns-7 c =
-    let tests = c .before in
-    rw (
-      ← tests .before .before .before .before .before .before .terms-of .ensures,
-      ← tests .wide8 .ensures .0,
-      ← tests .before .before .before .before .before .register-ok .ensures,
-      ← tests .before .before .before .before .value-ok .ensures,
-      ← tests .before .before .before .about .ensures,
-      ← tests .before .before .open-ok .ensures,
-      ← tests .before .time-ok .ensures,
-      le-ltb _ _ (c .if1 .left),
-    )
+    let below = c .before in
+    rw (tests (below .before), below .if1 .taken, c .if2 .left)
+
+returns-8 : tie.Need-returns-8
+returns-8 c = rw (tests (c .before), c .if1 .left)
 
 pub begin-spec : {M : Type 1} → statement M
 begin-spec =
     tie.close
     (tie.spec
     terms-of-requires
+    wide8-requires
     register-ok-requires
+    group-ok-requires
     value-ok-requires
     about-requires
     open-ok-requires
     time-ok-requires
-    wide8-requires
     returns
     returns-2
     returns-3
     returns-4
     returns-5
     returns-6
-    returns-7)
+    returns-7
+    returns-8)

@@ -28,8 +28,8 @@ returns-2 c =
       c .if1 .taken,
     )
 
-sizes-ok-requires : tie.Need-sizes-ok-requires
-sizes-ok-requires c κs = search needs
+setup-ok-requires : tie.Need-setup-ok-requires
+setup-ok-requires c κs = search needs
 
 returns-3 : tie.Need-returns-3
 unfolding gateOf
@@ -39,7 +39,7 @@ returns-3 c =
       command .before .before .before .r2 .given .1,
       command .c .given .1,
       c .before .before .if1 .left,
-      ← c .before .sizes-ok .ensures,
+      ← c .before .setup-ok .ensures,
       c .if2 .taken,
     )
 
@@ -51,7 +51,7 @@ returns-4 c =
       command .before .before .before .r2 .given .1,
       command .c .given .1,
       c .before .before .if1 .left,
-      ← c .before .sizes-ok .ensures,
+      ← c .before .setup-ok .ensures,
       c .if2 .left,
     )
 
@@ -131,7 +131,7 @@ gate-for-spec =
     enum-known-r-2
     enum-known-c
     returns-2
-    sizes-ok-requires
+    setup-ok-requires
     returns-3
     returns-4
     enum-known-c-2

@@ -25,6 +25,9 @@ same-length-3 c = search needs
 workers-long : (c : tie.Start) → length (c .args .hub .workers) ≡ 16
 workers-long c = search (needs, length-mapped)
 
+rows-long : (c : tie.Start) → length (c .args .hub .rows) ≡ 1024
+rows-long c = search needs
+
 times-long : (c : tie.Start) → length (c .args .hub .times) ≡ 256
 times-long c = search needs
 
@@ -37,17 +40,18 @@ returns c =
     let f = q .before .before in
     let n = f .before .before in
     let known = n .before .before .before .before in
-    words-applied (known .before .args .row .now) (p .run-all .last .0) (search needs) (p .run-all .ensures .1)
+    words-applied (known .before .before .args .row .now) (p .run-all .last .0) (search needs) (p .run-all .ensures .1)
     (record {
-      workers = workers-long (known .before);
-      times = times-long (known .before);
+      workers = workers-long (known .before .before);
+      times = times-long (known .before .before);
+      rows = rows-long (known .before .before);
       newest = n .lengths-told-arg2 .given .0;
       free = f .lengths-told-arg4 .given .0;
       queue = q .lengths-told-arg6 .given .0;
       lens = l .lengths-told-arg8 .given .0;
       merged = told .lengths-told-arg10 .given .0;
     })
-    (λ i. known .shared-slice-known .given i .fits)
+    (λ i. known .shared-slice-known2 .given i .fits)
 
 pub apply-words-spec : {M : Type 1} → statement M
 apply-words-spec =

@@ -1,4 +1,4 @@
--- `numbered` meets its contract: the last byte of the kind's row says it.
+-- `numbered` meets its contract: the byte of the kind's row behind the rows says it.
 use Rattle.lines.proofs.Rows.{row-mark}
 use borrow.Author.Needs.{needs}
 use Rattle.lines.proofs.numbered.Statement.{statement}
@@ -6,9 +6,6 @@ use Rattle.lines.proofs.numbered.Tie as tie
 
 least-requires : tie.Need-least-requires
 least-requires c κs = search needs
-
-mul-i : tie.Need-mul-i
-mul-i c = search needs
 
 add-result : tie.Need-add-result
 add-result c = search needs
@@ -23,4 +20,4 @@ returns c =
 
 pub numbered-spec : {M : Type 1} → statement M
 numbered-spec =
-    tie.close (tie.spec least-requires mul-i add-result element-copy-out-result returns)
+    tie.close (tie.spec least-requires add-result element-copy-out-result returns)

@@ -1,4 +1,4 @@
--- `put_row` meets its contract: the row of the kind is copied, and its last byte says how much of it is text.
+-- `put_row` meets its contract: the row of the kind is copied, and its byte behind the rows says how much of it is text.
 use Rattle.lines.proofs.Rows.{spills-row}
 use borrow.Author.Needs.{needs}
 use Rattle.lines.proofs.put_row.Statement.{statement}

@@ -41,10 +41,10 @@ returns c =
     let w = c .before .before .before in
     let a = w .before .before .before .before .before .before .before .before .before in
     let f = a .before .before .before .before .before .before .before .before .before .before in
-    let x = f .before .before .before .before .before .args in
+    let x = f .before .before .before .before .before .before .args in
     let e = w .write-lines .ensures in
     let b = f .fitting .result - 0 in
-    (part-logged _ _ (handed-on (x .bytes .now) (x .text .now) b (omega (arith, f .fitting .ensures)) (a .apply-words .ensures)) e, e .inside)
+    (part-logged _ _ _ (handed-on (x .list .now) (x .bytes .now) (x .text .now) b (omega (arith, f .fitting .ensures)) (a .apply-words .ensures)) e, e .inside)
 
 pub log-part-spec : {M : Type 1} → statement M
 log-part-spec =

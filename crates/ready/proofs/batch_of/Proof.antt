@@ -1,5 +1,6 @@
 -- `batch_of` meets its contract: it is the batch size of crate `batch`, which the model has between 1 and 64 for 1 to 16 workers.
 use mathlib.Core.Path.{refl}
+use mathlib.Core.List.{[]}
 use native.Mathlib.Omega.{arith}
 use borrow.Author.Needs.{needs}
 use Rattle.model.specs.Rules.{document01}
@@ -18,7 +19,7 @@ cast-result c = search needs
 
 returns : tie.Need-returns
 returns c =
-    let most = allowed document01 refl (c .before .args .p) (omega arith) (omega arith) .1 in
+    let most = allowed (document01 []) refl (c .before .args .p) (omega arith) (omega arith) .1 in
     (c .batch .ensures, omega (arith, c .batch .ensures, most))
 
 pub batch-of-spec : {M : Type 1} → statement M

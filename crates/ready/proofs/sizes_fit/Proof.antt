@@ -12,7 +12,7 @@ window-fits-requires c κs = search needs
 
 returns : tie.Need-returns
 unfolding sizesFit
-returns c = rw (← c .before .before .besides .ensures, c .window-fits .ensures)
+returns c = rw (← c .before .before .before .besides .ensures, c .before .window-fits .ensures)
 
 pub sizes-fit-spec : {M : Type 1} → statement M
 sizes-fit-spec = tie.close (tie.spec besides-requires window-fits-requires returns)

@@ -10,10 +10,10 @@ use Rattle.ready.proofs.workers_fit.Statement.{statement}
 use Rattle.ready.proofs.workers_fit.Tie as tie
 
 abbrev Inv-loop : tie.InvT-loop
-Inv-loop merged local list hub k p v n ok₀ w₀ ok w = (w ≤ k) × (ok ≡ workersFit hub merged local list w)
+Inv-loop merged local list hub all p v n k ok₀ w₀ ok w = (w ≤ all) × (ok ≡ workersFit hub merged local list w)
 
 abbrev μ-loop : tie.MeasureT-loop
-μ-loop merged local list hub k p v n ok₀ w₀ ok w = k - w
+μ-loop merged local list hub all p v n k ok₀ w₀ ok w = all - w
 
 cast-p : tie.Need-cast-p Inv-loop μ-loop
 cast-p c = omega arith
@@ -23,6 +23,9 @@ cast-v c = omega arith
 
 cast-n : tie.Need-cast-n Inv-loop μ-loop
 cast-n c = omega arith
+
+cast-k : tie.Need-cast-k Inv-loop μ-loop
+cast-k c = omega arith
 
 loop-holds : tie.Need-loop-holds Inv-loop μ-loop
 unfolding workersFit
@@ -59,6 +62,7 @@ workers-fit-spec =
     cast-p
     cast-v
     cast-n
+    cast-k
     loop-holds
     mul-x
     element-copy-out-x

@@ -1,9 +1,9 @@
--- `asked` meets its contract: each arm rewrites with its operation, and the last has an operation above 7.
-use Prim.Native.Nat.{_≤_, _<_, zero-le}
+-- `asked` meets its contract: each arm rewrites with its operation, and the last has an operation above 8.
+use Prim.Native.Nat.{_<_, zero-le}
 use lib.ListN.{getD}
 use borrow.Author.Tests.{lt-ltb}
 use Rattle.model.specs.Record.{commandOf, unusedZero}
-use Rattle.record.proofs.Numbers.{past-four}
+use Rattle.record.proofs.Numbers.{past-three}
 use borrow.Author.Needs.{needs}
 use Rattle.record.proofs.asked.Statement.{statement}
 use Rattle.record.proofs.asked.Tie as tie
@@ -65,6 +65,15 @@ begin-requires-6 c κs = search needs
 step-requires : tie.Need-step-requires
 step-requires c κs = search needs
 
+two-requires-4 : tie.Need-two-requires-4
+two-requires-4 c κs = search needs
+
+none-from-4-requires-3 : tie.Need-none-from-4-requires-3
+none-from-4-requires-3 c κs = search needs
+
+begin-requires-7 : tie.Need-begin-requires-7
+begin-requires-7 c κs = search needs
+
 returns : tie.Need-returns
 returns c = rw (c .before .match .keys1) (c .set-up .ensures)
 
@@ -100,12 +109,18 @@ returns-8 : tie.Need-returns-8
 returns-8 c = rw (c .before .match .keys8) (c .step .ensures)
 
 returns-9 : tie.Need-returns-9
+unfolding commandOf unusedZero
 returns-9 c =
+    rw (c .before .before .before .match .keys9, ← c .before .before .two4 .ensures, ← c .before .none-from-43 .ensures) (c .begin7 .ensures)
+
+returns-10 : tie.Need-returns-10
+returns-10 c =
     let o = getD (c .before .before .before .args .rec .now) 0 0 in
     let r = c .match .rest in
-    let l : 4 ≤ o = past-four 0 zero-le (r .0 .0 .0 .0 .0 .0 .0 .1) (r .0 .0 .0 .0 .0 .0 .1) (r .0 .0 .0 .0 .0 .1) (r .0 .0 .0 .0 .1) in
-    let h : 7 < o = past-four 4 l (r .0 .0 .0 .1) (r .0 .0 .1) (r .0 .1) (r .1) in
-    rw (lt-ltb 7 o h)
+    let a = past-three 0 zero-le (r .0 .0 .0 .0 .0 .0 .0 .0 .1) (r .0 .0 .0 .0 .0 .0 .0 .1) (r .0 .0 .0 .0 .0 .0 .1) in
+    let b = past-three 3 a (r .0 .0 .0 .0 .0 .1) (r .0 .0 .0 .0 .1) (r .0 .0 .0 .1) in
+    let h : 8 < o = past-three 6 b (r .0 .0 .1) (r .0 .1) (r .1) in
+    rw (lt-ltb 8 o h)
 
 pub asked-spec : {M : Type 1} → statement M
 asked-spec =
@@ -130,6 +145,9 @@ asked-spec =
     none-from-2-requires-3
     begin-requires-6
     step-requires
+    two-requires-4
+    none-from-4-requires-3
+    begin-requires-7
     returns
     returns-2
     returns-3
@@ -138,4 +156,5 @@ asked-spec =
     returns-6
     returns-7
     returns-8
-    returns-9)
+    returns-9
+    returns-10)

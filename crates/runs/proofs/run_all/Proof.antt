@@ -41,7 +41,7 @@ returns : tie.Need-returns
 returns c =
     let p = c .before .before .before .before .before .before in
     let counts = p .before .before .before .before .before .before .before .before .before in
-    let start = counts .before .before .before .before .before .before in (
+    let start = counts .before .before .before .before .before .before .before in (
       rest-kept (start .args .n) (start .args .row .now) (p .run .last .0) (start .pre) (p .run .kept .0),
       record {
         count =

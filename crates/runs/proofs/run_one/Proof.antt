@@ -30,7 +30,7 @@ same-length c = search needs
 returns : tie.Need-returns
 returns c =
     let p = c .before .before .before .before in
-    let start = p .before .before .before .before .before .before .before .before .before .before in (
+    let start = p .before .before .before .before .before .before .before .before .before .before .before in (
       rest-kept (start .args .n) (start .args .row .now) (p .run .last .0) (start .pre) (p .run .kept .0),
       one-ran (ran-within (start .args .n) (start .args .row .now) (p .run .last .0) _ (start .pre) (p .run .kept .0) (p .run .ensures)),
     )

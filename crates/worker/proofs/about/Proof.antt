@@ -54,20 +54,20 @@ names-requires-8 c κs = search needs
 enum-known-d-6 : tie.Need-enum-known-d-6
 enum-known-d-6 c = search needs
 
-names-requires-9 : tie.Need-names-requires-9
-names-requires-9 c κs = search needs
+reads-requires : tie.Need-reads-requires
+reads-requires c κs = search needs
 
 enum-known-d-7 : tie.Need-enum-known-d-7
 enum-known-d-7 c = search needs
 
-names-requires-10 : tie.Need-names-requires-10
-names-requires-10 c κs = search needs
+reads-requires-2 : tie.Need-reads-requires-2
+reads-requires-2 c κs = search needs
 
 enum-known-d-8 : tie.Need-enum-known-d-8
 enum-known-d-8 c = search needs
 
-names-requires-11 : tie.Need-names-requires-11
-names-requires-11 c κs = search needs
+names-requires-9 : tie.Need-names-requires-9
+names-requires-9 c κs = search needs
 
 returns : tie.Need-returns
 returns c = rw (c .before .enum-told .given .1) (c .names .ensures)
@@ -94,13 +94,13 @@ returns-8 : tie.Need-returns-8
 returns-8 c = rw (c .before .enum-told3 .given .1) (c .names8 .ensures)
 
 returns-9 : tie.Need-returns-9
-returns-9 c = rw (c .before .before .d6 .given .1) (c .names9 .ensures)
+returns-9 c = rw (c .before .before .d6 .given .1) (c .reads .ensures)
 
 returns-10 : tie.Need-returns-10
-returns-10 c = rw (c .before .before .d7 .given .1) (c .names10 .ensures)
+returns-10 c = rw (c .before .before .d7 .given .1) (c .reads2 .ensures)
 
 returns-11 : tie.Need-returns-11
-returns-11 c = rw (c .before .before .d8 .given .1) (c .names11 .ensures)
+returns-11 c = rw (c .before .before .d8 .given .1) (c .names9 .ensures)
 
 pub about-spec : {M : Type 1} → statement M
 about-spec =
@@ -123,11 +123,11 @@ about-spec =
     enum-told-3
     names-requires-8
     enum-known-d-6
-    names-requires-9
+    reads-requires
     enum-known-d-7
-    names-requires-10
+    reads-requires-2
     enum-known-d-8
-    names-requires-11
+    names-requires-9
     returns
     returns-2
     returns-3

@@ -1,0 +1,33 @@
+-- `found` meets its contract: by cases.
+use borrow.Author.Needs.{needs}
+use Rattle.step.proofs.found.Statement.{statement}
+use Rattle.step.proofs.found.Tie as tie
+
+enum-told : tie.Need-enum-told
+enum-told c = search needs
+
+outcome-of-requires : tie.Need-outcome-of-requires
+outcome-of-requires c κs = search needs
+
+enum-known-purpose : tie.Need-enum-known-purpose
+enum-known-purpose c = search needs
+
+total-found-requires : tie.Need-total-found-requires
+total-found-requires c κs = search needs
+
+returns : tie.Need-returns
+returns c = rw (c .before .enum-told .given .1) (c .outcome-of .ensures)
+
+returns-2 : tie.Need-returns-2
+returns-2 c = rw (c .before .before .purpose .given .1) (c .total-found .ensures)
+
+pub found-spec : {M : Type 1} → statement M
+found-spec =
+    tie.close
+    (tie.spec
+    enum-told
+    outcome-of-requires
+    enum-known-purpose
+    total-found-requires
+    returns
+    returns-2)
