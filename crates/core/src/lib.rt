@@ -198,7 +198,8 @@ pub fn run(
                 k += 1;
             }
             Gate::Start { worker: _, doing } => {
-                hub.workers[w] = Worker { doing, ..x };
+                let y = hub.workers[w];
+                hub.workers[w] = Worker { doing, ..y };
                 last = put_answer(kinds, numbers, k, Answer::Ok);
                 k += 1;
             }
@@ -220,10 +221,11 @@ pub fn run(
                     Next::Taken(o) => {
                         let doing = o.doing;
                         let announced = o.announced;
+                        let y = hub.workers[w];
                         hub.workers[w] = Worker {
                             doing,
                             announced,
-                            ..x
+                            ..y
                         };
                         hub.clock = o.clock;
                         hub.free = o.free;
@@ -250,12 +252,13 @@ pub fn run(
                     // Flush (1).
                     Next::Take => {
                         let f = flush::flush_take(queue, lens, window, merged, w);
+                        let y = hub.workers[w];
                         hub.workers[w] = Worker {
                             doing: Doing::FlushRead {
                                 merged: (f.count % 65536) as u16,
                                 read: 0,
                             },
-                            ..x
+                            ..y
                         };
                         window = f.window;
                         last = put_answer(kinds, numbers, k, Answer::Going);
@@ -280,7 +283,8 @@ pub fn run(
                     }
                     // Flush (3).
                     Next::Split { merged: m } => {
-                        let q = x.pool;
+                        let y = hub.workers[w];
+                        let q = y.pool;
                         let f = splitting::flush_split(
                             queue,
                             lens,
@@ -298,7 +302,7 @@ pub fn run(
                         hub.workers[w] = Worker {
                             doing: Doing::FlushFree { left: f.left },
                             pool: worker::EMPTY,
-                            ..x
+                            ..y
                         };
                         window = f.window;
                         last = put_answer(kinds, numbers, k, Answer::Going);
@@ -307,9 +311,10 @@ pub fn run(
                     // Flush (4). H5.27: reads move off the freed slot.
                     Next::Free { left } => {
                         let f = freeing::flush_free(row, free, merged, w, left, hub.free);
+                        let y = hub.workers[w];
                         hub.workers[w] = Worker {
                             doing: Doing::FlushFree { left: left - 1 },
-                            ..x
+                            ..y
                         };
                         hub.free = f.free;
                         let mut j: usize = 0;

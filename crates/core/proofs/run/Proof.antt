@@ -151,8 +151,14 @@ loop-again-2 c =
 enum-known-g-3 : tie.Need-enum-known-g-3 Inv-loop2 μ-loop2 Inv-loop μ-loop
 enum-known-g-3 c = search needs
 
-mul-t99 : tie.Need-mul-t99 Inv-loop2 μ-loop2 Inv-loop μ-loop
-mul-t99 c = omega arith
+mul-y : tie.Need-mul-y Inv-loop2 μ-loop2 Inv-loop μ-loop
+mul-y c = omega arith
+
+element-copy-out-y : tie.Need-element-copy-out-y Inv-loop2 μ-loop2 Inv-loop μ-loop
+element-copy-out-y c = omega arith
+
+mul-t101 : tie.Need-mul-t101 Inv-loop2 μ-loop2 Inv-loop μ-loop
+mul-t101 c = omega arith
 
 element-set-from-hub : tie.Need-element-set-from-hub Inv-loop2 μ-loop2 Inv-loop μ-loop
 element-set-from-hub c = omega arith
@@ -162,21 +168,21 @@ put-answer-requires-3 c κs = tt
 
 add-k-3 : tie.Need-add-k-3 Inv-loop2 μ-loop2 Inv-loop μ-loop
 add-k-3 c =
-    let J = c .before .before .before .before .before .before .before .before .before in
+    let J = c .before .before .before .before .before .before .before .before .before .before in
     let I = J .before .before .before .before .before .before .before .before .before in
     let A = I .before .before .before .before .before .before .before .before .before .before .before .before .before .before .before in
     omega (arith, I .loop-test .taken, A .fits)
 
 loop-less-3 : tie.Need-loop-less-3 Inv-loop2 μ-loop2 Inv-loop μ-loop
 loop-less-3 c =
-    let J = c .before .before .before .before .before .before .before .before .before in
+    let J = c .before .before .before .before .before .before .before .before .before .before in
     let I = J .before .before .before .before .before .before .before .before .before in
     omega (arith, I .loop-test .taken)
 
 loop-again-3 : tie.Need-loop-again-3 Inv-loop2 μ-loop2 Inv-loop μ-loop
 loop-again-3 c =
     let P = c .before .before .before .before in
-    let K = P .before .before .before .before .before in
+    let K = P .before .before .before .before .before .before in
     let G = K .before .before in
     let G₁ = G .before .before .before in
     let G₂ = G₁ .before .before .before in
@@ -195,8 +201,14 @@ step-requires c κs = tt
 enum-known-s : tie.Need-enum-known-s Inv-loop2 μ-loop2 Inv-loop μ-loop
 enum-known-s c = search needs
 
-mul-t118 : tie.Need-mul-t118 Inv-loop2 μ-loop2 Inv-loop μ-loop
-mul-t118 c = omega arith
+mul-y-2 : tie.Need-mul-y-2 Inv-loop2 μ-loop2 Inv-loop μ-loop
+mul-y-2 c = omega arith
+
+element-copy-out-y-2 : tie.Need-element-copy-out-y-2 Inv-loop2 μ-loop2 Inv-loop μ-loop
+element-copy-out-y-2 c = omega arith
+
+mul-t123 : tie.Need-mul-t123 Inv-loop2 μ-loop2 Inv-loop μ-loop
+mul-t123 c = omega arith
 
 element-set-from-hub-2 : tie.Need-element-set-from-hub-2 Inv-loop2 μ-loop2 Inv-loop μ-loop
 element-set-from-hub-2 c = omega arith
@@ -206,21 +218,21 @@ put-answer-requires-4 c κs = tt
 
 add-k-4 : tie.Need-add-k-4 Inv-loop2 μ-loop2 Inv-loop μ-loop
 add-k-4 c =
-    let J = c .before .before .before .before .before .before .before .before .before .before .before .before in
+    let J = c .before .before .before .before .before .before .before .before .before .before .before .before .before in
     let I = J .before .before .before .before .before .before .before .before .before .before .before .before .before .before .before in
     let A = I .before .before .before .before .before .before .before .before .before .before .before .before .before .before .before in
     omega (arith, I .loop-test .taken, A .fits)
 
 loop-less-4 : tie.Need-loop-less-4 Inv-loop2 μ-loop2 Inv-loop μ-loop
 loop-less-4 c =
-    let J = c .before .before .before .before .before .before .before .before .before .before .before .before in
+    let J = c .before .before .before .before .before .before .before .before .before .before .before .before .before in
     let I = J .before .before .before .before .before .before .before .before .before .before .before .before .before .before .before in
     omega (arith, I .loop-test .taken)
 
 loop-again-4 : tie.Need-loop-again-4 Inv-loop2 μ-loop2 Inv-loop μ-loop
 loop-again-4 c =
     let P = c .before .before .before .before in
-    let K = P .before .before .before .before .before in
+    let K = P .before .before .before .before .before .before in
     let T = K .before .before .before in
     let E = T .before .before .before .before .before .before in
     let G = E .before .before in
@@ -236,11 +248,11 @@ loop-again-4 c =
 enum-known-s-2 : tie.Need-enum-known-s-2 Inv-loop2 μ-loop2 Inv-loop μ-loop
 enum-known-s-2 c = search needs
 
-mul-y : tie.Need-mul-y Inv-loop2 μ-loop2 Inv-loop μ-loop
-mul-y c = omega arith
+mul-y-3 : tie.Need-mul-y-3 Inv-loop2 μ-loop2 Inv-loop μ-loop
+mul-y-3 c = omega arith
 
-element-copy-out-y : tie.Need-element-copy-out-y Inv-loop2 μ-loop2 Inv-loop μ-loop
-element-copy-out-y c = omega arith
+element-copy-out-y-3 : tie.Need-element-copy-out-y-3 Inv-loop2 μ-loop2 Inv-loop μ-loop
+element-copy-out-y-3 c = omega arith
 
 put-hand-in-requires : tie.Need-put-hand-in-requires Inv-loop2 μ-loop2 Inv-loop μ-loop
 put-hand-in-requires c κs = tt
@@ -254,8 +266,8 @@ put-time-requires c κs = tt
 put-time-requires-2 : tie.Need-put-time-requires-2 Inv-loop2 μ-loop2 Inv-loop μ-loop
 put-time-requires-2 c κs = tt
 
-mul-t125 : tie.Need-mul-t125 Inv-loop2 μ-loop2 Inv-loop μ-loop
-mul-t125 c = omega arith
+mul-t134 : tie.Need-mul-t134 Inv-loop2 μ-loop2 Inv-loop μ-loop
+mul-t134 c = omega arith
 
 element-set-from-hub-3 : tie.Need-element-set-from-hub-3 Inv-loop2 μ-loop2 Inv-loop μ-loop
 element-set-from-hub-3 c = omega arith
@@ -315,11 +327,17 @@ flush-take-requires c κs =
     (named-by (G₁ .before .before .worker-byte .ensures .0) (G₂ .record-at .ensures)) (G .gate-for .ensures))
     _ (E .enum-told .given .1) _ _ _ (T .step .ensures)
 
-cast-t147 : tie.Need-cast-t147 Inv-loop2 μ-loop2 Inv-loop μ-loop
-cast-t147 c = omega arith
+mul-y-4 : tie.Need-mul-y-4 Inv-loop2 μ-loop2 Inv-loop μ-loop
+mul-y-4 c = omega arith
 
-mul-t152 : tie.Need-mul-t152 Inv-loop2 μ-loop2 Inv-loop μ-loop
-mul-t152 c = omega arith
+element-copy-out-y-4 : tie.Need-element-copy-out-y-4 Inv-loop2 μ-loop2 Inv-loop μ-loop
+element-copy-out-y-4 c = omega arith
+
+cast-t159 : tie.Need-cast-t159 Inv-loop2 μ-loop2 Inv-loop μ-loop
+cast-t159 c = omega arith
+
+mul-t163 : tie.Need-mul-t163 Inv-loop2 μ-loop2 Inv-loop μ-loop
+mul-t163 c = omega arith
 
 element-set-from-hub-4 : tie.Need-element-set-from-hub-4 Inv-loop2 μ-loop2 Inv-loop μ-loop
 element-set-from-hub-4 c = omega arith
@@ -329,7 +347,7 @@ put-answer-requires-6 c κs = tt
 
 add-k-6 : tie.Need-add-k-6 Inv-loop2 μ-loop2 Inv-loop μ-loop
 add-k-6 c =
-    let J = c .before .before .before .before .before .before .before .before .before .before .before .before .before .before in
+    let J = c .before .before .before .before .before .before .before .before .before .before .before .before .before .before .before in
     let I₀ = J .before .before .before .before .before .before .before .before .before in
     let I = I₀ .before .before .before .before .before .before .before .before .before in
     let A = I .before .before .before .before .before .before .before .before .before .before .before .before .before .before .before in
@@ -337,7 +355,7 @@ add-k-6 c =
 
 loop-less-6 : tie.Need-loop-less-6 Inv-loop2 μ-loop2 Inv-loop μ-loop
 loop-less-6 c =
-    let J = c .before .before .before .before .before .before .before .before .before .before .before .before .before .before in
+    let J = c .before .before .before .before .before .before .before .before .before .before .before .before .before .before .before in
     let I₀ = J .before .before .before .before .before .before .before .before .before in
     let I = I₀ .before .before .before .before .before .before .before .before .before in
     omega (arith, I .loop-test .taken)
@@ -345,7 +363,7 @@ loop-less-6 c =
 loop-again-6 : tie.Need-loop-again-6 Inv-loop2 μ-loop2 Inv-loop μ-loop
 loop-again-6 c =
     let P = c .before .before .before .before in
-    let H = P .before .before .before .before .before .before in
+    let H = P .before .before .before .before .before .before .before in
     let K = H .before .before .before .before in
     let T = K .before .before .before in
     let E = T .before .before .before .before .before .before in
@@ -371,11 +389,11 @@ mul-z c = omega arith
 element-copy-out-z : tie.Need-element-copy-out-z Inv-loop2 μ-loop2 Inv-loop μ-loop
 element-copy-out-z c = omega arith
 
-mul-y-2 : tie.Need-mul-y-2 Inv-loop2 μ-loop2 Inv-loop μ-loop
-mul-y-2 c = omega arith
+mul-y-5 : tie.Need-mul-y-5 Inv-loop2 μ-loop2 Inv-loop μ-loop
+mul-y-5 c = omega arith
 
-element-copy-out-y-2 : tie.Need-element-copy-out-y-2 Inv-loop2 μ-loop2 Inv-loop μ-loop
-element-copy-out-y-2 c = omega arith
+element-copy-out-y-5 : tie.Need-element-copy-out-y-5 Inv-loop2 μ-loop2 Inv-loop μ-loop
+element-copy-out-y-5 c = omega arith
 
 time-of-requires : tie.Need-time-of-requires Inv-loop2 μ-loop2 Inv-loop μ-loop
 time-of-requires c κs = tt
@@ -392,8 +410,8 @@ mul-hub-2 c = omega arith
 element-write-hub : tie.Need-element-write-hub Inv-loop2 μ-loop2 Inv-loop μ-loop
 element-write-hub c = omega arith
 
-add-t160 : tie.Need-add-t160 Inv-loop2 μ-loop2 Inv-loop μ-loop
-add-t160 c =
+add-t171 : tie.Need-add-t171 Inv-loop2 μ-loop2 Inv-loop μ-loop
+add-t171 c =
     let K = c .before .before .before .before in
     let T = K .before .before .before in
     let E = T .before .before .before .before .before .before in
@@ -408,8 +426,8 @@ add-t160 c =
     let p = workers D _ (E .enum-told .given .1) _ _ _ (T .step .ensures) in
     omega (arith, l, p)
 
-mul-t169 : tie.Need-mul-t169 Inv-loop2 μ-loop2 Inv-loop μ-loop
-mul-t169 c = omega arith
+mul-t180 : tie.Need-mul-t180 Inv-loop2 μ-loop2 Inv-loop μ-loop
+mul-t180 c = omega arith
 
 element-set-from-hub-5 : tie.Need-element-set-from-hub-5 Inv-loop2 μ-loop2 Inv-loop μ-loop
 element-set-from-hub-5 c = omega arith
@@ -450,11 +468,17 @@ loop-again-7 c =
 enum-known-s-4 : tie.Need-enum-known-s-4 Inv-loop2 μ-loop2 Inv-loop μ-loop
 enum-known-s-4 c = search needs
 
+mul-y-6 : tie.Need-mul-y-6 Inv-loop2 μ-loop2 Inv-loop μ-loop
+mul-y-6 c = omega arith
+
+element-copy-out-y-6 : tie.Need-element-copy-out-y-6 Inv-loop2 μ-loop2 Inv-loop μ-loop
+element-copy-out-y-6 c = omega arith
+
 flush-split-requires : tie.Need-flush-split-requires Inv-loop2 μ-loop2 Inv-loop μ-loop
 flush-split-requires c κs = tt
 
-mul-t186 : tie.Need-mul-t186 Inv-loop2 μ-loop2 Inv-loop μ-loop
-mul-t186 c = omega arith
+mul-t193 : tie.Need-mul-t193 Inv-loop2 μ-loop2 Inv-loop μ-loop
+mul-t193 c = omega arith
 
 element-set-from-hub-6 : tie.Need-element-set-from-hub-6 Inv-loop2 μ-loop2 Inv-loop μ-loop
 element-set-from-hub-6 c = omega arith
@@ -467,7 +491,7 @@ add-k-8 c =
     let J₀ = c .before .before .before .before .before .before .before .before in
     let J = J₀ .before .before .before .before .before .before .before .before .before in
     let I₀ = J .before .before .before .before .before .before .before .before .before .before in
-    let I = I₀ .before .before .before .before .before .before .before .before .before .before in
+    let I = I₀ .before .before .before .before .before .before .before .before .before .before .before in
     let A = I .before .before .before .before .before .before .before .before .before .before .before .before .before .before .before in
     omega (arith, I .loop-test .taken, A .fits)
 
@@ -476,14 +500,14 @@ loop-less-8 c =
     let J₀ = c .before .before .before .before .before .before .before .before in
     let J = J₀ .before .before .before .before .before .before .before .before .before in
     let I₀ = J .before .before .before .before .before .before .before .before .before .before in
-    let I = I₀ .before .before .before .before .before .before .before .before .before .before in
+    let I = I₀ .before .before .before .before .before .before .before .before .before .before .before in
     omega (arith, I .loop-test .taken)
 
 loop-again-8 : tie.Need-loop-again-8 Inv-loop2 μ-loop2 Inv-loop μ-loop
 loop-again-8 c =
     let P = c .before .before .before .before in
     let H = P .before .before .before .before in
-    let K = H .before .before .before .before .before .before .before .before .before .before .before in
+    let K = H .before .before .before .before .before .before .before .before .before .before .before .before in
     let T = K .before .before .before in
     let E = T .before .before .before .before .before .before in
     let G = E .before .before in
@@ -514,9 +538,15 @@ flush-free-requires c κs =
     (named-by (G₁ .before .before .worker-byte .ensures .0) (G₂ .record-at .ensures)) (G .gate-for .ensures)) in
     (below D _ (E .enum-told .given .1) _ _ _ (T .step .ensures), told D _ (E .enum-told .given .1) _ _ _ (T .step .ensures) _ (K .s5 .given .1))
 
-sub-t209 : tie.Need-sub-t209 Inv-loop2 μ-loop2 Inv-loop μ-loop
-sub-t209 c =
-    let K = c .before .before .before .before .before .before in
+mul-y-7 : tie.Need-mul-y-7 Inv-loop2 μ-loop2 Inv-loop μ-loop
+mul-y-7 c = omega arith
+
+element-copy-out-y-7 : tie.Need-element-copy-out-y-7 Inv-loop2 μ-loop2 Inv-loop μ-loop
+element-copy-out-y-7 c = omega arith
+
+sub-t225 : tie.Need-sub-t225 Inv-loop2 μ-loop2 Inv-loop μ-loop
+sub-t225 c =
+    let K = c .before .before .before .before .before .before .before in
     let T = K .before .before .before in
     let E = T .before .before .before .before .before .before in
     let G = E .before .before in
@@ -530,15 +560,15 @@ sub-t209 c =
     _ (E .enum-told .given .1) _ _ _ (T .step .ensures) _ (K .s5 .given .1) in
     omega (arith, l)
 
-mul-t208 : tie.Need-mul-t208 Inv-loop2 μ-loop2 Inv-loop μ-loop
-mul-t208 c = omega arith
+mul-t221 : tie.Need-mul-t221 Inv-loop2 μ-loop2 Inv-loop μ-loop
+mul-t221 c = omega arith
 
 element-set-from-hub-7 : tie.Need-element-set-from-hub-7 Inv-loop2 μ-loop2 Inv-loop μ-loop
 element-set-from-hub-7 c = omega arith
 
 loop2-holds : tie.Need-loop2-holds Inv-loop2 μ-loop2 Inv-loop μ-loop
 loop2-holds c =
-    let J = c .before .before .before .before .before .before .before .before .before in
+    let J = c .before .before .before .before .before .before .before .before .before .before in
     let W = J .before .before .before .before .before .before .before .before .before .before .before .before .before in
     let I = W .before .before .before .before in
     (omega arith, refl, length-set (I .loop .hub .workers) (W .before .worker-byte .result % 16) _ ∙ I .loop .inv .sixteen)
@@ -555,8 +585,8 @@ stands-on-requires c κs = tt
 off-requires : tie.Need-off-requires Inv-loop2 μ-loop2 Inv-loop μ-loop
 off-requires c κs = tt
 
-mul-t225 : tie.Need-mul-t225 Inv-loop2 μ-loop2 Inv-loop μ-loop
-mul-t225 c = omega arith
+mul-t240 : tie.Need-mul-t240 Inv-loop2 μ-loop2 Inv-loop μ-loop
+mul-t240 c = omega arith
 
 element-set-from-hub-8 : tie.Need-element-set-from-hub-8 Inv-loop2 μ-loop2 Inv-loop μ-loop
 element-set-from-hub-8 c = omega arith
@@ -602,7 +632,8 @@ put-answer-requires-9 c κs = tt
 
 add-k-9 : tie.Need-add-k-9 Inv-loop2 μ-loop2 Inv-loop μ-loop
 add-k-9 c =
-    let J = c .before .before .before .before .before .before .before .before .before .before .before .before .before .before .before .before in
+    let J₀ = c .before .before .before .before .before .before .before .before in
+    let J = J₀ .before .before .before .before .before .before .before .before .before in
     let I₀ = J .before .before .before .before .before .before .before .before .before in
     let I = I₀ .before .before .before .before .before .before .before .before .before in
     let A = I .before .before .before .before .before .before .before .before .before .before .before .before .before .before .before in
@@ -610,7 +641,8 @@ add-k-9 c =
 
 loop-less-9 : tie.Need-loop-less-9 Inv-loop2 μ-loop2 Inv-loop μ-loop
 loop-less-9 c =
-    let J = c .before .before .before .before .before .before .before .before .before .before .before .before .before .before .before .before in
+    let J₀ = c .before .before .before .before .before .before .before .before in
+    let J = J₀ .before .before .before .before .before .before .before .before .before in
     let I₀ = J .before .before .before .before .before .before .before .before .before in
     let I = I₀ .before .before .before .before .before .before .before .before .before in
     omega (arith, I .loop-test .taken)
@@ -620,7 +652,7 @@ loop-again-9 c =
     let P = c .before .before .before .before in
     let X = P .before .before .before in
     let J = X .before in
-    let H = J .before .before .before in
+    let H = J .before .before .before .before in
     let K = H .before .before .before .before .before in
     let T = K .before .before .before in
     let E = T .before .before .before .before .before .before in
@@ -686,7 +718,9 @@ run-spec =
     loop-less-2
     loop-again-2
     enum-known-g-3
-    mul-t99
+    mul-y
+    element-copy-out-y
+    mul-t101
     element-set-from-hub
     put-answer-requires-3
     add-k-3
@@ -695,20 +729,22 @@ run-spec =
     enum-told
     step-requires
     enum-known-s
-    mul-t118
+    mul-y-2
+    element-copy-out-y-2
+    mul-t123
     element-set-from-hub-2
     put-answer-requires-4
     add-k-4
     loop-less-4
     loop-again-4
     enum-known-s-2
-    mul-y
-    element-copy-out-y
+    mul-y-3
+    element-copy-out-y-3
     put-hand-in-requires
     put-slot-requires
     put-time-requires
     put-time-requires-2
-    mul-t125
+    mul-t134
     element-set-from-hub-3
     put-answer-requires-5
     add-k-5
@@ -716,8 +752,10 @@ run-spec =
     loop-again-5
     enum-told-2
     flush-take-requires
-    cast-t147
-    mul-t152
+    mul-y-4
+    element-copy-out-y-4
+    cast-t159
+    mul-t163
     element-set-from-hub-4
     put-answer-requires-6
     add-k-6
@@ -727,23 +765,25 @@ run-spec =
     cast-j
     mul-z
     element-copy-out-z
-    mul-y-2
-    element-copy-out-y-2
+    mul-y-5
+    element-copy-out-y-5
     time-of-requires
     mul-hub
     add-hub
     mul-hub-2
     element-write-hub
-    add-t160
-    mul-t169
+    add-t171
+    mul-t180
     element-set-from-hub-5
     put-answer-requires-7
     add-k-7
     loop-less-7
     loop-again-7
     enum-known-s-4
+    mul-y-6
+    element-copy-out-y-6
     flush-split-requires
-    mul-t186
+    mul-t193
     element-set-from-hub-6
     put-answer-requires-8
     add-k-8
@@ -751,15 +791,17 @@ run-spec =
     loop-again-8
     enum-known-s-5
     flush-free-requires
-    sub-t209
-    mul-t208
+    mul-y-7
+    element-copy-out-y-7
+    sub-t225
+    mul-t221
     element-set-from-hub-7
     loop2-holds
     mul-z-2
     element-copy-out-z-2
     stands-on-requires
     off-requires
-    mul-t225
+    mul-t240
     element-set-from-hub-8
     add-j
     loop2-less
