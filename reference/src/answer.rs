@@ -6,13 +6,13 @@ use std::fmt;
 #[derive(Clone, Copy, Debug, PartialEq, Eq, PartialOrd, Ord, Hash)]
 #[repr(u8)]
 pub enum Refusal {
-    /// 1: operation above 8.
+    /// 1: operation above 11.
     Operation = 1,
     /// 2: an unused byte is not zero.
     UnusedByte = 2,
     /// 3: worker not below P.
     Worker = 3,
-    /// 4: register not below V (256 for a read-out row).
+    /// 4: register not below V (256 for a read-out row), or mark above 11 (A3).
     Register = 4,
     /// 5: setup outside its ranges.
     Setup = 5,
@@ -30,7 +30,7 @@ pub enum Refusal {
     Idle = 11,
     /// 12: open with a time announced.
     Announced = 12,
-    /// 13: read, close or total with none announced.
+    /// 13: read, close, total or mark with none announced.
     NotAnnounced = 13,
     /// 14: put's first step, every slot in some register's list.
     NoFreeSlot = 14,
@@ -42,11 +42,17 @@ pub enum Refusal {
     Group = 17,
     /// 18: total's step, the value to be summed is above A1's limit (A2).
     Summand = 18,
+    /// 19: mark in use (A3).
+    MarkUsed = 19,
+    /// 20: mark empty for a read or a release (A3).
+    MarkEmpty = 20,
+    /// 21: release while a read of the mark runs (A3).
+    MarkRead = 21,
 }
 
 impl Refusal {
     /// All refusals, in the order of their numbers.
-    pub const ALL: [Refusal; 18] = [
+    pub const ALL: [Refusal; 21] = [
         Refusal::Operation,
         Refusal::UnusedByte,
         Refusal::Worker,
@@ -65,6 +71,9 @@ impl Refusal {
         Refusal::Value,
         Refusal::Group,
         Refusal::Summand,
+        Refusal::MarkUsed,
+        Refusal::MarkEmpty,
+        Refusal::MarkRead,
     ];
 
     /// The refusal's number.
@@ -79,9 +88,15 @@ impl Refusal {
         Refusal::ALL.get(index).copied()
     }
 
-    /// Is this met by a step that is taken (14, 15 and 18), and not on reading a record?
+    /// May a step that is taken meet this? 14, 15, 18, and 19 to 21, which are tested again there.
     pub const fn at_step(self) -> bool {
-        matches!(self, Refusal::NoFreeSlot | Refusal::LastClock | Refusal::Summand)
+        let again = matches!(self, Refusal::MarkUsed | Refusal::MarkEmpty | Refusal::MarkRead);
+        again || !self.on_reading()
+    }
+
+    /// May this be given on reading a record? All but 14, 15 and 18.
+    pub const fn on_reading(self) -> bool {
+        !matches!(self, Refusal::NoFreeSlot | Refusal::LastClock | Refusal::Summand)
     }
 }
 
@@ -96,11 +111,11 @@ pub enum Answer {
     Freed(u16),
     /// An open's answer: its time.
     At(u32),
-    /// A get's or read's answer, and a total's that is not below 0.
+    /// A get's, read's or marked read's answer, and a total's that is not below 0.
     Value(u64),
     /// A total's answer below 0: how far below.
     Minus(u64),
-    /// The end of a put, close or collect.
+    /// The end of a put, close, collect, mark or release.
     Done,
     /// Refused.
     No(Refusal),
@@ -116,7 +131,7 @@ impl Answer {
         }
     }
 
-    /// The number that a get, read or total shows.
+    /// The number that a get, read, marked read or total shows.
     pub fn shown(self) -> Option<i128> {
         match self {
             Answer::Value(value) => Some(i128::from(value)),

@@ -9,9 +9,10 @@ use crate::pool::batch_size;
 use crate::store::{Doing, Slot, Store};
 use std::collections::VecDeque;
 
-/// Document 001's bound (theorem 5): at any time at most 2H + 25 P² log P deprecated objects are not
-/// yet returned, where H is the greatest number of needed ones among them at any time. Deprecated
-/// are the old versions that were handed in; needed are those whose range holds an announced time.
+/// Document 001's bound (theorem 5): at any time at most 2H + 25 P² log P deprecated objects are
+/// not yet returned, where H is the greatest number of needed ones among them at any time.
+/// Deprecated are the old versions that were handed in; needed are those whose range holds an
+/// announced time or a mark's.
 ///
 /// Document 001 gives the logarithm no base and chooses B = P log P. Document 01's B is that with
 /// base 2, rounded up, and 1 for one worker. So P² log P is P B here.
@@ -24,9 +25,9 @@ pub fn bound(workers: usize, most_needed: usize) -> usize {
 pub struct Counts {
     /// In the lists of the hub: handed in or, at most one for each worker, about to be.
     pub kept: usize,
-    /// Those whose range holds an announced time. An open high is above every time.
+    /// Those whose range holds an announced time or a mark's. An open high is above every time.
     pub needed: usize,
-    /// Those whose high is above the oldest announced time, of all versions that ever were: what
+    /// Those whose high is above the oldest of these times, of all versions that ever were: what
     /// the old rule has to keep, with as many slots as it likes and without any delay.
     pub newer_than_oldest: usize,
 }
@@ -36,7 +37,7 @@ pub struct Counts {
 pub struct Census {
     /// What each worker was doing before the record.
     doing: Vec<Doing>,
-    /// The announced times.
+    /// The announced times and those of the marks.
     times: Vec<u32>,
     /// By register: the newest version's slot, while it is unstamped. Below it, a high is open.
     unstamped: Vec<Option<u16>>,
@@ -77,11 +78,14 @@ impl Census {
                 Doing::PutPublish { register, .. }
                 | Doing::PutStamp { register, .. }
                 | Doing::ReadStart { register }
+                | Doing::MarkedStart { register, .. }
                 | Doing::Get { register } => self.look_at_register(store, register),
                 Doing::TotalStart { place, .. } => {
                     self.look_at_register(store, store.groups.row(place).register);
                 }
-                Doing::OpenAnnounce | Doing::Close => self.look_at_times(store),
+                Doing::OpenAnnounce | Doing::Close | Doing::Mark { .. } | Doing::Release { .. } => {
+                    self.look_at_times(store);
+                }
                 _ => {}
             }
         }
@@ -108,11 +112,13 @@ impl Census {
         slot(newest).older.into_iter().for_each(|old| self.look_at_slot(store, old));
     }
 
-    /// After a time was announced or withdrawn. A time announced is the clock, which no closed high
-    /// is above, so only open ones can be needed for it; one withdrawn can only end a need.
+    /// After a time was announced, marked, released or withdrawn. A time announced is the clock,
+    /// which no closed high is above, so only open ones can be needed for it; one marked is
+    /// announced; one released or withdrawn can only end a need.
     fn look_at_times(&mut self, store: &Store) {
         self.times.clear();
         self.times.extend(store.workers.iter().filter_map(|worker| worker.announced));
+        self.times.extend(store.marks.iter().flatten());
         for register in 0..self.unstamped.len() {
             let newest = self.unstamped[register].map(|index| &store.slots[usize::from(index)]);
             let old = newest.and_then(|newest| newest.older);
@@ -136,7 +142,7 @@ impl Census {
         self.counts.needed -= usize::from(before);
     }
 
-    /// Drops the highs that are not above the oldest announced time.
+    /// Drops the highs that are not above the oldest time.
     fn forget(&mut self) {
         let oldest = self.times.iter().copied().min().unwrap_or(u32::MAX);
         while self.highs.front().is_some_and(|&high| high <= oldest) {

@@ -24,8 +24,8 @@ impl Observer for () {
 
 macro_rules! branches {
     ($($name:ident $text:literal)*) => {
-        /// A branch of the steps, or of the tests that a put above A1's limit, a total or a list
-        /// meets.
+        /// A branch of the steps, or of the tests that a put above A1's limit, a total, a list or a
+        /// mark meets.
         #[derive(Clone, Copy, Debug, PartialEq, Eq)]
         #[repr(usize)]
         pub enum Branch { $(#[doc = $text] $name,)* }
@@ -125,6 +125,55 @@ branches! {
     ListMany "a setup gets 5 for a row after 32 of its group"
     ListLong "a setup gets 5 for a list of more than 4096 bytes"
     ListAgain "a second setup with an unfit list gets 9"
+    FlushNoMark "flush (2) reads no mark"
+    FlushMarks "flush (2) reads marks"
+    FlushAllMarks "flush (2) reads twelve marks"
+    RangeOfMark "flush (3) keeps a range that a mark needs and no snapshot"
+    CloseMarked "close withdraws a time that a mark holds"
+    FreeMovesOneMarked "flush (4) moves one marked read"
+    FreeMovesMoreMarked "flush (4) moves several marked reads at once"
+    MarkTime "mark copies its worker's time"
+    MarkSameTime "mark copies a time that another mark holds"
+    MarkUsedAtStep "mark gets 19 at its step"
+    ReleaseEmpties "release empties its mark"
+    ReleaseEmptyAtStep "release gets 20 at its step"
+    ReleaseReadAtStep "release gets 21 at its step"
+    MarkedEmptyAtStep "marked read (1) gets 20"
+    MarkedStamps "marked read (1) stamps"
+    MarkedStampedAlready "marked read (1) has nothing to stamp"
+    MarkedFoundAtOnce "marked read (2) answers the version marked read (1) stood on"
+    MarkedFound "marked read (2) answers after moving"
+    MarkedMoves "marked read (2) moves to the older version"
+    MarkedNoSnapshot "a marked read answers to a worker without a snapshot"
+    MarkedOwnTime "a marked read answers to a worker whose own time it is"
+    MarkedOtherTime "a marked read answers to a worker with another time"
+    MarkedClosed "a marked read answers at a time that no worker has any more"
+    MarkBegins "a mark begins"
+    MarkUsed "a mark gets 19"
+    MarkNoSnapshot "a mark gets 13, its mark empty"
+    MarkUsedNoSnapshot "a mark gets 13, its mark in use"
+    MarkBusy "a mark gets 10"
+    MarkAbove "a mark above 11 gets 4"
+    MarkAboveBusy "a mark above 11 gets 4 on a busy worker"
+    MarkNoWorker "a mark gets 3"
+    MarkNotSetUp "a mark gets 8"
+    ReleaseBegins "a release begins"
+    ReleaseEmpty "a release gets 20"
+    ReleaseRead "a release gets 21"
+    ReleaseToBeRead "a release begins before the first step of a marked read"
+    ReleaseBusy "a release gets 10"
+    ReleaseAbove "a release of a mark above 11 gets 4"
+    ReleaseAboveBusy "a release of a mark above 11 gets 4 on a busy worker"
+    ReleaseNoWorker "a release gets 3"
+    ReleaseNotSetUp "a release gets 8"
+    MarkedBegins "a marked read begins"
+    MarkedEmpty "a marked read gets 20"
+    MarkedBusy "a marked read gets 10"
+    MarkedAbove "a marked read of a mark above 11 gets 4"
+    MarkedNoRegister "a marked read of a register from V on gets 4"
+    MarkedAboveBusy "a marked read of a mark above 11 gets 4 on a busy worker"
+    MarkedNoWorker "a marked read gets 3"
+    MarkedNotSetUp "a marked read gets 8"
 }
 
 impl Branch {
@@ -179,6 +228,12 @@ impl Branch {
         Branch::ListLong,
         Branch::ListAgain,
     ];
+
+    /// Those of a mark, a release or a marked read, and of a flush that meets them.
+    pub fn of_marks() -> impl Iterator<Item = Branch> {
+        let all = Branch::ALL.iter().map(|&(branch, _)| branch);
+        all.skip_while(|&branch| branch != Branch::FlushNoMark)
+    }
 }
 
 /// Sizes of hubs: what they are called, and which P, V and N are meant.

@@ -6,17 +6,20 @@
 
 use crate::answer::Answer;
 use crate::fault::Fault;
+use crate::ghost::Ghost;
 use crate::hub::Hub;
-use crate::invariant::{self, Ghost};
+use crate::invariant;
 use crate::list::Groups;
+use crate::marks::MARKS;
 use crate::pool::Range;
 use crate::record::Record;
 use crate::store::{Doing, Store};
 use std::collections::HashSet;
 use std::hash::{BuildHasherDefault, Hasher};
 
-/// The hub to explore: its setup with a list, and the values of puts. In each state every record is taken
-/// with each of `max_values` as the largest value that a put may bring.
+/// The hub to explore: its setup with a list, the values of puts, and how many marks are used. In
+/// each state every record is taken with each of `max_values` as the largest value that a put may
+/// bring.
 #[derive(Clone, Copy, Debug)]
 pub struct Size {
     pub workers: u8,
@@ -26,6 +29,7 @@ pub struct Size {
     pub list: &'static [u8],
     pub values: &'static [u64],
     pub max_values: &'static [u64],
+    pub marks: u8,
 }
 
 /// What an exploration went through.
@@ -73,7 +77,7 @@ pub fn explore<F: Fault + Clone>(size: Size, invariants: bool) -> Result<Explore
             let (before, after) = (store(&hub), store(&next));
             next_ghost.follow(before, record, max_value, answer, after).map_err(failed)?;
             coder.encode(store(&next), next_ghost, &mut next_code);
-            if matches!(answer, Answer::No(refusal) if !refusal.at_step()) {
+            if record.refused_on_reading(answer) {
                 if code != next_code {
                     return Err(failed("a refused record changes the store".to_string()));
                 }
@@ -100,9 +104,10 @@ fn store<F: Fault>(hub: &Hub<F>) -> &Store {
 }
 
 /// Every record whose fields fit, with the values of the alphabet and each largest value. With a list,
-/// also totals of a group that has no rows.
+/// also totals of a group that has no rows; with marks, also mark 12.
 fn alphabet(size: Size, groups: &Groups) -> Vec<(Record, u64)> {
     let last = groups.all().last().map(|row| u16::from(row.group));
+    let marks = || (0..size.marks).chain((size.marks > 0).then_some(MARKS as u8));
     let mut records = Vec::new();
     for worker in 0..size.workers {
         records.push(Record::Step { worker });
@@ -111,11 +116,14 @@ fn alphabet(size: Size, groups: &Groups) -> Vec<(Record, u64)> {
         records.push(Record::Collect { worker });
         let groups = last.map_or(0..0, |last| 0..last + 2);
         records.extend(groups.map(|group| Record::Total { worker, group }));
+        records.extend(marks().map(|mark| Record::Mark { worker, mark: mark.into() }));
+        records.extend(marks().map(|mark| Record::Release { worker, mark: mark.into() }));
         for register in 0..size.registers {
             records.push(Record::Read { worker, register });
             records.push(Record::Get { worker, register });
             let put = |&value| Record::Put { worker, register, value };
             records.extend(size.values.iter().map(put));
+            records.extend(marks().map(|mark| Record::Marked { worker, register, mark }));
         }
     }
     let with = |&max_value| records.iter().map(move |&record| (record, max_value));
@@ -127,6 +135,8 @@ fn alphabet(size: Size, groups: &Groups) -> Vec<(Record, u64)> {
 struct Coder {
     base: u32,
     values: &'static [u64],
+    /// How many marks are used; the others stay empty.
+    marks: usize,
     /// Contents of free slots matter (to a fault only).
     freed_slots: bool,
     /// Puts' own versions matter (to a fault only).
@@ -142,7 +152,8 @@ impl Coder {
         Coder {
             base: size.clock,
             values: size.values,
-            freed_slots: F::LEAVE_READ || F::LEAVE_TOTAL,
+            marks: usize::from(size.marks),
+            freed_slots: F::LEAVE_READ || F::LEAVE_TOTAL || F::LEAVE_MARKED,
             own_versions: F::COVERING_LOW,
             times_first: F::TIMES_FIRST,
         }
@@ -187,13 +198,14 @@ impl Coder {
         }
         code.push(store.queue.len() as u8);
         store.queue.pools().for_each(|pool| self.ranges(pool, code));
+        code.extend(store.marks[..self.marks].iter().map(|&time| self.time(time)));
         for worker in &store.workers {
             code.push(self.time(worker.announced));
             self.ranges(&worker.local, code);
             self.doing(worker.doing, code);
             let (times, pools) = match worker.doing {
                 Doing::FlushTake => (self.times_first, false),
-                Doing::FlushTimes { .. } => (true, !self.times_first),
+                Doing::FlushTimes { .. } | Doing::FlushMarks => (true, !self.times_first),
                 Doing::FlushSplit => (true, true),
                 _ => (false, false),
             };
@@ -209,12 +221,18 @@ impl Coder {
             }
         }
         code.extend(ghost.registers.iter().map(|&value| self.value(value)));
-        for copy in &ghost.copies {
+        let marked =
+            ghost.marks[..self.marks].iter().map(|held| held.as_ref().map(|(_, copy)| copy));
+        for copy in ghost.copies.iter().map(Option::as_ref).chain(marked) {
             match copy {
                 Some(copy) => code.extend(copy.iter().map(|&value| self.value(value))),
                 None => code.push(Coder::NONE),
             }
         }
+        // In the right hub these are its own times.
+        let times =
+            ghost.marks[..self.marks].iter().map(|held| held.as_ref().map(|&(time, _)| time));
+        code.extend(times.map(|time| self.time(time)));
         code.extend(ghost.reading.iter().map(|r| r.map_or(Coder::NONE, |r| r as u8)));
     }
 
@@ -247,6 +265,13 @@ impl Coder {
             Doing::TotalAt { slot, place, sum, .. } => {
                 code.extend([15, slot as u8, place.row as u8]);
                 code.extend(sum.to_le_bytes());
+            }
+            Doing::FlushMarks => code.push(16),
+            Doing::Mark { mark } => code.extend([17, mark]),
+            Doing::Release { mark } => code.extend([18, mark]),
+            Doing::MarkedStart { register, mark } => code.extend([19, register as u8, mark]),
+            Doing::MarkedAt { slot, mark, time, .. } => {
+                code.extend([20, slot as u8, mark, self.time(Some(time))]);
             }
         }
     }

@@ -98,6 +98,42 @@ faults! {
     RegisterV REGISTER_V
     /// A2: accepts a row of sign 2, for a minus.
     SignTwo SIGN_TWO
+
+    /// A3: a flush reads the marks before the workers' times; as many steps as the right flush.
+    MarksFirst MARKS_FIRST
+    /// A3: a flush takes its step for the marks and reads none.
+    MarksNotRead MARKS_NOT_READ
+    /// A3: a flush reads the marks with the last worker's time, in one step less.
+    MarksWithLast MARKS_WITH_LAST
+    /// A3: a close empties the marks that hold its worker's time.
+    CloseEmpties CLOSE_EMPTIES
+    /// A3: a mark takes the clock and not its worker's time.
+    MarkClock MARK_CLOCK
+    /// A3: a marked read by a worker with a snapshot takes its worker's time.
+    MarkedOwnTime MARKED_OWN_TIME
+    /// A3: leaves a marked read on an unlinked version.
+    LeaveMarked LEAVE_MARKED
+    /// A3: tests 19 when a mark begins only, so that the second of two wins.
+    UsedAtBegin USED_AT_BEGIN
+    /// A3: tests 20 when a release begins only.
+    EmptyAtBegin EMPTY_AT_BEGIN
+    /// A3: tests 20 when a marked read begins only, and shows the newest value where the mark is
+    /// empty.
+    MarkedNewest MARKED_NEWEST
+    /// A3: tests 21 when a release begins only.
+    ReadAtBegin READ_AT_BEGIN
+    /// A3: does not test 21, so that a release empties a mark under a read.
+    ReleaseUnderRead RELEASE_UNDER_READ
+    /// A3: takes a marked read to run from its begin on.
+    ReadFromBegin READ_FROM_BEGIN
+    /// A3: tests 19 before 13.
+    UsedBeforeSnapshot USED_BEFORE_SNAPSHOT
+    /// A3: tests a mark above 11 after 10.
+    MarkAfterBusy MARK_AFTER_BUSY
+    /// A3: takes the mark of a mark or release from byte 2 alone.
+    MarkByte MARK_BYTE
+    /// A3: accepts mark 12, and takes the one before for it.
+    MarkTwelve MARK_TWELVE
 }
 
 /// The largest value that a put may bring, or what a fault takes for it.

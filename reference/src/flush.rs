@@ -3,6 +3,7 @@
 use crate::answer::Answer;
 use crate::coverage::{Branch, Observer};
 use crate::fault::Fault;
+use crate::marks::MARKS;
 use crate::pool::{merge, Finger, Range, Split};
 use crate::store::{Doing, Slot, Store, Worker};
 
@@ -40,10 +41,11 @@ impl Store {
             return (Doing::FlushSplit, Answer::Going);
         }
         times.clear();
-        (Doing::FlushTimes { next: 0 }, Answer::Going)
+        let next = if F::MARKS_FIRST { Doing::FlushMarks } else { Doing::FlushTimes { next: 0 } };
+        (next, Answer::Going)
     }
 
-    /// Flush (2).
+    /// Flush (2), one worker's time.
     pub(crate) fn flush_times<F: Fault, O: Observer>(
         &mut self,
         w: usize,
@@ -61,10 +63,37 @@ impl Store {
             None => seen.branch(Branch::FlushNoTime),
         }
         let next = next + 1;
-        let doing = if usize::from(next) < self.workers.len() {
-            Doing::FlushTimes { next }
-        } else if F::TIMES_FIRST {
+        if usize::from(next) < self.workers.len() {
+            return (Doing::FlushTimes { next }, Answer::Going);
+        }
+        if F::MARKS_WITH_LAST {
+            return self.flush_marks::<F, O>(w, seen);
+        }
+        let doing = if F::MARKS_FIRST { Doing::FlushSplit } else { Doing::FlushMarks };
+        (doing, Answer::Going)
+    }
+
+    /// Flush (2), all marks.
+    pub(crate) fn flush_marks<F: Fault, O: Observer>(
+        &mut self,
+        w: usize,
+        seen: &mut O,
+    ) -> (Doing, Answer) {
+        let held = self.marks.iter().flatten();
+        if O::ON {
+            seen.branch(match held.clone().count() {
+                0 => Branch::FlushNoMark,
+                MARKS => Branch::FlushAllMarks,
+                _ => Branch::FlushMarks,
+            });
+        }
+        if !F::MARKS_NOT_READ {
+            self.workers[w].times.extend(held);
+        }
+        let doing = if F::TIMES_FIRST {
             Doing::FlushTake
+        } else if F::MARKS_FIRST {
+            Doing::FlushTimes { next: 0 }
         } else {
             Doing::FlushSplit
         };
@@ -77,6 +106,9 @@ impl Store {
         w: usize,
         seen: &mut O,
     ) -> (Doing, Answer) {
+        if O::ON {
+            self.observe_marks(w, seen);
+        }
         let Worker { local, times, merged, .. } = &mut self.workers[w];
         let needed = &mut self.needed;
         needed.clear();
@@ -133,14 +165,26 @@ impl Store {
         (Doing::FlushFree { next: next + 1 }, Answer::Freed(slot))
     }
 
-    /// Unlinks a covered version; reads and totals standing on it move to its older neighbour.
+    /// Is there a range to be split that a mark needs and no snapshot?
+    fn observe_marks<O: Observer>(&self, w: usize, seen: &mut O) {
+        let snapshots: Vec<u32> = self.workers.iter().filter_map(|w| w.announced).collect();
+        let marks: Vec<u32> = self.marks.iter().flatten().copied().collect();
+        let Worker { merged, times, .. } = &self.workers[w];
+        let only = |range: &&Range| range.needed(&marks) && !range.needed(&snapshots);
+        for _ in merged.iter().filter(|range| range.needed(times)).filter(only) {
+            seen.branch(Branch::RangeOfMark);
+        }
+    }
+
+    /// Unlinks a covered version; reads, totals and marked reads standing on it move to its older
+    /// neighbour.
     fn unlink<F: Fault, O: Observer>(&mut self, slot: u16, seen: &mut O) {
         let Slot { older, newer, .. } = self.slots[usize::from(slot)];
         if let Some(newer) = newer {
             self.slots[usize::from(newer)].older = older;
         }
         seen.branch(if older.is_some() { Branch::FreeMiddle } else { Branch::FreeOldest });
-        let (mut reads, mut totals) = (0, 0);
+        let (mut reads, mut totals, mut marked) = (0, 0, 0);
         if let Some(older) = older {
             self.slots[usize::from(older)].newer = newer;
             for worker in &mut self.workers {
@@ -152,6 +196,10 @@ impl Store {
                     Doing::TotalAt { slot: at, first, .. } if *at == slot && !F::LEAVE_TOTAL => {
                         (*at, *first) = (older, false);
                         totals += 1;
+                    }
+                    Doing::MarkedAt { slot: at, first, .. } if *at == slot && !F::LEAVE_MARKED => {
+                        (*at, *first) = (older, false);
+                        marked += 1;
                     }
                     _ => {}
                 }
@@ -167,7 +215,12 @@ impl Store {
             1 => seen.branch(Branch::FreeMovesOneTotal),
             _ => seen.branch(Branch::FreeMovesMoreTotals),
         }
-        if !F::LEAVE_READ && !F::LEAVE_TOTAL {
+        match marked {
+            0 => {}
+            1 => seen.branch(Branch::FreeMovesOneMarked),
+            _ => seen.branch(Branch::FreeMovesMoreMarked),
+        }
+        if !F::LEAVE_READ && !F::LEAVE_TOTAL && !F::LEAVE_MARKED {
             let freed = &mut self.slots[usize::from(slot)];
             (freed.older, freed.newer) = (None, None);
         }

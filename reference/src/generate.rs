@@ -5,10 +5,11 @@ use crate::answer::Answer;
 use crate::fault::Right;
 use crate::hub::Hub;
 use crate::list::{Groups, GROUPS};
-use crate::lists::Habit;
 use crate::log;
+use crate::marks::MARKS;
+use crate::profile::{Marking, Profile, Weights};
 use crate::record::{Record, LAST_OPERATION, LENGTH};
-use crate::store::{Doing, Store, LAST_CLOCK, MAX_REGISTERS, MAX_SLOTS, MAX_VALUE, MAX_WORKERS};
+use crate::store::{Doing, Store, MAX_REGISTERS, MAX_SLOTS, MAX_VALUE, MAX_WORKERS};
 
 /// A small random number generator (splitmix64).
 #[derive(Clone, Debug)]
@@ -101,10 +102,14 @@ pub enum Kind {
     Totals,
     /// Lists of all sizes, half of them unfit.
     Lists,
+    /// Marks, releases and marked reads, in each other's way.
+    Marks,
+    /// Marks that are held for long, while versions are freed under marked reads.
+    Held,
 }
 
 impl Kind {
-    pub const ALL: [(Kind, &'static str); 18] = [
+    pub const ALL: [(Kind, &'static str); 20] = [
         (Kind::Uniform, "uniform"),
         (Kind::Mixed, "mixed"),
         (Kind::Slots, "slots"),
@@ -123,191 +128,14 @@ impl Kind {
         (Kind::Values, "values"),
         (Kind::Totals, "totals"),
         (Kind::Lists, "lists"),
+        (Kind::Marks, "marks"),
+        (Kind::Held, "held"),
     ];
 
     /// The kind with this name.
     pub fn named(name: &str) -> Option<Kind> {
         let found = Kind::ALL.iter().find(|(_, kind_name)| *kind_name == name);
         found.map(|(kind, _)| *kind)
-    }
-}
-
-/// Weights of the operations that an idle worker may begin.
-#[derive(Clone, Copy, Debug)]
-struct Weights {
-    put: u64,
-    open: u64,
-    read: u64,
-    close: u64,
-    get: u64,
-    collect: u64,
-}
-
-/// The sizes and habits of a kind. Pairs are lowest and highest; rates are of a thousand.
-#[derive(Clone, Copy, Debug)]
-struct Profile {
-    workers: (u64, u64),
-    registers: (u64, u64),
-    /// Slots beyond one for each register.
-    spare: (u64, u64),
-    clock: (u64, u64),
-    list: Habit,
-    weights: Weights,
-    /// The weight of a total beside them.
-    total: u64,
-    /// Most steps that a worker takes in a row.
-    burst: u64,
-    /// Refused on purpose.
-    invalid: u64,
-    /// Setups among them.
-    setup: u64,
-    /// Puts above the limit among the rest of them.
-    large: u64,
-    /// A busy worker falls still after a step.
-    stall: u64,
-    /// A read falls still after a step.
-    stall_read: u64,
-    /// Longest stillness, in records.
-    stillness: u64,
-}
-
-const MIXED: Profile = Profile {
-    workers: (1, 16),
-    registers: (1, 8),
-    spare: (0, 60),
-    clock: (1, 1000),
-    list: Habit { missing: 250, unfit: 20, groups: (1, 4), rows: (1, 5) },
-    weights: Weights { put: 40, open: 12, read: 20, close: 8, get: 10, collect: 6 },
-    total: 8,
-    burst: 6,
-    invalid: 20,
-    setup: 5,
-    large: 100,
-    stall: 10,
-    stall_read: 30,
-    stillness: 200,
-};
-
-impl Profile {
-    fn of(kind: Kind) -> Profile {
-        let last = u64::from(LAST_CLOCK);
-        let most_registers = u64::from(MAX_REGISTERS);
-        match kind {
-            Kind::Uniform | Kind::Mixed | Kind::Tails => MIXED,
-            Kind::Slots => Profile {
-                workers: (1, 4),
-                registers: (1, 4),
-                spare: (0, 5),
-                weights: Weights { put: 60, open: 8, read: 10, close: 6, get: 6, collect: 16 },
-                ..MIXED
-            },
-            Kind::Clock => Profile {
-                workers: (1, 4),
-                registers: (1, 3),
-                spare: (1, 12),
-                clock: (last - 12, last),
-                weights: Weights { put: 30, open: 30, read: 15, close: 25, get: 5, collect: 8 },
-                ..MIXED
-            },
-            Kind::Snapshots => Profile {
-                workers: (1, 4),
-                registers: (2, 16),
-                spare: (10, 120),
-                weights: Weights { put: 70, open: 12, read: 12, close: 2, get: 3, collect: 6 },
-                ..MIXED
-            },
-            Kind::Collects => Profile {
-                workers: (1, 4),
-                registers: (1, 4),
-                spare: (2, 20),
-                weights: Weights { put: 40, open: 10, read: 10, close: 8, get: 4, collect: 40 },
-                ..MIXED
-            },
-            Kind::Reads => Profile {
-                workers: (2, 6),
-                registers: (1, 2),
-                spare: (4, 24),
-                weights: Weights { put: 40, open: 14, read: 40, close: 6, get: 2, collect: 24 },
-                stall_read: 500,
-                stillness: 120,
-                ..MIXED
-            },
-            Kind::Setups => Profile { invalid: 200, setup: 800, ..MIXED },
-            Kind::Invalid => Profile { invalid: 500, setup: 60, ..MIXED },
-            Kind::Large => Profile {
-                workers: (16, 16),
-                registers: (256, 256),
-                spare: (2048 - 256, 2048 - 256),
-                weights: Weights { put: 60, open: 10, read: 20, close: 8, get: 6, collect: 2 },
-                list: Habit { groups: (1, 32), rows: (1, 32), ..MIXED.list },
-                invalid: 5,
-                burst: 12,
-                ..MIXED
-            },
-            Kind::Batches => Profile {
-                workers: (1, 2),
-                registers: (1, 6),
-                spare: (2, 30),
-                weights: Weights { put: 60, open: 10, read: 8, close: 8, get: 4, collect: 6 },
-                ..MIXED
-            },
-            Kind::Stalled => Profile {
-                workers: (2, 4),
-                registers: (1, 2),
-                spare: (2, 10),
-                weights: Weights { put: 50, open: 16, read: 12, close: 14, get: 2, collect: 24 },
-                stall: 120,
-                stall_read: 120,
-                stillness: 150,
-                ..MIXED
-            },
-            Kind::Sizes => Profile {
-                registers: (1, most_registers),
-                spare: (0, u64::from(MAX_SLOTS) - most_registers),
-                invalid: 5,
-                burst: 12,
-                ..MIXED
-            },
-            Kind::Full => Profile {
-                registers: (17, most_registers - 1),
-                spare: (0, 80),
-                weights: Weights { put: 70, open: 8, read: 8, close: 6, get: 4, collect: 4 },
-                invalid: 5,
-                burst: 12,
-                ..MIXED
-            },
-            Kind::Values => Profile {
-                workers: (1, 4),
-                registers: (1, 3),
-                spare: (2, 20),
-                invalid: 200,
-                large: 800,
-                ..MIXED
-            },
-            Kind::Totals => Profile {
-                workers: (2, 5),
-                registers: (1, 4),
-                spare: (4, 24),
-                list: Habit { missing: 20, unfit: 10, groups: (1, 3), rows: (1, 6) },
-                weights: Weights { put: 40, open: 14, read: 4, close: 5, get: 2, collect: 20 },
-                total: 40,
-                invalid: 60,
-                burst: 10,
-                stall_read: 200,
-                stillness: 80,
-                ..MIXED
-            },
-            Kind::Lists => Profile {
-                workers: (1, 4),
-                registers: (1, most_registers),
-                list: Habit { missing: 50, unfit: 500, groups: (1, 32), rows: (1, 32) },
-                total: 60,
-                invalid: 60,
-                setup: 150,
-                burst: 40,
-                ..MIXED
-            },
-        }
     }
 }
 
@@ -369,6 +197,8 @@ struct Writer {
     list: Vec<u8>,
     /// The groups that have rows.
     groups: Vec<u16>,
+    /// The marks that are used are below this.
+    marks: u64,
     /// For each worker, up to which record it is still.
     still: [usize; MAX_WORKERS],
 }
@@ -382,6 +212,7 @@ impl Writer {
         let clock = from(profile.clock);
         let list = profile.list.list(registers as u16, random);
         let rows = Groups::read::<Right>(&list, registers as u16).unwrap_or_default();
+        let marks = random.between(profile.marking.marks.0, profile.marking.marks.1);
         Writer {
             profile,
             hub: Hub::new(),
@@ -395,6 +226,7 @@ impl Writer {
             },
             list,
             groups: (0..GROUPS as u16).filter(|&group| !rows.rows(group).is_empty()).collect(),
+            marks,
             still: [0; MAX_WORKERS],
         }
     }
@@ -455,6 +287,7 @@ impl Writer {
         let rate = match record.doing {
             Doing::Idle => return false,
             Doing::ReadAt { .. } | Doing::TotalAt { .. } => self.profile.stall_read,
+            Doing::MarkedAt { .. } => self.profile.stall_read,
             _ => self.profile.stall,
         };
         let falls = random.chance(rate);
@@ -472,15 +305,21 @@ impl Writer {
             return Record::Step { worker };
         }
         let Weights { put, open, read, close, get, collect } = self.profile.weights;
+        let Marking { mark, release, marked, .. } = self.profile.marking;
         let snapshot = record.announced.is_some();
+        let [empty, held] = [false, true].map(|held| self.marks_that(held));
+        let only = |allowed: bool, weight: u64| if allowed { weight } else { 0 };
         let weights = [
             put,
-            if snapshot { 0 } else { open },
-            if snapshot { read } else { 0 },
-            if snapshot { close } else { 0 },
+            only(!snapshot, open),
+            only(snapshot, read),
+            only(snapshot, close),
             get,
             collect,
-            if snapshot && !self.groups.is_empty() { self.profile.total } else { 0 },
+            only(snapshot && !self.groups.is_empty(), self.profile.total),
+            only(snapshot && !empty.is_empty(), mark),
+            only(!held.is_empty(), release),
+            only(!held.is_empty(), marked),
         ];
         let register = random.below(self.registers) as u16;
         match random.weighted(&weights) {
@@ -490,7 +329,38 @@ impl Writer {
             3 => Record::Close { worker },
             4 => Record::Get { worker, register },
             5 => Record::Collect { worker },
-            _ => Record::Total { worker, group: random.pick(&self.groups) },
+            6 => Record::Total { worker, group: random.pick(&self.groups) },
+            7 => Record::Mark { worker, mark: random.pick(&empty).into() },
+            8 => Record::Release { worker, mark: random.pick(&held).into() },
+            _ => Record::Marked { worker, register, mark: random.pick(&held) },
+        }
+    }
+
+    /// The marks of the script that hold a time, or those that do not.
+    fn marks_that(&self, hold: bool) -> Vec<u8> {
+        let marks = &self.store().marks;
+        let wanted = |&mark: &u8| marks[usize::from(mark)].is_some() == hold;
+        (0..self.marks as u8).filter(wanted).collect()
+    }
+
+    /// This worker, or as often an idle one.
+    fn often_idle(&self, worker: u8, random: &mut Random) -> u8 {
+        let workers = self.hub.store().map_or(&[][..], |store| &store.workers);
+        let numbered = (0..).zip(workers).filter(|(_, record)| record.doing == Doing::Idle);
+        let idle: Vec<u8> = numbered.map(|(number, _)| number).collect();
+        if idle.is_empty() || random.chance(500) {
+            return worker;
+        }
+        random.pick(&idle)
+    }
+
+    /// Any mark: mostly one of the script's.
+    fn any_mark(&self, random: &mut Random) -> u16 {
+        match random.below(12) {
+            0 => random.pick(&[12, 13, 127, 128, 255, 256, 267, 268, 4096, 65535]),
+            1 => random.below(self.marks) as u16 | 1 << random.between(4, 15),
+            2 => random.below(MARKS as u64) as u16,
+            _ => random.below(self.marks) as u16,
         }
     }
 
@@ -514,7 +384,7 @@ impl Writer {
         let record = if random.chance(self.profile.large) {
             Record::Put { worker, register, value: large(random) }
         } else {
-            match random.below(9) {
+            match random.below(13) {
                 0 => self.any_setup(random),
                 1 => Record::Put { worker, register, value: value(self.hub.max_value, random) },
                 2 => Record::Open { worker },
@@ -523,7 +393,15 @@ impl Writer {
                 5 => Record::Get { worker, register },
                 6 => Record::Collect { worker },
                 7 => Record::Step { worker },
-                _ => Record::Total { worker, group: self.any_group(random) },
+                8 | 12 => Record::Total { worker, group: self.any_group(random) },
+                operation => {
+                    let (worker, mark) = (self.often_idle(worker, random), self.any_mark(random));
+                    match operation {
+                        9 => Record::Mark { worker, mark },
+                        10 => Record::Release { worker, mark },
+                        _ => Record::Marked { worker, register, mark: mark as u8 },
+                    }
+                }
             }
         };
         let mut bytes = record.encode();

@@ -1,9 +1,9 @@
-//! An independent reading of document 01 and of the requests of document 02 that have landed (A1 and
-//! A2): the hub's snapshot store, its log, and the tools that check them.
+//! An independent reading of document 01 and of the requests of document 02 that have landed (A1 to
+//! A3): the hub's snapshot store, its log, and the tools that check them.
 //!
-//! Each module has one topic. `hub` answers records over the `store`; `steps` and `flush` are what
-//! its workers do. `order` is the checker of demand 3 and shares no code with them; `listing` and
-//! `timeline` show the order that it finds.
+//! Each module has one topic. `hub` answers records over the `store`; `steps`, `flush` and `marks`
+//! are what its workers do. `order` is the checker of demand 3 and shares no code with them;
+//! `listing` and `timeline` show the order that it finds.
 
 pub mod answer;
 pub mod census;
@@ -11,16 +11,21 @@ pub mod coverage;
 pub mod explore;
 pub mod fault;
 mod flush;
+mod follow;
 pub mod generate;
+pub mod ghost;
 pub mod hub;
 pub mod invariant;
 pub mod list;
 pub mod listing;
 pub mod lists;
 pub mod log;
+pub mod marks;
+mod observe;
 pub mod order;
 pub mod plot;
 pub mod pool;
+mod profile;
 pub mod record;
 pub mod row;
 pub mod space;

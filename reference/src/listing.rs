@@ -2,7 +2,7 @@
 
 use crate::answer::Refusal;
 use crate::list::Row;
-use crate::order::{Action, Operation, Order, Outcome, Violation};
+use crate::order::{Action, Held, Operation, Order, Outcome, Violation};
 use std::collections::BTreeSet;
 use std::fmt::{self, Display, Formatter};
 
@@ -17,24 +17,71 @@ the log.
   answer                what the log says at its end
 ";
 
-/// Without totals, and with them.
-const SHOWN: [&str; 2] = [
-    "  plain registers show  what a get or a read finds in plain registers, which are fed the
-                        operations in this order
-",
-    "  plain registers show  what a get, a read or a total finds in plain registers, which are fed
-                        the operations in this order
-",
-];
+/// Lines are not longer than this.
+const WIDTH: usize = 100;
 
-const ACCEPTED: [&str; 2] = [
-    "\
-Accepted: every finished get and read answered what plain registers show. No version was freed that
-an open snapshot needs, and none twice without its slot being taken in between.",
-    "\
-Accepted: every finished get, read and total answered what plain registers show. No version was
-freed that an open snapshot needs, and none twice without its slot being taken in between.",
-];
+/// The sentences that depend on which operations there are.
+struct Sentences {
+    totals: bool,
+    marked: bool,
+}
+
+impl Sentences {
+    /// The operations that plain registers show something for, with this before each of them.
+    fn showing(&self, article: &str, and: &str) -> String {
+        let all =
+            [("get", true), ("read", true), ("marked read", self.marked), ("total", self.totals)];
+        let mut names = all.iter().filter(|(_, there)| *there).map(|(name, _)| name).peekable();
+        let mut words = String::new();
+        while let Some(name) = names.next() {
+            words += &match (words.is_empty(), names.peek()) {
+                (true, _) => format!("{article}{name}"),
+                (_, Some(_)) => format!(", {article}{name}"),
+                (_, None) => format!(" {and} {article}{name}"),
+            };
+        }
+        words
+    }
+
+    /// The meaning of the last column.
+    fn shown(&self) -> String {
+        let showing = self.showing("a ", "or");
+        let words = format!(
+            "what {showing} finds in plain registers, which are fed the operations in this order"
+        );
+        wrapped("  plain registers show  ", 24, &words)
+    }
+
+    fn accepted(&self) -> String {
+        let showing = self.showing("", "and");
+        let holders = match self.marked {
+            true => "an open snapshot or a held mark",
+            false => "an open snapshot",
+        };
+        let words = format!(
+            "every finished {showing} answered what plain registers show. No version was freed that \
+             {holders} needs, and none twice without its slot being taken in between."
+        );
+        wrapped("Accepted: ", 0, &words)
+    }
+}
+
+/// The words after this beginning, in lines that are indented so far.
+fn wrapped(beginning: &str, indent: usize, words: &str) -> String {
+    let mut text = beginning.to_string();
+    let mut width = beginning.len();
+    for word in words.split(' ') {
+        if width + word.len() > WIDTH {
+            text.truncate(text.trim_end().len());
+            text += &format!("\n{:indent$}", "");
+            width = indent;
+        }
+        text += word;
+        text.push(' ');
+        width += word.len() + 1;
+    }
+    text.trim_end().to_string()
+}
 
 /// An order with what breaks it, if anything does. `Display` writes the text.
 #[derive(Clone, Copy, Debug)]
@@ -51,10 +98,12 @@ impl<'a> Listing<'a> {
 
 impl Display for Listing<'_> {
     fn fmt(&self, f: &mut Formatter) -> fmt::Result {
-        let Order { operations, sequence, groups, .. } = self.order;
+        let Order { operations, sequence, groups, held, .. } = self.order;
         let totals: BTreeSet<u16> = operations.iter().filter_map(group_of).collect();
-        let any_total = usize::from(!totals.is_empty());
-        writeln!(f, "{MEANING}{}", SHOWN[any_total])?;
+        let marked = operations.iter().any(|o| matches!(o.action, Action::Marked { .. }));
+        let marked = marked || !held.is_empty();
+        let sentences = Sentences { totals: !totals.is_empty(), marked };
+        writeln!(f, "{MEANING}{}\n", sentences.shown())?;
         let in_order = (1..).zip(sequence).map(|(place, &index)| placed(place, &operations[index]));
         write_columns(f, PLACED, "><>>>><<", in_order)?;
 
@@ -70,9 +119,14 @@ impl Display for Listing<'_> {
             write_columns(f, SUMMED, "><", rows)?;
         }
 
+        if !held.is_empty() {
+            writeln!(f, "\nMarks:\n")?;
+            write_columns(f, KEPT, ">>>>>", held.iter().map(kept))?;
+        }
+
         writeln!(f, "\n{}", self.order)?;
         match self.violation {
-            None => writeln!(f, "{}", ACCEPTED[any_total]),
+            None => writeln!(f, "{}", sentences.accepted()),
             // Following stops at a slot that must not be freed.
             Some(violation) if violation.record == self.order.records => {
                 writeln!(f, "Not accepted, and followed no further: {violation}")
@@ -110,6 +164,11 @@ fn left_out(operation: &Operation) -> [String; 5] {
         Outcome::Refused { refusal: Refusal::Summand, .. } => {
             "refused with 18: a value to be summed is above 999999999999"
         }
+        Outcome::Refused { refusal: Refusal::MarkUsed, .. } => "refused with 19: mark in use",
+        Outcome::Refused { refusal: Refusal::MarkEmpty, .. } => "refused with 20: mark empty",
+        Outcome::Refused { refusal: Refusal::MarkRead, .. } => {
+            "refused with 21: a read of the mark runs"
+        }
         Outcome::Refused { .. } => "refused with 15: the clock is at its last value",
         Outcome::Unfinished => "unfinished and without effect: counts as not begun",
         Outcome::Finished { .. } => "finished without effect",
@@ -146,6 +205,19 @@ fn summed(group: u16, rows: &[Row]) -> [String; 2] {
         sum += &register.to_string();
     }
     [group.to_string(), sum]
+}
+
+const KEPT: [&str; 5] = ["mark", "time", "of worker", "held from", "to"];
+
+/// What a mark held, and from which record to which.
+fn kept(held: &Held) -> [String; 5] {
+    [
+        held.mark.to_string(),
+        held.time.to_string(),
+        held.worker.to_string(),
+        held.from.to_string(),
+        or_dash(held.until),
+    ]
 }
 
 fn or_dash(cell: Option<impl Display>) -> String {

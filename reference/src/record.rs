@@ -1,14 +1,15 @@
 //! Records of sixteen bytes: decoding with the refusals 6, 1 and 2, encoding.
 
-use crate::answer::Refusal;
+use crate::answer::{Answer, Refusal};
 
 /// Bytes in a record.
 pub const LENGTH: usize = 16;
 
 /// The highest operation number in use; above it is refusal 1.
-pub const LAST_OPERATION: u8 = 8;
+pub const LAST_OPERATION: u8 = 11;
 
 /// A record whose bytes are well formed. Whether its fields fit the hub is the hub's question.
+/// `Marked` is a marked read.
 #[derive(Clone, Copy, Debug, PartialEq, Eq, Hash)]
 pub enum Record {
     Setup { workers: u8, registers: u16, slots: u16, clock: u32 },
@@ -20,6 +21,9 @@ pub enum Record {
     Collect { worker: u8 },
     Step { worker: u8 },
     Total { worker: u8, group: u16 },
+    Mark { worker: u8, mark: u16 },
+    Release { worker: u8, mark: u16 },
+    Marked { worker: u8, register: u16, mark: u8 },
 }
 
 /// For each operation, the bytes it does not use, as masks over the two halves of a record.
@@ -36,6 +40,9 @@ const UNUSED: [(u64, u64); LAST_OPERATION as usize + 1] = {
         WORKER_ONLY,                       // collect
         WORKER_ONLY,                       // step
         WORKER_REGISTER,                   // total: its group stands where a register does
+        WORKER_REGISTER,                   // mark: so does its mark
+        WORKER_REGISTER,                   // release
+        (!0xff_ffff_ffff, !0),             // marked read: its mark follows its register
     ]
 };
 
@@ -71,7 +78,10 @@ impl Record {
             5 => Record::Get { worker, register },
             6 => Record::Collect { worker },
             7 => Record::Step { worker },
-            _ => Record::Total { worker, group: register },
+            8 => Record::Total { worker, group: register },
+            9 => Record::Mark { worker, mark: register },
+            10 => Record::Release { worker, mark: register },
+            _ => Record::Marked { worker, register, mark: (first >> 32) as u8 },
         })
     }
 
@@ -95,10 +105,26 @@ impl Record {
             Record::Collect { worker } => (6, worker, 0),
             Record::Step { worker } => (7, worker, 0),
             Record::Total { worker, group } => (8, worker, group),
+            Record::Mark { worker, mark } => (9, worker, mark),
+            Record::Release { worker, mark } => (10, worker, mark),
+            Record::Marked { worker, register, mark } => {
+                bytes[4] = mark;
+                (11, worker, register)
+            }
         };
         bytes[0] = operation;
         bytes[1] = worker;
         bytes[2..4].copy_from_slice(&register.to_le_bytes());
         bytes
+    }
+
+    /// Does this answer refuse the record on reading it? Then nothing changes, and no step is
+    /// taken.
+    pub fn refused_on_reading(self, answer: Answer) -> bool {
+        match (answer, self) {
+            (Answer::No(refusal), Record::Step { .. }) => !refusal.at_step(),
+            (Answer::No(_), _) => true,
+            _ => false,
+        }
     }
 }

@@ -13,7 +13,7 @@ impl Store {
     /// Document 01's *stamp*: if the newest version has no low, sets that low and the next older
     /// version's high to the clock. Says whether it did.
     #[inline]
-    fn stamp(&mut self, register: u16) -> bool {
+    pub(crate) fn stamp(&mut self, register: u16) -> bool {
         let newest = &mut self.slots[usize::from(self.newest[usize::from(register)])];
         if newest.low.is_some() {
             return false;
@@ -232,9 +232,19 @@ impl Store {
     }
 
     /// Close.
-    pub(crate) fn close<O: Observer>(&mut self, w: usize, seen: &mut O) -> (Doing, Answer) {
+    pub(crate) fn close<F: Fault, O: Observer>(
+        &mut self,
+        w: usize,
+        seen: &mut O,
+    ) -> (Doing, Answer) {
         seen.branch(Branch::Close);
-        self.workers[w].announced = None;
+        let time = self.workers[w].announced.take();
+        if O::ON && self.marks.contains(&time) {
+            seen.branch(Branch::CloseMarked);
+        }
+        if F::CLOSE_EMPTIES {
+            self.marks.iter_mut().filter(|mark| **mark == time).for_each(|mark| *mark = None);
+        }
         (Doing::Idle, Answer::Done)
     }
 }

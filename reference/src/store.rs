@@ -5,6 +5,7 @@ use crate::coverage::{Branch, Observer};
 use crate::fault::{self, Fault};
 use crate::flush;
 use crate::list::{Groups, Place};
+use crate::marks::MARKS;
 use crate::pool::{batch_size, Queue, Range, MAX_BATCH};
 use crate::record::Record;
 
@@ -59,6 +60,8 @@ pub enum Doing {
     FlushTimes {
         next: u8,
     },
+    /// Flush (2), about to read all marks.
+    FlushMarks,
     /// Flush (3).
     FlushSplit,
     /// Flush (4), or (5) where `next` is past the needless list.
@@ -94,6 +97,24 @@ pub enum Doing {
         place: Place,
         sum: i64,
     },
+    Mark {
+        mark: u8,
+    },
+    Release {
+        mark: u8,
+    },
+    /// Marked read (1).
+    MarkedStart {
+        register: u16,
+        mark: u8,
+    },
+    /// Marked read (2), standing on a slot at the time that its mark holds; `first` until it moves.
+    MarkedAt {
+        slot: u16,
+        first: bool,
+        mark: u8,
+        time: u32,
+    },
 }
 
 /// A worker's record.
@@ -104,7 +125,7 @@ pub struct Worker {
     pub announced: Option<u32>,
     /// The local pool.
     pub local: Vec<Range>,
-    /// The times a flush has read so far.
+    /// The times a flush has read so far, of workers and of marks.
     pub times: Vec<u32>,
     /// A flush's merged list; from the split on, its needless part.
     pub merged: Vec<Range>,
@@ -117,7 +138,7 @@ impl Worker {
             doing: Doing::Idle,
             announced: None,
             local: Vec::with_capacity(MAX_BATCH),
-            times: Vec::with_capacity(MAX_WORKERS),
+            times: Vec::with_capacity(MAX_WORKERS + MARKS),
             merged: Vec::with_capacity(4 * MAX_BATCH),
         }
     }
@@ -133,6 +154,8 @@ pub struct Store {
     pub groups: Groups,
     /// One record for each of the P workers.
     pub workers: Vec<Worker>,
+    /// The time that each mark holds; none where it is empty.
+    pub marks: [Option<u32>; MARKS],
     /// Each register's newest version.
     pub newest: Vec<u16>,
     /// The N slots.
@@ -170,6 +193,7 @@ impl Store {
             clock,
             groups,
             workers: (0..workers).map(|_| Worker::start()).collect(),
+            marks: [None; MARKS],
             newest: (0..registers).collect(),
             slots: row,
             // V is taken first.
@@ -203,6 +227,11 @@ impl Store {
                 self.begin(worker, register, Doing::Get { register })
             }
             Record::Total { worker, group } => self.begin_total::<F>(worker, group),
+            Record::Mark { worker, mark } => self.begin_mark::<F>(worker, mark),
+            Record::Release { worker, mark } => self.begin_release::<F>(worker, mark),
+            Record::Marked { worker, register, mark } => {
+                self.begin_marked::<F>(worker, register, mark)
+            }
             Record::Collect { worker } => {
                 self.begin(worker, 0, flush::start::<F>())?;
                 if O::ON {
@@ -217,10 +246,19 @@ impl Store {
     }
 
     /// 3 and 4, else the worker. An operation without a register gives 0, which is below every V.
-    fn worker_for(&mut self, worker: u8, register: u16) -> Result<&mut Worker, Refusal> {
+    pub(crate) fn worker_for(&mut self, worker: u8, register: u16) -> Result<&mut Worker, Refusal> {
         let worker = self.workers.get_mut(usize::from(worker)).ok_or(Refusal::Worker)?;
         if usize::from(register) >= self.newest.len() {
             return Err(Refusal::Register);
+        }
+        Ok(worker)
+    }
+
+    /// 3, 4 and 10, else the worker, which may begin.
+    pub(crate) fn idle_for(&mut self, worker: u8, register: u16) -> Result<&mut Worker, Refusal> {
+        let worker = self.worker_for(worker, register)?;
+        if worker.doing != Doing::Idle {
+            return Err(Refusal::Busy);
         }
         Ok(worker)
     }
@@ -277,10 +315,7 @@ impl Store {
 
     /// Begins an operation: 3, 4, 10, then 12 or 13, else the worker is busy with it.
     fn begin(&mut self, worker: u8, register: u16, doing: Doing) -> Result<(), Refusal> {
-        let worker = self.worker_for(worker, register)?;
-        if worker.doing != Doing::Idle {
-            return Err(Refusal::Busy);
-        }
+        let worker = self.idle_for(worker, register)?;
         match (doing, worker.announced) {
             (Doing::OpenAnnounce, Some(_)) => return Err(Refusal::Announced),
             (Doing::ReadStart { .. } | Doing::Close | Doing::TotalStart { .. }, None) => {
@@ -292,7 +327,7 @@ impl Store {
         Ok(())
     }
 
-    /// Takes one step of a worker: 3, 11, else the step, which may itself meet 14, 15 or 18.
+    /// Takes one step of a worker: 3, 11, else the step, which may itself meet 14, 15 or 18 to 21.
     #[inline]
     fn step<F: Fault, O: Observer>(
         &mut self,
@@ -317,6 +352,7 @@ impl Store {
             Doing::PutHandIn { covered, own } => self.put_hand_in::<F, O>(w, covered, own, seen),
             Doing::FlushTake => self.flush_take::<F, O>(w, seen),
             Doing::FlushTimes { next } => self.flush_times::<F, O>(w, next, seen),
+            Doing::FlushMarks => self.flush_marks::<F, O>(w, seen),
             Doing::FlushSplit => self.flush_split::<F, O>(w, seen),
             Doing::FlushFree { next } => self.flush_free::<F, O>(w, next, seen),
             Doing::OpenAnnounce => self.open_announce(w, seen),
@@ -324,10 +360,18 @@ impl Store {
             Doing::ReadStart { register } => self.read_start(register, seen),
             Doing::ReadAt { slot, first } => self.read_at(w, slot, first, seen),
             Doing::Get { register } => self.get(register, seen),
-            Doing::Close => self.close(w, seen),
+            Doing::Close => self.close::<F, O>(w, seen),
             Doing::TotalStart { place, sum } => self.total_start(place, sum, seen),
             Doing::TotalAt { slot, first, place, sum } => {
                 self.total_at::<F, O>(w, (slot, first), place, sum, seen)
+            }
+            Doing::Mark { mark } => self.mark::<F, O>(w, mark, seen),
+            Doing::Release { mark } => self.release::<F, O>(mark, seen),
+            Doing::MarkedStart { register, mark } => {
+                self.marked_start::<F, O>(w, register, mark, seen)
+            }
+            Doing::MarkedAt { slot, first, mark, time } => {
+                self.marked_at(w, (slot, first), mark, time, seen)
             }
         };
         self.workers[w].doing = next;

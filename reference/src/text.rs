@@ -13,6 +13,9 @@
 //! collect WORKER
 //! step WORKER [xCOUNT]
 //! total WORKER GROUP
+//! mark WORKER MARK
+//! release WORKER MARK
+//! marked WORKER REGISTER MARK
 //! bytes HEX...
 //! ```
 //!
@@ -133,6 +136,17 @@ fn append_command(file: &mut Vec<u8>, words: &[&str]) -> Result<(), String> {
         ["total", worker, group] => {
             Record::Total { worker: number(worker, "worker")?, group: number(group, "group")? }
         }
+        ["mark", worker, mark] => {
+            Record::Mark { worker: number(worker, "worker")?, mark: number(mark, "mark")? }
+        }
+        ["release", worker, mark] => {
+            Record::Release { worker: number(worker, "worker")?, mark: number(mark, "mark")? }
+        }
+        ["marked", worker, register, mark] => Record::Marked {
+            worker: number(worker, "worker")?,
+            register: number(register, "register")?,
+            mark: number(mark, "mark")?,
+        },
         ["bytes", ref hex @ ..] => {
             file.extend(hex_bytes(hex, LENGTH, "record")?);
             return Ok(());
@@ -216,10 +230,13 @@ fn usage(name: &str) -> String {
         "collect" => "collect WORKER",
         "step" => "step WORKER [xCOUNT]",
         "total" => "total WORKER GROUP",
+        "mark" => "mark WORKER MARK",
+        "release" => "release WORKER MARK",
+        "marked" => "marked WORKER REGISTER MARK",
         _ => {
             return format!(
                 "unknown command {name:?}, not one of setup, put, open, read, close, get, \
-                collect, step, total, bytes"
+                collect, step, total, mark, release, marked, bytes"
             )
         }
     };
@@ -265,6 +282,11 @@ fn write_command(text: &mut String, record: Record) -> fmt::Result {
         Record::Collect { worker } => writeln!(text, "collect {worker}"),
         Record::Step { worker } => writeln!(text, "step {worker}"),
         Record::Total { worker, group } => writeln!(text, "total {worker} {group}"),
+        Record::Mark { worker, mark } => writeln!(text, "mark {worker} {mark}"),
+        Record::Release { worker, mark } => writeln!(text, "release {worker} {mark}"),
+        Record::Marked { worker, register, mark } => {
+            writeln!(text, "marked {worker} {register} {mark}")
+        }
     }
 }
 
@@ -272,7 +294,7 @@ fn write_bytes(text: &mut String, bytes: &[u8], refusal: Refusal) -> fmt::Result
     write_hex(text, bytes)?;
     let reason = match refusal {
         Refusal::Length => "fewer than 16 bytes",
-        Refusal::Operation => "operation above 8",
+        Refusal::Operation => "operation above 11",
         _ => "an unused byte is not zero",
     };
     writeln!(text, "  # refused with {}: {reason}", refusal.number())

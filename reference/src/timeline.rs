@@ -1,10 +1,13 @@
-//! The order of demand 3 as an SVG timeline: a lane for each worker, a column for each record.
+//! The order of demand 3 as an SVG timeline: a lane for each worker and for each mark that is used,
+//! a column for each record.
 //!
 //! An operation is a bar from the record of its begin to the one of its end. The number on it
-//! stands at its effect and is its place in the order.
+//! stands at its effect and is its place in the order. In a mark's lane a bar shows while it holds
+//! a time.
 
 use crate::answer::Answer;
 use crate::order::{Action, Operation, Order, Outcome, Violation};
+use std::collections::BTreeSet;
 use std::fmt::{self, Display, Formatter};
 
 // Lengths in pixels.
@@ -15,6 +18,8 @@ const LEFT: usize = 78;
 const TOP: usize = 58;
 const BOTTOM: usize = 84;
 const LANE: usize = 68;
+/// The height of a mark's lane, with bars at its upper edge.
+const MARK_LANE: usize = 26;
 /// From a lane's upper edge to its bars.
 const BAR_TOP: usize = 24;
 const BAR: usize = 20;
@@ -35,10 +40,12 @@ text { font: 12px Helvetica, Arial, sans-serif; fill: #24292f }
 .record { fill: #57606a; text-anchor: middle }
 .violation { stroke: #c5221f; stroke-width: 2 }
 .snapshot { stroke: #c9b6e4; stroke-width: 5 }
+.held { fill: #e5daf3; stroke: #6f4aa3 }
+.kept { font-size: 11px }
 .bar { stroke: #57606a; stroke-width: 1.2; fill: #eaeef2 }
 .put { stroke: #2a66ab; fill: #cfe1f7 }
 .get, .read { stroke: #2e7d43; fill: #d3ecd6 }
-.open, .close { stroke: #6f4aa3; fill: #e5daf3 }
+.open, .close, .mark, .release { stroke: #6f4aa3; fill: #e5daf3 }
 .collect { stroke: #a8691a; fill: #f7e4c3 }
 .refused { stroke: #c5221f; fill: #ffffff }
 .unfinished { stroke-dasharray: 4 3; fill-opacity: 0.4 }
@@ -68,6 +75,7 @@ const LEGEND: [&[(Sign, &str)]; 2] = [
         (|f, x, y| tick(f, x + SIGN / 2, y - 12), "step"),
         (|f, x, y| diamond(f, x + SIGN / 2, y), "step that frees a slot, with its number"),
         (|f, x, y| snapshot(f, x, x + SIGN, y), "snapshot open"),
+        (|f, x, y| rect(f, "held", x, y + 2, SIGN, BAR - 4, 2), "mark held"),
     ],
 ];
 
@@ -78,6 +86,8 @@ pub struct Timeline<'a> {
     violation: Option<&'a Violation>,
     /// For each operation, the record at which its worker begins the next one.
     next: Vec<Option<usize>>,
+    /// The marks that ever held a time, lowest first: they have lanes.
+    marks: Vec<u16>,
     /// Records that are drawn.
     records: usize,
     /// The width of each.
@@ -96,6 +106,7 @@ impl Display for Timeline<'_> {
         self.write_heading(f)?;
         self.write_lanes(f)?;
         self.write_snapshots(f)?;
+        self.write_marks(f)?;
         self.write_links(f)?;
         for (operation, next) in self.order.operations.iter().zip(&self.next) {
             self.write_operation(f, operation, *next)?;
@@ -114,9 +125,11 @@ impl<'a> Timeline<'a> {
         let mut next: Vec<Option<usize>> =
             last_first.map(|o| begins[usize::from(o.worker)].replace(o.begin)).collect();
         next.reverse();
+        let marks: BTreeSet<u16> = order.held.iter().map(|held| held.mark).collect();
+        let marks = marks.into_iter().collect();
         // Following stops at some violations: they have a column too.
         let records = order.records.max(violation.map_or(0, |violation| violation.record + 1));
-        let mut timeline = Timeline { order, violation, next, records, column: 0, width: 0 };
+        let mut timeline = Timeline { order, violation, next, marks, records, column: 0, width: 0 };
         timeline.column = timeline.column_width();
         timeline.width = timeline.page_width();
         timeline
@@ -159,7 +172,12 @@ impl<'a> Timeline<'a> {
 
     /// The lower edge of the lanes.
     fn base(&self) -> usize {
-        lane(self.order.workers)
+        self.mark_lane(self.marks.len())
+    }
+
+    /// The upper edge of a mark's lane, below those of the workers; the marks are counted from 0.
+    fn mark_lane(&self, place: usize) -> usize {
+        lane(self.order.workers) + place * MARK_LANE
     }
 
     fn write_heading(&self, f: &mut Formatter) -> fmt::Result {
@@ -176,6 +194,11 @@ impl<'a> Timeline<'a> {
         for worker in 0..self.order.workers {
             rect(f, "lane", LEFT, lane(worker), self.right() - LEFT, LANE - GAP, 3)?;
             text(f, "worker", MARGIN, bar(worker) + 14, &format!("worker {worker}"))?;
+        }
+        for (place, mark) in self.marks.iter().enumerate() {
+            let y = self.mark_lane(place);
+            rect(f, "lane", LEFT, y, self.right() - LEFT, MARK_LANE - GAP, 3)?;
+            text(f, "worker", MARGIN, y + 15, &format!("mark {mark}"))?;
         }
         let base = self.base();
         text(f, "worker", MARGIN, base + 12, "record")?;
@@ -210,6 +233,19 @@ impl<'a> Timeline<'a> {
             if let Some(from) = from {
                 snapshot(f, from, self.left(self.records), bar(worker))?;
             }
+        }
+        Ok(())
+    }
+
+    /// A mark is held from its step to the one of its release.
+    fn write_marks(&self, f: &mut Formatter) -> fmt::Result {
+        for held in &self.order.held {
+            let place = self.marks.binary_search(&held.mark).unwrap_or_default();
+            let (x, y) = (self.middle(held.from), self.mark_lane(place) + 3);
+            let end = held.until.map_or(self.left(self.records), |record| self.middle(record));
+            rect(f, "held", x, y, end - x, MARK_LANE - GAP - 6, 2)?;
+            let words = format!("time {} of worker {}", held.time, held.worker);
+            text(f, "kept", x + 5, y + 12, &shortened(&words, (end - x).saturating_sub(8)))?;
         }
         Ok(())
     }
@@ -316,13 +352,18 @@ fn kind(action: Action) -> &'static str {
         Action::Get { .. } => "get",
         Action::Collect => "collect",
         Action::Total { .. } => "total",
+        Action::Mark { .. } => "mark",
+        Action::Release { .. } => "release",
+        Action::Marked { .. } => "marked",
     }
 }
 
-/// The classes of its bar: a total is drawn as the reads that it consists of.
+/// The classes of its bar: a total is drawn as the reads that it consists of, a marked read as a
+/// read.
 fn classes(action: Action) -> &'static str {
     match action {
         Action::Total { .. } => "read total",
+        Action::Marked { .. } => "read marked",
         action => kind(action),
     }
 }
@@ -332,6 +373,8 @@ fn label(operation: &Operation) -> String {
     let kind = kind(operation.action);
     match operation.action {
         Action::Total { group } => format!("{kind} g{group}"),
+        Action::Mark { mark } | Action::Release { mark } => format!("{kind} m{mark}"),
+        Action::Marked { register, mark } => format!("{kind} r{register} m{mark}"),
         Action::Put { register, value } => format!("{kind} r{register} = {value}"),
         Action::Read { register } | Action::Get { register } => format!("{kind} r{register}"),
         Action::Open | Action::Close | Action::Collect => kind.to_string(),

@@ -5,6 +5,7 @@ use crate::generate::Random;
 use crate::hub::Hub;
 use crate::list::{GROUPS, MAX_ROWS};
 use crate::lists::Habit;
+use crate::marks::MARKS;
 use crate::record::{Record, LENGTH};
 use crate::store::{Doing, Store, MAX_REGISTERS, MAX_SLOTS, MAX_WORKERS};
 use std::collections::VecDeque;
@@ -13,28 +14,33 @@ use std::io::{self, Write};
 /// What a record file measures. Shares are of the answers, in percent.
 #[derive(Clone, Copy, Debug, PartialEq, Eq)]
 pub enum Workload {
-    /// A bit of everything on a small hub: P 2, V 4, N 16. `going` 54, `ok` 19, `done` 10,
-    /// `value` 9, `freed` 8.
+    /// A bit of everything on a small hub: P 2, V 4, N 16. `going` 56, `ok` 18, `done` 10,
+    /// `value` 8, `freed` 7.
     Small,
     /// The same on the largest hub: P 16, V 256, N 2048. `going` 44, `ok` 23, `done` 12,
     /// `freed` 11, `value` 10.
     Large,
     /// Nearly only puts, in small batches: with P 2 every second put of a worker flushes.
-    /// `going` 59, `ok` 14, `freed` 13, `done` 13.
+    /// `going` 62, `ok` 13, `freed` 12, `done` 12.
     Puts,
     /// Four workers read two registers under old snapshots while twelve put: a read walks over two
     /// hundred versions. `going` 85, most of them such moves.
     Reads,
     /// Two workers collect all the time, the others hold snapshots for long or put now and then. So
     /// the queue stays full: nine pools wait where a flush takes two, and it merges and splits 160
-    /// ranges, nearly all needed. `going` 88, `ok` 6, `done` 5.
+    /// ranges, nearly all needed. `going` 89, `ok` 5, `done` 5.
     Collects,
     /// Twelve workers total groups of the longest list, 32 of 32 rows, each under a snapshot that it
     /// renews after three totals on average, while four put. Nearly three in four records are steps
     /// of totals; for ten rows they pass eight newer versions. `going` 83, `ok` 6, `done` 5, `freed` 5.
     Totals,
+    /// Four workers export: each opens a snapshot, reads, marks it where a mark is empty, and
+    /// closes. Four others read at marks, passing thirteen newer versions, and now and then release
+    /// one; mostly all twelve are in use. Eight put on 64 registers. `going` 58, `ok` 16,
+    /// `done` 10, `freed` 9, `value` 6.
+    Marks,
     /// Uniformly random bytes after the setup of the largest hub. Practically every record has an
-    /// operation above 8 or an unused byte that is not zero: `no` 100.
+    /// operation above 11 or an unused byte that is not zero: `no` 100.
     Uniform,
     /// The script of `Small` with another N in its setup. The slot given back last is taken first,
     /// so the same slots are in use and the log is the same for every N.
@@ -67,13 +73,14 @@ pub enum Topic {
 }
 
 impl Workload {
-    pub const ALL: [Workload; 28] = [
+    pub const ALL: [Workload; 29] = [
         Workload::Small,
         Workload::Large,
         Workload::Puts,
         Workload::Reads,
         Workload::Collects,
         Workload::Totals,
+        Workload::Marks,
         Workload::Uniform,
         Workload::Growth { slots: 16 },
         Workload::Growth { slots: 64 },
@@ -106,6 +113,7 @@ impl Workload {
             Workload::Reads => "reads".into(),
             Workload::Collects => "collects".into(),
             Workload::Totals => "totals".into(),
+            Workload::Marks => "marks".into(),
             Workload::Uniform => "uniform".into(),
             Workload::Growth { slots } => format!("growth-{slots}"),
             Workload::Plain { workers } => format!("plain-{workers}"),
@@ -179,6 +187,12 @@ impl Workload {
                 let roles = vec![Role::alike(12, total), Role::alike(4, PUT)];
                 Shape { registers: MAX_REGISTERS, slots: MAX_SLOTS, roles }
             }
+            Workload::Marks => {
+                let export = Weights { open: 1, read: 20, mark: 2, close: 1, ..Weights::NONE };
+                let bill = Weights { marked: 30, release: 1, ..Weights::NONE };
+                let roles = vec![Role::alike(4, export), Role::alike(4, bill), Role::alike(8, PUT)];
+                Shape { registers: 64, slots: MAX_SLOTS, roles }
+            }
             Workload::Plain { workers } => {
                 let roles = vec![
                     Role::alike(1, PUT),
@@ -249,17 +263,30 @@ pub struct Weights {
     pub get: u64,
     pub collect: u64,
     pub total: u64,
+    pub mark: u64,
+    pub release: u64,
+    pub marked: u64,
 }
 
 impl Weights {
-    pub const NONE: Weights =
-        Weights { put: 0, open: 0, read: 0, close: 0, get: 0, collect: 0, total: 0 };
+    pub const NONE: Weights = Weights {
+        put: 0,
+        open: 0,
+        read: 0,
+        close: 0,
+        get: 0,
+        collect: 0,
+        total: 0,
+        mark: 0,
+        release: 0,
+        marked: 0,
+    };
 }
 
 const PUT: Weights = Weights { put: 1, ..Weights::NONE };
 
 const MIXED: Weights =
-    Weights { put: 40, open: 10, read: 30, close: 3, get: 15, collect: 2, total: 0 };
+    Weights { put: 40, open: 10, read: 30, close: 3, get: 15, collect: 2, ..Weights::NONE };
 
 /// Workers with the same habits.
 #[derive(Clone, Copy, Debug)]
@@ -377,16 +404,28 @@ impl Records {
     }
 
     /// The begin of an operation that the worker's state allows; a collect in place of a put that
-    /// would find no free slot.
+    /// would find no free slot, and a get in place of an operation on a mark where there is none
+    /// for it.
     fn begin(&mut self, worker: u8) -> Record {
         let weights = self.weights[usize::from(worker)];
-        let Weights { put, open, read, close, get, collect, total } = weights;
-        let (open, read, close, total) = match self.store().workers[usize::from(worker)].announced {
-            Some(_) => (0, read, close, total),
-            None => (open, 0, 0, 0),
-        };
+        let Weights { put, open, read, close, get, collect, total, mark, release, marked } =
+            weights;
+        let snapshot = self.store().workers[usize::from(worker)].announced.is_some();
+        let with = |allowed: bool, weight: u64| if allowed { weight } else { 0 };
+        let weights = [
+            put,
+            with(!snapshot, open),
+            with(snapshot, read),
+            with(snapshot, close),
+            get,
+            collect,
+            with(snapshot, total),
+            with(snapshot, mark),
+            release,
+            marked,
+        ];
         let register = self.random.below(self.store().newest.len() as u64) as u16;
-        match self.random.weighted(&[put, open, read, close, get, collect, total]) {
+        match self.random.weighted(&weights) {
             0 if self.slot_left() => {
                 Record::Put { worker, register, value: self.random.between(1, 999_999) }
             }
@@ -395,8 +434,37 @@ impl Records {
             3 => Record::Close { worker },
             4 => Record::Get { worker, register },
             6 => Record::Total { worker, group: self.random.below(GROUPS as u64) as u16 },
+            operation @ 7.. => {
+                let get = Record::Get { worker, register };
+                let fit = self.fit_marks(operation);
+                let mark = (!fit.is_empty()).then(|| self.random.pick(&fit));
+                mark.map_or(get, |mark| match operation {
+                    7 => Record::Mark { worker, mark: mark.into() },
+                    8 => Record::Release { worker, mark: mark.into() },
+                    _ => Record::Marked { worker, register, mark },
+                })
+            }
             _ => Record::Collect { worker },
         }
+    }
+
+    /// The marks that a mark (7), a release (8) or a marked read may begin with, so that it will
+    /// not be refused, whatever comes in between: no other worker's operation is in its way.
+    fn fit_marks(&self, operation: usize) -> Vec<u8> {
+        let Store { marks, workers, .. } = self.store();
+        let fits = |mark: u8| {
+            let held = marks[usize::from(mark)].is_some();
+            let in_the_way = |doing: Doing| match doing {
+                Doing::Mark { mark: other } => operation == 7 && other == mark,
+                Doing::Release { mark: other } => operation != 7 && other == mark,
+                Doing::MarkedStart { mark: other, .. } | Doing::MarkedAt { mark: other, .. } => {
+                    operation == 8 && other == mark
+                }
+                _ => false,
+            };
+            held == (operation != 7) && !workers.iter().any(|worker| in_the_way(worker.doing))
+        };
+        (0..MARKS as u8).filter(|&mark| fits(mark)).collect()
     }
 
     /// Is there a slot beyond those that the puts begun will take?

@@ -113,20 +113,20 @@ fn splits_in_the_hub() {
     // Two workers, B 2. Worker 0's snapshot at 1 needs every first version.
     let mut hub = hub_after("setup 2 8 30 1\n open 0\n step 0 x2");
     let put = |register: u16, steps: u16| format!("put 1 {register} 9\n step 1 x{steps}\n");
-    assert_eq!(last(&mut hub, &(put(0, 3) + &put(1, 8))), Answer::Done);
+    assert_eq!(last(&mut hub, &(put(0, 3) + &put(1, 9))), Answer::Done);
     assert_eq!(queued(&hub), [2]);
     // Two needed join the local pool.
-    assert_eq!(last(&mut hub, &(put(2, 3) + &put(3, 8))), Answer::Done);
+    assert_eq!(last(&mut hub, &(put(2, 3) + &put(3, 9))), Answer::Done);
     assert_eq!(queued(&hub), [4]);
     // Four give one pool of four; the local pool, here one range, follows it.
-    assert_eq!(last(&mut hub, &(put(4, 3) + "collect 1\n step 1 x5")), Answer::Done);
+    assert_eq!(last(&mut hub, &(put(4, 3) + "collect 1\n step 1 x6")), Answer::Done);
     assert_eq!(queued(&hub), [4, 1]);
     // Five give pools of three and two; the local pool is empty and not queued.
-    assert_eq!(last(&mut hub, "collect 1\n step 1 x5"), Answer::Done);
+    assert_eq!(last(&mut hub, "collect 1\n step 1 x6"), Answer::Done);
     assert_eq!(queued(&hub), [3, 2]);
     // A close makes all of them needless: one step each, then done. All highs are 2, and where
     // the first two were joined to the local pool, the local ones went first.
-    assert_eq!(last(&mut hub, "close 0\n step 0\n collect 1\n step 1 x4"), Answer::Going);
+    assert_eq!(last(&mut hub, "close 0\n step 0\n collect 1\n step 1 x5"), Answer::Going);
     let slots: Vec<Answer> = (0..5).map(|_| last(&mut hub, "step 1")).collect();
     assert_eq!(slots, [2, 3, 0, 1, 4].map(Answer::Freed));
     assert_eq!(last(&mut hub, "step 1"), Answer::Done);

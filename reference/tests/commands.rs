@@ -122,6 +122,23 @@ fn the_sample_of_totals_has_its_log() {
     }
 }
 
+/// Billing reads at the mark what the export read, and what it held is freed after the release.
+#[test]
+fn the_sample_of_marks_has_its_log() {
+    let script = records(&sample("month-end.txt"));
+    let log = run(HUBLOG, &[], &script).stdout;
+    assert_eq!(text(&log), sample("month-end.log"));
+    assert_eq!(text(&log).matches(" value 1200\n").count(), 2);
+    for words in [" value 1231\n", " value 800\n", " no 19\n", " no 20\n", " no 21\n"] {
+        assert!(text(&log).contains(words), "{words:?}");
+    }
+    assert!(text(&log).contains(" freed 2\n"));
+    let (script, log) = (file("mark-records", &script), file("mark-log", &log));
+    let [script, log] = [&script, &log].map(|path| path.to_str().unwrap());
+    let svg = run(ORDER, &["--svg", script, log], &[]);
+    assert_eq!(text(&svg.stdout), sample("month-end.svg"), "{}", text(&svg.stderr));
+}
+
 #[test]
 fn records_packs_and_unpacks_lists() {
     let rows = "0 + 3\n0 - 4\n31 + 0\n";
@@ -141,15 +158,15 @@ fn records_packs_and_unpacks_lists() {
 
 /// A total of group 0 under a snapshot, in a hub of one register.
 const SUMMED: &str =
-    "setup 1 1 4 1\n put 0 0 7\n step 0 x7\n open 0\n step 0 x2\n total 0 0\n step 0 x2";
+    "setup 1 1 4 1\n put 0 0 7\n step 0 x8\n open 0\n step 0 x2\n total 0 0\n step 0 x2";
 
 /// What is logged for that with these arguments: its setup's line and its last line.
 fn summed(arguments: &[&str]) -> (String, String) {
     let output = run(HUBLOG, arguments, &records(SUMMED));
     assert!(output.status.success() && output.stderr.is_empty(), "{}", text(&output.stderr));
     let lines: Vec<&str> = text(&output.stdout).lines().collect();
-    assert_eq!(lines.len(), 15);
-    (lines[0].to_string(), lines[14].to_string())
+    assert_eq!(lines.len(), 16);
+    (lines[0].to_string(), lines[15].to_string())
 }
 
 #[test]
@@ -157,16 +174,16 @@ fn hublog_takes_the_list_from_the_file_of_its_first_argument() {
     let named = |name: &str, contents: &[u8]| file(name, contents).to_str().unwrap().to_string();
     let told = |setup: &str, last: &str| (setup.to_string(), last.to_string());
     let one = named("one-row", &list("0 - 0"));
-    assert_eq!(summed(&[&one]), told("0 ok", "14 value -7"));
+    assert_eq!(summed(&[&one]), told("0 ok", "15 value -7"));
     // Later arguments are not looked at.
-    assert_eq!(summed(&[&one, "no/such/file"]), told("0 ok", "14 value -7"));
+    assert_eq!(summed(&[&one, "no/such/file"]), told("0 ok", "15 value -7"));
     // No argument, no such file, an empty file: no list.
     let empty = named("empty", b"");
     for arguments in [&[][..], &["no/such/file"], &["--other"], &[""], &[&empty]] {
-        assert_eq!(summed(arguments), told("0 ok", "14 no 11"), "{arguments:?}");
+        assert_eq!(summed(arguments), told("0 ok", "15 no 11"), "{arguments:?}");
     }
     let coverage = run(HUBLOG, &["--coverage", &one], &records(SUMMED));
-    assert!(text(&coverage.stdout).ends_with("14 value -7\n"));
+    assert!(text(&coverage.stdout).ends_with("15 value -7\n"));
     assert!(text(&coverage.stderr).contains("           1  a total of one row begins\n"));
 }
 
@@ -186,10 +203,10 @@ fn hublog_refuses_setups_with_a_long_list() {
     for length in [4097, 4100, 8192, 5_000_000] {
         let path = file("long", &longest.iter().cycle().take(length).copied().collect::<Vec<_>>());
         let told = summed(&[path.to_str().unwrap()]);
-        assert_eq!(told, ("0 no 5".to_string(), "14 no 8".to_string()), "{length} bytes");
+        assert_eq!(told, ("0 no 5".to_string(), "15 no 8".to_string()), "{length} bytes");
     }
     // A file without an end.
-    assert_eq!(summed(&["/dev/zero"]), ("0 no 5".to_string(), "14 no 8".to_string()));
+    assert_eq!(summed(&["/dev/zero"]), ("0 no 5".to_string(), "15 no 8".to_string()));
 }
 
 #[test]

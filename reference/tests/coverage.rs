@@ -33,10 +33,13 @@ fn the_random_suite_reaches_everything() {
     least(&Branch::OF_TOTAL, 40);
     least(&Branch::OF_SUMMAND, 200);
     least(&Branch::OF_LIST, 1000);
+    least(&Branch::of_marks().collect::<Vec<_>>(), 40);
     // Totals that ended: with an answer on either side of 0, with 18, and refused with 17 or by a list.
     let refusals = |number: usize| total.refusals[number];
     assert!(total.answers[6] > 4000 && refusals(17) > 4000 && refusals(18) > 800);
     assert!(total.lists.iter().all(|&met| met > 30), "{:?}", total.lists);
+    // Refusals of marks, releases and marked reads, when they begin and at a step.
+    assert!(refusals(19) > 300 && refusals(20) > 1500 && refusals(21) > 2000);
 }
 
 /// Hubs of middle sizes are used, not only set up: their slots run out, and are freed and taken again.
@@ -61,7 +64,7 @@ fn counts_have_a_name_each() {
     names.sort();
     names.dedup();
     assert_eq!(names.len(), counts.len());
-    // Seven answers, refusals 1 to 18 but 7, the branches, the sizes and the lists.
+    // Seven answers, refusals 1 to 21 but 7, the branches, the sizes and the lists.
     assert!(names.contains(&&"no 6".to_string()) && !names.contains(&&"no 7".to_string()));
     assert_eq!(Coverage::default().missing().len(), counts.len());
 }

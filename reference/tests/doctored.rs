@@ -41,10 +41,10 @@ fn the_newest_version_under_a_snapshot_is_needed() {
 fn a_snapshot_needs_from_its_announcement_to_its_close() {
     let script = "setup 2 1 4 1\n put 0 0 7\n step 0 x3\n open 1\n step 1\n collect 0\n step 0 x5";
     refused_at(11, Claim::NeededFreed, script, &[(11, "freed 1")]);
-    let own = "setup 1 1 4 1\n open 0\n step 0 x2\n put 0 0 7\n step 0 x7\n collect 0\n step 0 x4";
-    refused_at(16, Claim::NeededFreed, own, &[(16, "freed 0")]);
-    let closed = format!("{script}\n step 1\n close 1\n step 1\n collect 0\n step 0 x3");
-    assert_eq!(examined(&closed, &[(19, "freed 1")]).1, None);
+    let own = "setup 1 1 4 1\n open 0\n step 0 x2\n put 0 0 7\n step 0 x8\n collect 0\n step 0 x5";
+    refused_at(18, Claim::NeededFreed, own, &[(18, "freed 0")]);
+    let closed = format!("{script}\n step 0\n step 1\n close 1\n step 1\n collect 0\n step 0 x3");
+    assert_eq!(examined(&closed, &[(20, "freed 1")]).1, None);
 }
 
 #[test]
@@ -59,18 +59,18 @@ fn a_read_after_a_close_shows_nothing() {
 #[test]
 fn an_open_takes_a_new_copy() {
     // Worker 0 opens, puts 7, and is let open once more without a close.
-    let script = "setup 1 1 4 1\n open 0\n step 0 x2\n put 0 0 7\n step 0 x7\n open 0\n step 0 x2
+    let script = "setup 1 1 4 1\n open 0\n step 0 x2\n put 0 0 7\n step 0 x8\n open 0\n step 0 x2
         read 0 0\n step 0 x2";
-    let accepted = [(12, "ok"), (13, "going"), (14, "at 2"), (15, "ok"), (16, "going")];
-    let answers = |value| accepted.into_iter().chain([(17, value)]).collect::<Vec<_>>();
+    let accepted = [(13, "ok"), (14, "going"), (15, "at 2"), (16, "ok"), (17, "going")];
+    let answers = |value| accepted.into_iter().chain([(18, value)]).collect::<Vec<_>>();
     let (order, violation) = examined(script, &answers("value 7"));
     assert_eq!((order.operations[3].shown, violation), (Some(7), None));
-    refused_at(17, Claim::Value, script, &answers("value 0"));
+    refused_at(18, Claim::Value, script, &answers("value 0"));
     // The same with a close between, as the hub has it.
-    let script = "setup 1 1 4 1\n open 0\n step 0 x2\n put 0 0 7\n step 0 x7\n close 0\n step 0
+    let script = "setup 1 1 4 1\n open 0\n step 0 x2\n put 0 0 7\n step 0 x8\n close 0\n step 0
         open 0\n step 0 x2\n read 0 0\n step 0 x2";
     assert_eq!(examined(script, &[]).1, None);
-    refused_at(19, Claim::Value, script, &[(19, "value 0")]);
+    refused_at(20, Claim::Value, script, &[(20, "value 0")]);
 }
 
 #[test]
@@ -148,13 +148,15 @@ fn only_workers_and_registers_that_exist_begin() {
 }
 
 /// Every answer that a step may have.
-const ANSWERS: [&str; 10] =
-    ["ok", "going", "done", "freed 0", "at 1", "value 0", "value -1", "no 14", "no 15", "no 18"];
+const ANSWERS: [&str; 13] = [
+    "ok", "going", "done", "freed 0", "at 1", "value 0", "value -1", "no 14", "no 15", "no 18",
+    "no 19", "no 20", "no 21",
+];
 
 #[test]
 fn each_step_has_its_answers() {
     // What was done before the step of worker 0, and which answers the step may have.
-    let cases: [(&str, &[&str]); 14] = [
+    let cases: [(&str, &[&str]); 18] = [
         ("", &[]),
         ("put 0 0 7", &["going", "no 14"]),
         ("put 0 0 7\n step 0", &["going"]),
@@ -169,6 +171,10 @@ fn each_step_has_its_answers() {
         ("get 0 0", &["value 0"]),
         ("open 0\n step 0 x2\n total 0 0", &["going"]),
         ("open 0\n step 0 x2\n total 0 0\n step 0", &["going", "value 0", "no 18"]),
+        ("open 0\n step 0 x2\n mark 0 1", &["done", "no 19"]),
+        ("open 0\n step 0 x2\n mark 0 1\n step 0\n release 0 1", &["done", "no 20", "no 21"]),
+        ("open 0\n step 0 x2\n mark 0 1\n step 0\n marked 0 0 1", &["going", "no 20"]),
+        ("open 0\n step 0 x2\n mark 0 1\n step 0\n marked 0 0 1\n step 0", &["going", "value 0"]),
     ];
     for (before, allowed) in cases {
         let script = format!("setup 2 1 4 1\n {before}\n step 0");
@@ -186,7 +192,7 @@ fn each_step_has_its_answers() {
             }
         }
         // A worker that has an operation takes its step: nothing on reading is left to refuse it.
-        for number in (1..19).filter(|n| ![14, 15, 18].contains(n) && !before.is_empty()) {
+        for number in (1..18).filter(|n| ![14, 15].contains(n) && !before.is_empty()) {
             let replaced = [(record, &format!("no {number}")[..])];
             let violation = examined_with("0 + 0", &script, &replaced).1.expect("a violation");
             assert_eq!((violation.record, violation.claim), (record, Claim::Fit));
@@ -195,10 +201,10 @@ fn each_step_has_its_answers() {
     }
 }
 
-/// Registers 0 and 1 with 5 and 3, worker 1's snapshot of them, and its total of group 0 from record 15
-/// on, which ends at record 19.
+/// Registers 0 and 1 with 5 and 3, worker 1's snapshot of them, and its total of group 0 from its
+/// begin on, which ends at its fourth step.
 const TOTAL: &str =
-    "setup 2 2 9 1\n put 0 0 5\n step 0 x3\n put 0 1 3\n step 0 x8\n open 1\n step 1 x2
+    "setup 2 2 9 1\n put 0 0 5\n step 0 x3\n put 0 1 3\n step 0 x9\n open 1\n step 1 x2
     total 1 0\n step 1 x4";
 const ROWS: &str = "0 + 0\n 0 - 1\n 1 + 1";
 
@@ -260,8 +266,8 @@ fn only_lists_and_groups_that_exist_begin() {
 #[test]
 fn a_total_stamps_row_by_row() {
     let script =
-        "setup 2 2 6 1\n put 0 0 5\n step 0 x3\n open 1\n step 1 x2\n put 0 0 6\n step 0 x8
-        total 1 0\n step 1\n put 0 0 7\n step 0 x3\n collect 0\n step 0 x6\n collect 0\n step 0 x6
+        "setup 2 2 6 1\n put 0 0 5\n step 0 x3\n open 1\n step 1 x2\n put 0 0 6\n step 0 x9
+        total 1 0\n step 1\n put 0 0 7\n step 0 x3\n collect 0\n step 0 x7\n collect 0\n step 0 x7
         put 0 1 9\n step 0\n step 1 x2\n get 0 0\n step 1";
     let (order, violation) = examined_with("0 + 0\n 0 + 1", script, &[]);
     assert_eq!((violation, order.freed), (None, 2));
@@ -269,6 +275,107 @@ fn a_total_stamps_row_by_row() {
     // Its first step, the total's (2) on the version that it was moved to, and (1) of its second row.
     let first = put.begin + 1;
     assert_eq!((put.effect, put.outcome), (Some(first + 2), Outcome::Unfinished));
+}
+
+/// Register 0 with 5, worker 1's snapshot of it at 1, which mark 3 keeps, and a close; then
+/// register 0 gets 6, and the range of 5, from 1 to 2, is queued.
+const MARKED: &str =
+    "setup 2 1 9 1\n put 0 0 5\n step 0 x3\n open 1\n step 1 x2\n mark 1 3\n step 1
+    close 1\n step 1\n put 0 0 6\n step 0 x9";
+
+/// A script after that, with some of the hub's answers replaced, counted from its first record.
+fn marked(script: &str, replaced: &[(usize, &str)]) -> (usize, Order, Option<Violation>) {
+    let first = records(MARKED).len() / 16;
+    let replaced: Vec<_> = replaced.iter().map(|&(place, words)| (first + place, words)).collect();
+    let (order, violation) = examined(&format!("{MARKED}\n {script}"), &replaced);
+    (first, order, violation)
+}
+
+/// It must be refused at this record of the script.
+fn marked_refused(record: usize, claim: Claim, script: &str, replaced: &[(usize, &str)]) -> String {
+    let (first, _, violation) = marked(script, replaced);
+    let violation = violation.expect("a violation");
+    assert_eq!((violation.record, violation.claim), (first + record, claim), "{violation}");
+    violation.sentence
+}
+
+#[test]
+fn a_marked_read_shows_the_marks_copy() {
+    let read = "marked 0 0 3\n step 0 x3";
+    let (first, order, violation) = marked(read, &[]);
+    let last = order.operations.last().unwrap();
+    assert_eq!((last.effect, last.shown, violation), (Some(first + 3), Some(5), None));
+    for words in ["value 6", "value 0"] {
+        let sentence = marked_refused(3, Claim::Value, read, &[(3, words)]);
+        assert!(sentence.starts_with("worker 0's read of register 0 at mark 3, "), "{sentence}");
+        assert!(sentence.ends_with("where 5 is shown"), "{sentence}");
+    }
+    // One that met 20 is left out; so is one that is unfinished.
+    let (_, order, violation) = marked("marked 0 0 3\n step 0", &[(1, "no 20")]);
+    assert_eq!((order.operations.last().unwrap().effect, violation), (None, None));
+    assert_eq!(marked("marked 0 0 3\n step 0", &[]).2, None);
+}
+
+/// An empty mark has no copy: never marked, released, or marked without a snapshot.
+#[test]
+fn a_read_of_an_empty_mark_shows_nothing() {
+    let read = [(0, "ok"), (1, "going"), (2, "value 0")];
+    let sentence = marked_refused(2, Claim::Value, "marked 0 0 4\n step 0 x2", &read);
+    assert!(sentence.ends_with("where nothing is shown"), "{sentence}");
+    let released = "release 0 3\n step 0\n marked 0 0 3\n step 0 x2";
+    let read = [(2, "ok"), (3, "going"), (4, "value 5")];
+    marked_refused(4, Claim::Value, released, &read);
+    let unsnapped = "mark 0 4\n step 0\n marked 0 0 4\n step 0 x2";
+    let read = [(0, "ok"), (1, "done"), (2, "ok"), (3, "going"), (4, "value 6")];
+    marked_refused(4, Claim::Value, unsnapped, &read);
+}
+
+/// A mark takes the copy that its worker has, in place of what it held.
+#[test]
+fn a_mark_keeps_the_copy_of_its_worker() {
+    let again = "open 0\n step 0 x2\n mark 0 3\n step 0\n marked 1 0 3\n step 1 x2";
+    let answers = |value| [(3, "ok"), (4, "done"), (5, "ok"), (6, "going"), (7, value)];
+    assert_eq!(marked(again, &answers("value 6")).2, None);
+    marked_refused(7, Claim::Value, again, &answers("value 5"));
+    // Refused with 19 at its step, it takes nothing.
+    let refused = [(3, "ok"), (4, "no 19"), (7, "value 6")];
+    marked_refused(7, Claim::Value, again, &refused);
+    // What was put after the open is in neither.
+    let put =
+        "open 0\n step 0 x2\n put 0 0 7\n step 0 x3\n mark 0 4\n step 0\n marked 1 0 4\n step 1 x3";
+    let (_, order, violation) = marked(put, &[]);
+    assert_eq!((order.operations.last().unwrap().shown, violation), (Some(6), None));
+}
+
+/// From the mark's step to the release's.
+#[test]
+fn a_held_mark_needs_its_versions() {
+    // Slot 1 has 5, which the mark needs and no snapshot; slot 0 is needless.
+    let collect = "collect 0\n step 0 x6";
+    assert_eq!(marked(collect, &[]).2, None);
+    let sentence = marked_refused(6, Claim::NeededFreed, collect, &[(6, "freed 1")]);
+    let expected = "slot 1 of register 0 with range 1 to 2 is freed, and mark 3 at 1 needs it";
+    assert_eq!(sentence, expected);
+    let released = "release 1 3\n step 1\n collect 0\n step 0 x6";
+    assert_eq!(marked(released, &[(8, "freed 1")]).2, None);
+    // Neither a release that has only begun nor one that is refused gives anything up.
+    let begun = "release 1 3\n collect 0\n step 0 x6";
+    marked_refused(7, Claim::NeededFreed, begun, &[(7, "freed 1")]);
+    marked_refused(8, Claim::NeededFreed, released, &[(1, "no 21"), (8, "freed 1")]);
+}
+
+#[test]
+fn only_marks_that_exist_begin() {
+    for command in ["mark 0 12", "release 0 65535", "marked 0 0 12", "marked 0 0 255"] {
+        let sentence = marked_refused(0, Claim::Fit, command, &[(0, "ok")]);
+        assert!(sentence.ends_with("does not exist"), "{sentence}");
+    }
+    marked_refused(0, Claim::Fit, "marked 0 1 3", &[(0, "ok")]);
+    // Refused on reading with any of the three, nothing begins.
+    for words in ["no 19", "no 20", "no 21"] {
+        let (_, order, violation) = marked("mark 1 4", &[(0, words)]);
+        assert_eq!((order.operations.len(), violation), (5, None));
+    }
 }
 
 #[test]
@@ -326,8 +433,8 @@ fn every_operation_stands_as_often_as_its_outcome_says() {
 #[test]
 fn an_operation_that_ended_stands_before_one_that_begins_later() {
     assert_eq!(with(&[1, 0]), Some((5, Claim::Between)));
-    // A get from 1 to 3, a collect from 2 to 11 and a get from 4 to 5: only the gets have an order.
-    let overlapping = "setup 3 1 1 1\n get 0 0\n collect 1\n step 0\n get 2 0\n step 2\n step 1 x6";
+    // A get from 1 to 3, a collect from 2 to 12 and a get from 4 to 5: only the gets have an order.
+    let overlapping = "setup 3 1 1 1\n get 0 0\n collect 1\n step 0\n get 2 0\n step 2\n step 1 x7";
     let mut order = examined(overlapping, &[]).0;
     assert_eq!(order.sequence, [0, 2, 1]);
     for sequence in [[0, 2, 1], [0, 1, 2], [1, 0, 2]] {

@@ -10,7 +10,7 @@ use reference::store::MAX_VALUE;
 /// A hub whose clock is set up so many below its last value.
 fn size(workers: u8, registers: u16, slots: u16, below: u32, values: &'static [u64]) -> Size {
     let clock = u32::MAX - below;
-    Size { workers, registers, slots, clock, list: &[], values, max_values: &[MAX_VALUE] }
+    Size { workers, registers, slots, clock, list: &[], values, max_values: &[MAX_VALUE], marks: 0 }
 }
 
 fn states(size: Size) -> usize {
@@ -21,47 +21,47 @@ fn states(size: Size) -> usize {
 
 #[test]
 fn one_worker() {
-    assert_eq!(states(size(1, 1, 2, 1, &[1, 2])), 986);
-    assert_eq!(states(size(1, 1, 3, 2, &[1, 2])), 16_941);
-    assert_eq!(states(size(1, 1, 4, 3, &[1, 2])), 155_190);
+    assert_eq!(states(size(1, 1, 2, 1, &[1, 2])), 1101);
+    assert_eq!(states(size(1, 1, 3, 2, &[1, 2])), 19_038);
+    assert_eq!(states(size(1, 1, 4, 3, &[1, 2])), 175_881);
 }
 
 #[test]
 fn one_worker_two_registers() {
-    assert_eq!(states(size(1, 2, 4, 1, &[1, 2])), 219_201);
+    assert_eq!(states(size(1, 2, 4, 1, &[1, 2])), 244_860);
 }
 
 #[test]
 fn two_workers_two_slots() {
-    assert_eq!(states(size(2, 1, 2, 2, &[1, 2])), 279_879);
+    assert_eq!(states(size(2, 1, 2, 2, &[1, 2])), 370_449);
 }
 
 #[test]
 fn two_workers_three_slots() {
-    assert_eq!(states(size(2, 1, 3, 1, &[1])), 262_982);
+    assert_eq!(states(size(2, 1, 3, 1, &[1])), 345_159);
 }
 
 #[test]
 fn two_workers_two_registers() {
-    assert_eq!(states(size(2, 2, 3, 1, &[1])), 187_946);
+    assert_eq!(states(size(2, 2, 3, 1, &[1])), 235_686);
 }
 
 #[test]
 #[ignore = "half a minute, a quarter of a gigabyte"]
 fn two_workers_three_slots_two_values() {
-    assert_eq!(states(size(2, 1, 3, 1, &[1, 2])), 1_943_800);
+    assert_eq!(states(size(2, 1, 3, 1, &[1, 2])), 2_511_418);
 }
 
 #[test]
 #[ignore = "half a minute, a quarter of a gigabyte"]
 fn two_workers_three_slots_three_times() {
-    assert_eq!(states(size(2, 1, 3, 2, &[1])), 1_605_682);
+    assert_eq!(states(size(2, 1, 3, 2, &[1])), 2_165_012);
 }
 
 #[test]
 #[ignore = "a minute, half a gigabyte"]
 fn two_workers_four_slots() {
-    assert_eq!(states(size(2, 1, 4, 1, &[1])), 4_378_005);
+    assert_eq!(states(size(2, 1, 4, 1, &[1])), 5_775_923);
 }
 
 /// The third fault breaks demand 3 in a small hub already.
@@ -99,8 +99,8 @@ fn across(size: Size) -> Size {
 /// two values without A1.
 #[test]
 fn every_state_from_before_a1() {
-    assert_eq!(states(across(size(1, 1, 3, 2, AT_LIMIT))), 16_941);
-    assert_eq!(states(across(size(2, 1, 2, 2, AT_LIMIT))), 279_879);
+    assert_eq!(states(across(size(1, 1, 3, 2, AT_LIMIT))), 19_038);
+    assert_eq!(states(across(size(2, 1, 2, 2, AT_LIMIT))), 370_449);
 }
 
 /// Those near misses of A1 that show where no worker and no register is missing.
@@ -134,31 +134,31 @@ const GROUPS: &[u8] = &[0, 0, 0, 0, 1, 1, 0, 0];
 
 #[test]
 fn totals_of_one_worker() {
-    assert_eq!(states(with_list(size(1, 1, 2, 1, &[1, 2]), TWICE)), 1106);
-    assert_eq!(states(with_list(size(1, 1, 3, 2, &[1, 2]), TWICE)), 19_493);
-    assert_eq!(states(with_list(size(1, 2, 4, 1, &[1]), TWO)), 22_687);
+    assert_eq!(states(with_list(size(1, 1, 2, 1, &[1, 2]), TWICE)), 1221);
+    assert_eq!(states(with_list(size(1, 1, 3, 2, &[1, 2]), TWICE)), 21_590);
+    assert_eq!(states(with_list(size(1, 2, 4, 1, &[1]), TWO)), 25_202);
 }
 
 #[test]
 fn totals_of_two_workers() {
-    assert_eq!(states(with_list(size(2, 1, 2, 2, &[1]), TWICE)), 104_782);
+    assert_eq!(states(with_list(size(2, 1, 2, 2, &[1]), TWICE)), 134_688);
 }
 
 /// Versions are freed under them.
 #[test]
 fn totals_with_three_slots() {
-    assert_eq!(states(with_list(size(2, 1, 3, 1, &[1]), MINUS)), 310_685);
+    assert_eq!(states(with_list(size(2, 1, 3, 1, &[1]), MINUS)), 399_012);
 }
 
 #[test]
 fn totals_of_values_from_before_a1() {
-    assert_eq!(states(across(with_list(size(1, 1, 3, 2, AT_LIMIT), TWICE))), 18_901);
+    assert_eq!(states(across(with_list(size(1, 1, 3, 2, AT_LIMIT), TWICE))), 20_998);
 }
 
 #[test]
 #[ignore = "a few seconds"]
 fn totals_of_two_registers() {
-    assert_eq!(states(with_list(size(2, 2, 3, 1, &[1]), TWO)), 231_088);
+    assert_eq!(states(with_list(size(2, 2, 3, 1, &[1]), TWO)), 283_404);
 }
 
 #[test]
@@ -183,4 +183,55 @@ fn near_misses_of_a2_are_found() {
     assert!(begin.ends_with("No(Summand), not Ok"), "{begin}");
     assert!(found::<GroupAfterBusy>(small(MINUS)).ends_with("No(Busy), not No(Group)"));
     assert!(found::<GroupAfterSnapshot>(small(MINUS)).ends_with("not No(Group)"));
+}
+
+/// With so many marks: every mark, release and marked read of them, and of mark 12.
+fn with_marks(size: Size, marks: u8) -> Size {
+    Size { marks, ..size }
+}
+
+#[test]
+fn marks_of_one_worker() {
+    assert_eq!(states(with_marks(size(1, 1, 2, 1, &[1, 2]), 1)), 1976);
+    assert_eq!(states(with_marks(size(1, 1, 3, 2, &[1, 2]), 1)), 55_791);
+    assert_eq!(states(with_marks(size(1, 1, 3, 2, &[1]), 2)), 29_248);
+    assert_eq!(states(with_marks(size(1, 2, 4, 1, &[1]), 1)), 42_085);
+}
+
+#[test]
+fn marks_of_two_workers() {
+    assert_eq!(states(with_marks(size(2, 1, 2, 1, &[1]), 1)), 61_011);
+}
+
+#[test]
+fn marks_with_three_slots() {
+    assert_eq!(states(with_marks(size(2, 1, 3, 1, &[1]), 1)), 972_150);
+}
+
+#[test]
+fn near_misses_of_a3_are_found() {
+    fn found<F: Fault + Clone>(size: Size) -> String {
+        let reason = explore::<F>(size, false).unwrap_err();
+        reason.lines().next().unwrap_or_default().to_string()
+    }
+    let small = with_marks(size(2, 1, 3, 1, &[1]), 1);
+    for reason in
+        [found::<MarksFirst>(small), found::<MarksNotRead>(small), found::<TimesFirst>(small)]
+    {
+        assert!(reason.ends_with("is freed, 4294967294 needs it"), "{reason}");
+    }
+    // The mark copies another time than it should keep, and is empty where it should hold one.
+    assert!(found::<MarkClock>(small).ends_with("is freed, 4294967294 needs it"));
+    assert!(found::<CloseEmpties>(small).ends_with("No(MarkEmpty), not Ok"));
+    let times = with_marks(size(1, 1, 3, 2, &[1]), 1);
+    assert_eq!(found::<MarkedOwnTime>(times), "a marked read: 1, not 0");
+    assert_eq!(found::<UsedAtBegin>(small), "Mark { mark: 0 }: Done, not No(MarkUsed)");
+    assert_eq!(found::<EmptyAtBegin>(small), "Release { mark: 0 }: Done, not No(MarkEmpty)");
+    assert!(found::<MarkedNewest>(small).ends_with("Going, not No(MarkEmpty)"));
+    assert_eq!(found::<ReadAtBegin>(small), "Release { mark: 0 }: Done, not No(MarkRead)");
+    assert!(found::<ReleaseUnderRead>(small).ends_with("Ok, not No(MarkRead)"));
+    assert!(found::<ReadFromBegin>(small).ends_with("No(MarkRead), not Ok"));
+    assert!(found::<UsedBeforeSnapshot>(small).ends_with("No(MarkUsed), not No(NotAnnounced)"));
+    assert!(found::<MarkAfterBusy>(small).ends_with("No(Busy), not No(Register)"));
+    assert!(found::<MarkTwelve>(small).ends_with("not No(Register)"));
 }

@@ -3,9 +3,10 @@
 mod common;
 
 use reference::generate::{script_across, Kind, Script};
-use reference::invariant::{self, Ghost};
+use reference::ghost::Ghost;
+use reference::invariant;
 use reference::record::LENGTH;
-use reference::{Answer, Hub, Record};
+use reference::{Hub, Record};
 
 /// Runs a script whose first `before` records come before A1, and checks after each record (on large
 /// hubs after every hundredth).
@@ -22,8 +23,8 @@ fn run(kind: Kind, seed: u64, count: usize, before: usize) -> Result<(), String>
             ghost = Some(Ghost::start(after));
             continue;
         };
-        let refused = matches!(answer, Answer::No(refusal) if !refusal.at_step());
-        if let (Ok(record), false) = (Record::decode(bytes), refused) {
+        let record = Record::decode(bytes).ok();
+        if let Some(record) = record.filter(|record| !record.refused_on_reading(answer)) {
             ghost.follow(earlier, record, hub.max_value, answer, after)?;
         }
         if kind != Kind::Large || number % 100 == 0 {

@@ -54,7 +54,7 @@ fn puts_above_the_limit_are_refused() {
 /// 16 is about puts: no other record has a value.
 #[test]
 fn other_records_have_no_value() {
-    for operation in [0, 2, 3, 4, 5, 6, 7, 8] {
+    for operation in [0, 2, 3, 4, 5, 6, 7, 8, 9, 10, 11] {
         let mut bytes = [0xff; LENGTH];
         bytes[..8].copy_from_slice(&[operation, 0, 0, 0, 0, 0, 0, 0]);
         let mut hub = common::hub_after("setup 1 1 1 1");
@@ -94,19 +94,20 @@ fn larger_values_from_before_are_shown_by_get_and_read() {
 #[test]
 fn larger_values_from_before_are_freed() {
     // Slot 1 has the value; the put of 5 covers it and hands it in, and a collect frees it.
-    let before = "setup 1 1 3 1\n put 0 0 18446744073709551615\n step 0 x7";
-    let after = "put 0 0 5\n step 0 x8\n collect 0\n step 0 x5\n get 0 0\n step 0";
+    let before = "setup 1 1 3 1\n put 0 0 18446744073709551615\n step 0 x8";
+    let after = "put 0 0 5\n step 0 x9\n collect 0\n step 0 x6\n get 0 0\n step 0";
     let expected = [
-        "ok", "going", "going", "going", "going", "going", "going", "freed 0", "done", "ok",
-        "going", "going", "going", "freed 1", "done", "ok", "value 5",
+        "ok", "going", "going", "going", "going", "going", "going", "going", "freed 0", "done",
+        "ok", "going", "going", "going", "going", "freed 1", "done", "ok", "value 5",
     ];
     assert_eq!(words_across(before, after), expected);
     // Under a snapshot that needs it, it stays; after the close it goes.
     let before = format!("{before}\n open 0\n step 0 x2");
-    let after = "put 0 0 5\n step 0 x8\n collect 0\n step 0 x4\n read 0 0\n step 0 x3\n close 0
-        step 0\n collect 0\n step 0 x5";
+    let after = "put 0 0 5\n step 0 x9\n collect 0\n step 0 x5\n read 0 0\n step 0 x3\n close 0
+        step 0\n collect 0\n step 0 x6";
     let expected = [
         "ok",
+        "going",
         "going",
         "going",
         "going",
@@ -119,6 +120,7 @@ fn larger_values_from_before_are_freed() {
         "going",
         "going",
         "going",
+        "going",
         "done",
         "ok",
         "going",
@@ -127,6 +129,7 @@ fn larger_values_from_before_are_freed() {
         "ok",
         "done",
         "ok",
+        "going",
         "going",
         "going",
         "going",

@@ -107,7 +107,7 @@ fn a_broken_order_says_where() {
 
 #[test]
 fn a_slot_freed_twice_ends_the_order() {
-    let script = "setup 1 1 3 1\n put 0 0 7\n step 0 x7\n collect 0\n step 0 x6";
+    let script = "setup 1 1 3 1\n put 0 0 7\n step 0 x8\n collect 0\n step 0 x7";
     let (order, _) = examined(script, &[]);
     assert_eq!(order.freed, 1);
     let freed = order.steps.iter().position(|step| step.answer.to_string() == "freed 0").unwrap();
@@ -148,7 +148,7 @@ fn totals_are_listed_with_their_registers() {
 
 #[test]
 fn a_total_refused_with_18_is_listed() {
-    let before = records("setup 1 1 4 1\n put 0 0 1000000000000\n step 0 x7\n open 0\n step 0 x2");
+    let before = records("setup 1 1 4 1\n put 0 0 1000000000000\n step 0 x8\n open 0\n step 0 x2");
     let number = before.len() / 16;
     let records = [before, records("total 0 0\n step 0 x2")].concat();
     let script = Script { records, list: list("0 + 0") };
@@ -156,6 +156,36 @@ fn a_total_refused_with_18_is_listed() {
     let order = order::check(&script.records, &script.list, &answers).expect("in order");
     let listing = Listing::new(&order, None).to_string();
     let why =
-        "total of group 0 0 12 14 refused with 18: a value to be summed is above 999999999999";
+        "total of group 0 0 13 15 refused with 18: a value to be summed is above 999999999999";
     assert_eq!(rows(&listing, "operation worker"), [why], "{listing}");
+}
+
+/// With what each mark held below, and why an operation on a mark was refused at its step.
+#[test]
+fn marks_are_listed_with_what_they_held() {
+    let script = "setup 2 1 4 5\n open 0\n step 0 x2\n mark 0 3\n step 0\n open 1\n step 1 x2\n mark 1 11
+        step 1\n release 0 3\n marked 1 0 3\n step 1\n step 0\n step 1\n release 0 3\n release 1 3\n step 0
+        step 1\n open 0\n mark 0 3\n mark 1 3\n step 0\n step 1";
+    let listing = listing(script, &[]);
+    let expected = [
+        "1 open 0 1 3 3 at 5",
+        "2 mark 3 0 4 5 5 done",
+        "3 open 1 6 8 8 at 6",
+        "4 mark 11 1 9 10 10 done",
+        "5 read of register 0 at mark 3 1 12 15 15 value 0 0",
+        "6 release of mark 3 0 16 18 18 done",
+        "7 mark 3 0 21 23 23 done",
+    ];
+    assert_eq!(rows(&listing, "place operation"), expected, "{listing}");
+    let expected = [
+        "release of mark 3 0 11 14 refused with 21: a read of the mark runs",
+        "release of mark 3 1 17 19 refused with 20: mark empty",
+        "mark 3 1 22 24 refused with 19: mark in use",
+    ];
+    assert_eq!(rows(&listing, "operation worker"), expected, "{listing}");
+    let expected = ["3 5 0 5 18", "11 6 1 10 -", "3 5 0 23 -"];
+    assert_eq!(rows(&listing, "mark time"), expected, "{listing}");
+    for words in ["a get, a read or a marked read finds", "or a held mark needs"] {
+        assert!(listing.contains(words), "{listing}");
+    }
 }

@@ -11,11 +11,11 @@ use std::io::{self, Read};
 const EXAMPLE: &str = "
     setup 1 1 2 1
     put 0 0 7
-    step 0 x7
+    step 0 x8
     put 0 0 9
     step 0
     collect 0
-    step 0 x5";
+    step 0 x6";
 
 fn log_of(file: &[u8]) -> String {
     let mut output = Vec::new();
@@ -23,10 +23,12 @@ fn log_of(file: &[u8]) -> String {
     String::from_utf8(output).unwrap()
 }
 
+/// With A3's step in each of its two flushes.
 #[test]
 fn example_of_document_01() {
-    let expected = "0 ok\n1 ok\n2 going\n3 going\n4 going\n5 going\n6 going\n7 going\n8 done\n\
-        9 ok\n10 no 14\n11 ok\n12 going\n13 going\n14 going\n15 freed 0\n16 done\n";
+    let expected = "0 ok\n1 ok\n2 going\n3 going\n4 going\n5 going\n6 going\n7 going\n8 going\n\
+        9 done\n10 ok\n11 no 14\n12 ok\n13 going\n14 going\n15 going\n16 going\n17 freed 0\n\
+        18 done\n";
     assert_eq!(log_of(&records(EXAMPLE)), expected);
 }
 
@@ -129,7 +131,7 @@ fn what_is_no_log() {
         "0 ok \n",
         "0 freed\n",
         "0 freed 01\n",
-        "0 no 19\n",
+        "0 no 22\n",
         "0 value\n",
         "0 value -\n",
         "0 value -0\n",

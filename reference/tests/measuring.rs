@@ -43,6 +43,7 @@ fn bench_prints_its_tables() {
     for line in [
         "small (P 2, V 4, N 16)",
         "totals (P 16, V 256, N 2048)",
+        "marks (P 16, V 64, N 2048)",
         "uniform (P 16, V 256, N 2048)",
         "growth-2048",
         "plain-16",

@@ -1,6 +1,6 @@
 //! Document 01's four ways to get it nearly right: each is caught by comparing logs with the
 //! right hub, and the third and fourth by the order checker, which sees only records and log. Then
-//! the near misses of A1 and of A2: each by a short script, by random ones, and some by the order
+//! the near misses of A1, A2 and A3: each by a short script, by random ones, and some by the order
 //! checker.
 
 mod common;
@@ -132,11 +132,11 @@ fn a_short_script_for_each_near_miss_of_a1() {
     assert_eq!(told::<ValueIdles>("", &format!("{on_busy}\n step 0")), ["value 0", "no 11"]);
     let begun = hub("put 0 0 1000000000000");
     assert_eq!(told::<ValueAtStep>(&begun, "step 0"), ["going", "no 16"]);
-    let stored = format!("{begun}\n step 0 x7");
+    let stored = format!("{begun}\n step 0 x8");
     let shown = ["value 1000000000000", "value 999999999999"];
     assert_eq!(told::<GetHides>(&stored, "get 0 0\n step 0"), shown);
     assert_eq!(told::<ReadHides>(&stored, "open 0\n step 0 x2\n read 0 0\n step 0 x2"), shown);
-    let freed = "put 0 0 5\n step 0 x8\n collect 0\n step 0 x4";
+    let freed = "put 0 0 5\n step 0 x9\n collect 0\n step 0 x5";
     assert_eq!(told::<LargeKept>(&stored, freed), ["freed 1", "going"]);
     assert_eq!(told::<LargeNotSetUp>(&stored, "get 0 0"), ["ok", "no 8"]);
 }
@@ -184,7 +184,7 @@ fn random_scripts_for_near_misses_with_values_from_before_a1() {
 }
 
 /// Two registers with 100 and 20, and worker 1's snapshot of them.
-const READINGS: &str = "setup 2 2 9 1\n put 0 0 100\n step 0 x3\n put 0 1 20\n step 0 x8
+const READINGS: &str = "setup 2 2 9 1\n put 0 0 100\n step 0 x3\n put 0 1 20\n step 0 x9
     open 1\n step 1 x2";
 
 /// The last answers of the right hub and of the fault after the readings, with this list.
@@ -206,8 +206,8 @@ fn a_short_script_for_each_near_miss_of_a_total() {
     let newer = newer.replace("x5", "x4");
     assert_eq!(summed::<TotalNewest>(two, &newer), ["going", "value -13"]);
     // The script of `a_total_moves_off_a_freed_version` in the tests of totals.
-    let freed = "setup 2 2 5 1\n put 0 0 5\n step 0 x3\n open 1\n step 1 x2\n put 0 0 6\n step 0 x8
-        total 1 0\n step 1\n put 0 0 7\n step 0 x3\n collect 0\n step 0 x6\n collect 0\n step 0 x6
+    let freed = "setup 2 2 5 1\n put 0 0 5\n step 0 x3\n open 1\n step 1 x2\n put 0 0 6\n step 0 x9
+        total 1 0\n step 1\n put 0 0 7\n step 0 x3\n collect 0\n step 0 x7\n collect 0\n step 0 x7
         put 0 1 1000\n step 0 x3\n step 1";
     let left = told_with::<LeaveTotal>(list("0 + 0"), "", freed);
     assert_eq!(left, ["value 5", "going"]);
@@ -311,4 +311,125 @@ fn random_lists_for_each_near_miss_of_a_list() {
     caught::<Row33>();
     caught::<RegisterV>();
     caught::<SignTwo>();
+}
+
+/// Two workers, two registers. Worker 1 has a snapshot at 1 of 5 in register 0, in slot 2.
+const SNAPSHOT: &str = "setup 2 2 9 1\n put 0 0 5\n step 0 x3\n open 1\n step 1 x2";
+
+/// The last answers of the right hub and of the fault after that.
+fn marked<F: Fault>(script: &str) -> [String; 2] {
+    told::<F>("", &format!("{SNAPSHOT}\n {script}"))
+}
+
+/// After that too: register 0 gets 6, worker 1 keeps its time as mark 0 and closes, and the range
+/// of 5, from 1 to 2, is queued.
+const QUEUED: &str = "put 0 0 6\n step 0 x9\n mark 1 0\n step 1\n close 1\n step 1";
+
+#[test]
+fn a_short_script_for_each_near_miss_of_marks_in_a_flush() {
+    // The split of the next flush keeps slot 2; the range of slot 0 is needless.
+    let flush = format!("{QUEUED}\n collect 0\n step 0 x7");
+    assert_eq!(marked::<MarksNotRead>(&flush), ["done", "freed 2"]);
+    assert_eq!(marked::<CloseEmpties>(&flush), ["done", "freed 2"]);
+    assert_eq!(marked::<MarkClock>(&flush), ["done", "freed 2"]);
+    assert_eq!(
+        marked::<MarksWithLast>(&format!("{QUEUED}\n collect 0\n step 0 x5")),
+        ["going", "freed 0"]
+    );
+    // The mark is made between the step that reads the marks and the one that reads worker 1.
+    let between = "put 0 0 6\n step 0 x9\n collect 0\n step 0 x2\n mark 1 0\n step 1\n close 1
+        step 1\n step 0 x5";
+    assert_eq!(marked::<MarksFirst>(between), ["done", "freed 2"]);
+}
+
+#[test]
+fn a_short_script_for_each_near_miss_of_a_marked_read() {
+    let newer = "mark 1 0\n step 1\n close 1\n step 1\n put 0 0 6\n step 0 x9\n open 1\n step 1 x2";
+    let read = format!("{newer}\n marked 1 0 0\n step 1 x2");
+    assert_eq!(marked::<MarkedOwnTime>(&read), ["going", "value 6"]);
+    assert_eq!(marked::<MarkedOwnTime>(&format!("{read}\n step 1")), ["value 5", "no 11"]);
+    let read = "mark 1 0\n step 1\n put 0 0 6\n step 0 x9\n marked 1 0 0\n step 1 x3";
+    assert_eq!(marked::<MarkClock>(read), ["value 5", "no 11"]);
+    // The mark is emptied between the begin and the first step.
+    let emptied = "mark 1 0\n step 1\n marked 0 0 0\n release 1 0\n step 1\n step 0";
+    assert_eq!(marked::<MarkedNewest>(emptied), ["no 20", "going"]);
+    // The read stands on 6, in slot 3, when 7 covers it and its slot is freed and taken again.
+    let freed = "mark 1 0\n step 1\n put 0 0 6\n step 0 x9\n marked 1 0 0\n step 1\n put 0 0 7
+        step 0 x3\n collect 0\n step 0 x7\n collect 0\n step 0 x7\n put 0 1 1000\n step 0 x3\n step 1";
+    assert_eq!(marked::<LeaveMarked>(freed), ["value 5", "going"]);
+    let left = marked::<LeaveMarked>(&format!("{freed}\n step 1"));
+    assert_eq!(left, ["no 11", "value 0"]);
+}
+
+#[test]
+fn a_short_script_for_each_near_miss_of_19_20_and_21() {
+    // Both begin while the mark is empty; the second step finds it in use.
+    let both = "open 0\n step 0 x2\n mark 0 0\n mark 1 0\n step 0\n step 1";
+    assert_eq!(marked::<UsedAtBegin>(both), ["no 19", "done"]);
+    let both = "mark 1 0\n step 1\n release 0 0\n release 1 0\n step 0\n step 1";
+    assert_eq!(marked::<EmptyAtBegin>(both), ["no 20", "done"]);
+    let read = "mark 1 0\n step 1\n release 0 0\n marked 1 0 0\n step 1\n step 0";
+    assert_eq!(marked::<ReadAtBegin>(read), ["no 21", "done"]);
+    assert_eq!(marked::<ReleaseUnderRead>(read), ["no 21", "done"]);
+    let read = "mark 1 0\n step 1\n marked 1 0 0\n step 1\n release 0 0";
+    assert_eq!(marked::<ReadAtBegin>(read), ["no 21", "no 21"]);
+    assert_eq!(marked::<ReleaseUnderRead>(read), ["no 21", "ok"]);
+    let begun = "mark 1 0\n step 1\n marked 1 0 0\n release 0 0";
+    assert_eq!(marked::<ReadFromBegin>(begun), ["ok", "no 21"]);
+    assert_eq!(marked::<UsedBeforeSnapshot>("mark 1 0\n step 1\n mark 0 0"), ["no 13", "no 19"]);
+    for on_busy in ["mark 1 12", "release 1 12", "marked 1 0 12"] {
+        let on_busy = format!("get 1 0\n {on_busy}");
+        assert_eq!(marked::<MarkAfterBusy>(&on_busy), ["no 4", "no 10"], "{on_busy}");
+    }
+    assert_eq!(marked::<MarkByte>("mark 1 256"), ["no 4", "ok"]);
+    assert_eq!(marked::<MarkByte>("mark 1 0\n step 1\n release 1 256"), ["no 4", "ok"]);
+    assert_eq!(marked::<MarkTwelve>("mark 1 12"), ["no 4", "ok"]);
+    assert_eq!(marked::<MarkTwelve>("mark 1 13"), ["no 4", "no 4"]);
+}
+
+/// Scripts for the near misses of A3: in how many the log differs, and the claims that are broken.
+fn caught_by_marks<F: Fault>() -> (usize, Vec<Claim>) {
+    const MARK_KINDS: [Kind; 5] =
+        [Kind::Mixed, Kind::Invalid, Kind::Collects, Kind::Marks, Kind::Held];
+    let seeded = |kind| (0..40).map(move |seed| script(kind, 8000 + seed, 1200));
+    caught_in::<F>(MARK_KINDS.into_iter().flat_map(seeded), 0)
+}
+
+/// Each of these breaks the order: it frees what a mark needs, or shows something else.
+#[test]
+fn random_scripts_for_near_misses_of_a3_that_break_the_order() {
+    fn caught<F: Fault>(least: usize, needed: usize, values: usize) {
+        let (differing, claims) = caught_by_marks::<F>();
+        let count = |claim| claims.iter().filter(|&&found| found == claim).count();
+        let found = (differing, count(Claim::NeededFreed), count(Claim::Value));
+        assert!(found.0 >= least && found.1 >= needed && found.2 >= values, "{found:?}");
+    }
+    caught::<MarksFirst>(20, 1, 0);
+    caught::<MarksNotRead>(80, 80, 0);
+    caught::<CloseEmpties>(80, 80, 0);
+    caught::<MarkClock>(100, 10, 100);
+    caught::<MarkedOwnTime>(100, 0, 100);
+    caught::<LeaveMarked>(40, 0, 10);
+    caught::<UsedAtBegin>(15, 0, 1);
+    caught::<MarkedNewest>(20, 0, 20);
+    caught::<ReadAtBegin>(10, 0, 10);
+    caught::<ReleaseUnderRead>(60, 0, 60);
+}
+
+/// These keep it, so that only the log tells them, but for a mark that does not exist.
+#[test]
+fn random_scripts_for_near_misses_of_a3_that_keep_the_order() {
+    fn caught<F: Fault>(least: usize, exists: bool) {
+        let (differing, claims) = caught_by_marks::<F>();
+        assert!(differing >= least, "{differing}");
+        assert!(claims.iter().all(|&claim| claim == Claim::Fit && !exists), "{claims:?}");
+        assert_eq!(claims.is_empty(), exists);
+    }
+    caught::<MarksWithLast>(150, true);
+    caught::<EmptyAtBegin>(10, true);
+    caught::<ReadFromBegin>(20, true);
+    caught::<UsedBeforeSnapshot>(15, true);
+    caught::<MarkAfterBusy>(50, true);
+    caught::<MarkByte>(40, false);
+    caught::<MarkTwelve>(10, false);
 }

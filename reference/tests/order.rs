@@ -5,7 +5,7 @@ mod common;
 use common::{examined, records};
 use reference::generate::{script, Kind};
 use reference::log;
-use reference::order::{self, Action, Claim, Outcome, Violation};
+use reference::order::{self, Action, Claim, Held, Outcome, Violation};
 use reference::{Answer, Hub};
 
 /// Checks a script with the answers that the hub gives.
@@ -65,6 +65,29 @@ fn effects_of_each_operation() {
     let text = "14 records, 5 operations: 4 finished, 0 refused, 1 unfinished; \
         4 in the order, 0 slots freed";
     assert_eq!(order.to_string(), text);
+}
+
+/// Each at its step, a marked read at its end; the put that it stamps before it.
+#[test]
+fn effects_of_marks() {
+    let order = check(
+        "setup 2 1 4 1\n open 0\n step 0 x2\n mark 0 7\n step 0\n close 0\n step 0\n put 1 0 9
+        step 1\n marked 0 0 7\n step 0 x3\n release 0 7\n mark 0 7\n step 0",
+    );
+    let placed: Vec<_> = order.sequence.iter().map(|&o| order.operations[o]).collect();
+    let effects: Vec<_> = placed.iter().map(|o| (o.action, o.effect.unwrap())).collect();
+    let expected = [
+        (Action::Open, 3),
+        (Action::Mark { mark: 7 }, 5),
+        (Action::Close, 7),
+        (Action::Put { register: 0, value: 9 }, 11),
+        (Action::Marked { register: 0, mark: 7 }, 13),
+        (Action::Release { mark: 7 }, 16),
+    ];
+    assert_eq!(effects, expected);
+    assert_eq!(placed[4].shown, Some(0));
+    let held = Held { mark: 7, time: 1, worker: 0, from: 5, until: Some(16) };
+    assert_eq!(order.held, [held]);
 }
 
 #[test]
@@ -154,13 +177,13 @@ fn steps_belong_to_their_operations() {
     assert_eq!(order.steps[1].answer, Answer::Value(7));
 }
 
-/// One worker, B 1: the second put's flush frees slot 0 at record 12.
+/// One worker, B 1: the second put's flush frees slot 0.
 const FREE: &str = "setup 1 2 6 1
     put 0 0 7
-    step 0 x7
+    step 0 x8
     put 0 0 8
     step 0 x3
-    step 0 x3
+    step 0 x4
     step 0 x2";
 
 #[test]
@@ -179,9 +202,9 @@ fn freeing_what_a_snapshot_needs_is_found() {
         open 1
         step 1 x2
         put 0 0 8
-        step 0 x9
+        step 0 x10
         collect 0
-        step 0 x5
+        step 0 x6
         step 0 x2";
     let file = records(script);
     let answers = log::answers(&mut Hub::new(), &file, &[]);
@@ -232,7 +255,7 @@ fn answers_that_fit_no_record_are_found() {
 fn random_logs_never_make_the_checker_fail_otherwise() {
     // Answers of other scripts: mostly unfit, and always told as a violation or an order.
     for seed in 0..300 {
-        let kind = if seed % 2 == 0 { Kind::Mixed } else { Kind::Totals };
+        let kind = [Kind::Mixed, Kind::Totals, Kind::Marks][seed as usize % 3];
         let (script, other) = (script(kind, seed, 300), script(Kind::Batches, seed + 1, 300));
         let answers = other.answers();
         let check = |answers: &[_]| order::check(&script.records, &script.list, answers);

@@ -5,7 +5,7 @@ mod common;
 
 use reference::fault::Right;
 use reference::generate::{script_across, Kind};
-use std::collections::VecDeque;
+use std::collections::{BTreeMap, VecDeque};
 
 /// An open high and an unset low: above every time.
 const NONE: u64 = u64::MAX;
@@ -22,12 +22,14 @@ type Range = (usize, u64, u64);
 
 #[derive(Clone, Default)]
 struct Worker {
-    /// Operation number, register or group, value; none when idle.
+    /// Operation number, register, group or mark, value or a marked read's mark; none when idle.
     operation: Option<(u8, usize, u64)>,
     /// Steps of it taken; in a flush, steps of the flush.
     steps: usize,
     flushing: bool,
     time: Option<u64>,
+    /// Of a marked read that runs: the time of its mark, and the mark.
+    marked: Option<(u64, usize)>,
     pool: Vec<Range>,
     covered: usize,
     standing: Option<usize>,
@@ -44,6 +46,8 @@ struct Plain {
     /// Is it still the time before A1?
     before_a1: bool,
     workers: Vec<Worker>,
+    /// Those that are in use.
+    marks: BTreeMap<usize, u64>,
     clock: u64,
     batch: usize,
     slots: Vec<Version>,
@@ -95,7 +99,8 @@ impl Plain {
         let unused: Vec<usize> = match operation {
             0 => vec![6, 7, 12, 13, 14, 15],
             1 => (4..8).collect(),
-            3 | 5 | 8 => (4..16).collect(),
+            3 | 5 | 8..=10 => (4..16).collect(),
+            11 => (5..16).collect(),
             2 | 4 | 6 | 7 => (2..16).collect(),
             _ => return Err(1),
         };
@@ -113,14 +118,15 @@ impl Plain {
         if w >= self.workers.len() {
             return Err(3);
         }
-        if operation == 8 {
-            if self.groups.get(register).is_none_or(Vec::is_empty) {
-                return Err(17);
-            }
-        } else if register >= self.lists.len() {
-            return Err(4);
+        match operation {
+            8 if self.groups.get(register).is_none_or(Vec::is_empty) => return Err(17),
+            9 | 10 if register > 11 => return Err(4),
+            8..=10 => {}
+            11 if bytes[4] > 11 => return Err(4),
+            _ if register >= self.lists.len() => return Err(4),
+            _ => {}
         }
-        let value = number(&bytes[8..]);
+        let value = if operation == 11 { u64::from(bytes[4]) } else { number(&bytes[8..]) };
         if operation == 1 && value > 999999999999 && !self.before_a1 {
             return Err(16);
         }
@@ -134,14 +140,29 @@ impl Plain {
         match (worker.operation, operation, worker.time) {
             (Some(_), _, _) => Err(10),
             (_, 2, Some(_)) => Err(12),
-            (_, 3 | 4 | 8, None) => Err(13),
+            (_, 3 | 4 | 8 | 9, None) => Err(13),
             _ => {
+                self.test_mark(operation, register, value)?;
+                let worker = &mut self.workers[w];
                 worker.operation = Some((operation, register, value));
                 worker.steps = 0;
                 (worker.rows, worker.sum) = (0, 0);
                 worker.flushing = operation == 6;
                 Ok("ok".to_string())
             }
+        }
+    }
+
+    /// A mark in use for a mark; empty for a read or a release; read for a release.
+    fn test_mark(&self, operation: u8, register: usize, value: u64) -> Result<(), u8> {
+        let mark = if operation == 11 { value as usize } else { register };
+        let used = self.marks.contains_key(&mark);
+        let read = self.workers.iter().any(|w| w.marked.is_some_and(|(_, other)| other == mark));
+        match operation {
+            9 if used => Err(19),
+            10 | 11 if !used => Err(20),
+            10 if read => Err(21),
+            _ => Ok(()),
         }
     }
 
@@ -246,6 +267,35 @@ impl Plain {
                 self.end(w, "done".to_string())
             }
             (8, _) => self.total(w, register),
+            (9..=10, _) | (11, 1) if self.test_mark(operation, register, value).is_err() => {
+                let refusal = self.test_mark(operation, register, value).unwrap_err();
+                self.end(w, format!("no {refusal}"))
+            }
+            (9, _) => {
+                self.marks.insert(register, self.workers[w].time.unwrap());
+                self.end(w, "done".to_string())
+            }
+            (10, _) => {
+                self.marks.remove(&register);
+                self.end(w, "done".to_string())
+            }
+            (11, 1) => {
+                let mark = value as usize;
+                self.workers[w].marked = Some((self.marks[&mark], mark));
+                self.stamp(register);
+                self.workers[w].standing = self.lists[register].last().copied();
+                going
+            }
+            (11, _) => {
+                let (time, _) = self.workers[w].marked.unwrap();
+                let slot = self.workers[w].standing.unwrap();
+                if self.slots[slot].low <= time {
+                    (self.workers[w].standing, self.workers[w].marked) = (None, None);
+                    return self.end(w, format!("value {}", self.slots[slot].value));
+                }
+                self.workers[w].standing = Some(self.older(slot));
+                going
+            }
             _ => {
                 self.stamp(register);
                 let newest = *self.lists[register].last().unwrap();
@@ -299,6 +349,10 @@ impl Plain {
             return going;
         }
         if steps == 2 + p {
+            self.workers[w].times.extend(self.marks.values());
+            return going;
+        }
+        if steps == 3 + p {
             self.split(w);
             return going;
         }

@@ -6,15 +6,15 @@ use common::{last, no, records, run, words};
 use reference::generate::{script, Kind, Script};
 use reference::record::LENGTH;
 use reference::store::{Doing, Store};
-use reference::{Answer, Hub, Refusal};
+use reference::{Answer, Hub, Record, Refusal};
 use std::collections::HashMap;
 
-/// The order of the refusals on reading: document 01's, with 17 in the place of 4, and 16 after 4 and
-/// before 10.
-const ORDER: [u8; 14] = [6, 1, 2, 8, 9, 5, 3, 4, 17, 16, 10, 11, 12, 13];
+/// The order of the refusals on reading: document 01's, with 17 in the place of 4, 16 after 4 and
+/// before 10, and 19 to 21 after 13.
+const ORDER: [u8; 17] = [6, 1, 2, 8, 9, 5, 3, 4, 17, 16, 10, 11, 12, 13, 19, 20, 21];
 
-/// The bytes that operations 0 to 8 use.
-const USED: [&[usize]; 9] = [
+/// The bytes that operations 0 to 11 use.
+const USED: [&[usize]; 12] = [
     &[0, 1, 2, 3, 4, 5, 8, 9, 10, 11],
     &[0, 1, 2, 3, 8, 9, 10, 11, 12, 13, 14, 15],
     &[0, 1],
@@ -24,6 +24,9 @@ const USED: [&[usize]; 9] = [
     &[0, 1],
     &[0, 1],
     &[0, 1, 2, 3],
+    &[0, 1, 2, 3],
+    &[0, 1, 2, 3],
+    &[0, 1, 2, 3, 4],
 ];
 
 /// Is this a list for so many registers? The sentences of A2, one by one.
@@ -44,7 +47,7 @@ fn deserved(bytes: &[u8], list: &[u8], store: Option<&Store>) -> Vec<u8> {
         return vec![6];
     }
     let operation = bytes[0];
-    if operation > 8 {
+    if operation > 11 {
         return vec![1];
     }
     let used = USED[usize::from(operation)];
@@ -77,9 +80,14 @@ fn deserved(bytes: &[u8], list: &[u8], store: Option<&Store>) -> Vec<u8> {
         numbers.push(8);
         return numbers;
     };
-    let register_used = matches!(operation, 1 | 3 | 5);
-    if register_used && two(2) >= store.newest.len() as u64 {
+    let register_used = matches!(operation, 1 | 3 | 5 | 11);
+    let mark = if operation == 11 { u64::from(bytes[4]) } else { two(2) };
+    let of_mark = matches!(operation, 9..=11);
+    if register_used && two(2) >= store.newest.len() as u64 || of_mark && mark > 11 {
         numbers.push(4);
+    }
+    if of_mark && mark <= 11 {
+        numbers.extend(deserved_by_mark(operation, mark as u8, store));
     }
     // Which rows the hub has kept is held to the list by the tests of totals.
     if operation == 8 && store.groups.rows(two(2) as u16).is_empty() {
@@ -92,15 +100,27 @@ fn deserved(bytes: &[u8], list: &[u8], store: Option<&Store>) -> Vec<u8> {
     let (idle, time) = (worker.doing == Doing::Idle, worker.announced.is_some());
     match operation {
         7 if idle => numbers.push(11),
-        1..=6 | 8 if !idle => numbers.push(10),
+        1..=6 | 8.. if !idle => numbers.push(10),
         _ => {}
     }
     match operation {
         2 if time => numbers.push(12),
-        3 | 4 | 8 if !time => numbers.push(13),
+        3 | 4 | 8 | 9 if !time => numbers.push(13),
         _ => {}
     }
     numbers
+}
+
+/// 19, 20 or 21, straight from A3.
+fn deserved_by_mark(operation: u8, mark: u8, store: &Store) -> Option<u8> {
+    let held = store.marks[usize::from(mark)].is_some();
+    let of = |doing| matches!(doing, Doing::MarkedAt { mark: other, .. } if other == mark);
+    let read = store.workers.iter().any(|worker| of(worker.doing));
+    match operation {
+        9 => held.then_some(19),
+        10 if held => read.then_some(21),
+        _ => (!held).then_some(20),
+    }
 }
 
 #[test]
@@ -124,8 +144,8 @@ fn the_first_deserved_refusal_in_the_order() {
                         }
                     }
                     None => {
-                        let refused = matches!(answer, Answer::No(refusal) if !refusal.at_step());
-                        assert!(!refused, "{bytes:?}: {answer:?}");
+                        let record = Record::decode(bytes).expect("not refused with 6, 1 or 2");
+                        assert!(!record.refused_on_reading(answer), "{bytes:?}: {answer:?}");
                     }
                 }
             }
@@ -166,6 +186,19 @@ fn the_first_deserved_refusal_in_the_order() {
         ((17, 10), 400),
         ((17, 13), 400),
         ((17, 17), 600),
+        ((2, 19), 10),
+        ((2, 20), 20),
+        ((3, 20), 20),
+        ((4, 10), 100),
+        ((4, 13), 100),
+        ((4, 20), 20),
+        ((10, 19), 50),
+        ((10, 20), 50),
+        ((10, 21), 10),
+        ((13, 19), 15),
+        ((19, 19), 20),
+        ((20, 20), 400),
+        ((21, 21), 50),
     ] {
         let met = pairs.get(&pair).copied().unwrap_or(0);
         assert!(met >= least, "{pair:?} met {met} times");
@@ -180,8 +213,8 @@ fn records_that_deserve_several() {
         // A rest is 6 whatever it holds, and before setup too.
         ("", "bytes ff ff ff", 6),
         (busy, "bytes ff ff", 6),
-        // Operation above 8, with bytes that any operation leaves unused, before setup.
-        ("", "bytes 09 ff ff ff ff ff ff ff ff ff ff ff ff ff ff ff", 1),
+        // Operation above 11, with bytes that any operation leaves unused, before setup.
+        ("", "bytes 0c ff ff ff ff ff ff ff ff ff ff ff ff ff ff ff", 1),
         // An unused byte before setup, in a second setup out of range, with a wrong worker.
         ("", "bytes 07 00 01 00 00 00 00 00 00 00 00 00 00 00 00 00", 2),
         (busy, "bytes 00 ff 00 00 00 00 01 00 00 00 00 00 00 00 00 00", 2),
@@ -207,7 +240,7 @@ fn records_that_deserve_several() {
         ("setup 1 1 1 1\n open 0\n step 0 x2", "open 0", 12),
         // A value above the limit: after all that the record and its fields deserve, before busy.
         ("", "bytes 01 00 00 00 00 00 00 00 ff ff ff ff ff ff ff", 6),
-        ("", "bytes 09 00 00 00 00 00 00 00 ff ff ff ff ff ff ff ff", 1),
+        ("", "bytes 0c 00 00 00 00 00 00 00 ff ff ff ff ff ff ff ff", 1),
         (busy, "bytes 01 00 00 00 01 00 00 00 ff ff ff ff ff ff ff ff", 2),
         ("", "put 0 0 1000000000000", 8),
         (busy, "put 2 0 1000000000000", 3),
@@ -239,13 +272,13 @@ fn unused_bytes_one_by_one() {
 }
 
 #[test]
-fn operations_above_8() {
+fn operations_above_11() {
     for operation in 0..=255 {
         let mut bytes = [0; LENGTH];
         bytes[0] = operation;
         let expected = match operation {
             0 => no(5),
-            1..=8 => no(8),
+            1..=11 => no(8),
             _ => no(1),
         };
         assert_eq!(Hub::new().take(&bytes, &[]), expected);
@@ -302,8 +335,8 @@ fn the_tables_numbers() {
         assert_eq!(Refusal::from_number(place as u64 + 1), Some(*refusal));
     }
     assert_eq!(Refusal::from_number(0), None);
-    assert_eq!(Refusal::from_number(19), None);
-    assert_eq!(words(&[no(15), no(16), no(17), no(18)]), ["no 15", "no 16", "no 17", "no 18"]);
+    assert_eq!(Refusal::from_number(22), None);
+    assert_eq!(words(&[no(15), no(18), no(19), no(21)]), ["no 15", "no 18", "no 19", "no 21"]);
 }
 
 #[test]

@@ -11,7 +11,8 @@ use reference::{plot, Hub};
 
 /// The counts straight from their sentences, given every high that was ever closed.
 fn plain(store: &Store, highs: &[u32]) -> Counts {
-    let times: Vec<u32> = store.workers.iter().filter_map(|worker| worker.announced).collect();
+    let announced = store.workers.iter().filter_map(|worker| worker.announced);
+    let times: Vec<u32> = announced.chain(store.marks.into_iter().flatten()).collect();
     let old: Vec<&Slot> = store.slots.iter().filter(|slot| slot.newer.is_some()).collect();
     let needed = |slot: &&&Slot| {
         let high = slot.high.map_or(u64::MAX, u64::from);
@@ -37,6 +38,8 @@ fn the_census_counts_what_the_sentences_say() {
         Kind::Large,
         Kind::Slots,
         Kind::Totals,
+        Kind::Marks,
+        Kind::Held,
     ] {
         for seed in 0..20 {
             let mut hub = Hub::new();

@@ -38,13 +38,13 @@ fn slots_are_taken_from_v_on() {
 fn the_slot_given_back_last_is_taken_first() {
     let script = "setup 1 3 6 1
         put 0 0 1
-        step 0 x7
+        step 0 x8
         put 0 1 1
-        step 0 x8
+        step 0 x9
         put 0 2 1
-        step 0 x8
+        step 0 x9
         collect 0
-        step 0 x5
+        step 0 x6
         put 0 0 2
         step 0";
     let answers = run(script);
@@ -59,7 +59,7 @@ fn the_slot_given_back_last_is_taken_first() {
 
 #[test]
 fn a_put_that_fills_the_pool_answers_going_and_flushes_later() {
-    // 3 steps of the put, then 1 + P + 1 + needless + 1.
+    // 3 steps of the put, then 1 + P + 1 + 1 + needless + 1.
     for workers in [1, 2, 5] {
         let batch = reference::pool::batch_size(workers);
         let slots = batch + 2;
@@ -73,7 +73,7 @@ fn a_put_that_fills_the_pool_answers_going_and_flushes_later() {
         while last(&mut hub, "step 0") == Answer::Going {
             steps += 1;
         }
-        assert_eq!(steps + 1, 1 + workers + 1 + 1);
+        assert_eq!(steps + 1, 1 + workers + 1 + 1 + 1);
         assert_eq!(store(&hub).queue.len(), 1);
     }
 }
@@ -97,7 +97,7 @@ fn put_2_leaves_another_puts_version_unstamped() {
 #[test]
 fn needless_versions_stay_linked_until_their_own_step() {
     let mut hub = hub_after("setup 2 1 3 1");
-    last(&mut hub, "put 0 0 1\n step 0 x3\n put 0 0 2\n step 0 x8\n collect 0\n step 0 x4");
+    last(&mut hub, "put 0 0 1\n step 0 x3\n put 0 0 2\n step 0 x9\n collect 0\n step 0 x5");
     // Both older versions are needless now, and still in the list.
     assert_eq!(last(&mut hub, "put 1 0 3\n step 1"), no(14));
     assert_eq!(last(&mut hub, "step 0"), Answer::Freed(0));
@@ -141,13 +141,13 @@ fn reads_on_an_unlinked_version_move_to_the_older_one() {
         put 2 0 8
         step 2 x3
         collect 2
-        step 2 x6",
+        step 2 x7",
     );
     assert_eq!(store(&hub).newest, [2]);
     assert_eq!(store(&hub).workers[0].doing, Doing::ReadAt { slot: 1, first: true });
     // The version with value 7 has the empty range 2 to 2.
     assert_eq!((store(&hub).slots[1].low, store(&hub).slots[1].high), (Some(2), Some(2)));
-    assert_eq!(last(&mut hub, "collect 2\n step 2 x6"), Answer::Freed(1));
+    assert_eq!(last(&mut hub, "collect 2\n step 2 x7"), Answer::Freed(1));
     assert_eq!(store(&hub).workers[0].doing, Doing::ReadAt { slot: 0, first: false });
     assert_eq!(last(&mut hub, "step 0"), Answer::Value(0));
     assert_eq!(last(&mut hub, "step 1"), Answer::At(2));
@@ -156,14 +156,14 @@ fn reads_on_an_unlinked_version_move_to_the_older_one() {
 
 #[test]
 fn a_flush_reads_the_times_one_worker_a_step() {
-    let mut hub = hub_after("setup 2 1 3 5\n put 0 0 1\n step 0 x3\n collect 0\n step 0 x5");
+    let mut hub = hub_after("setup 2 1 3 5\n put 0 0 1\n step 0 x3\n collect 0\n step 0 x6");
     // Slot 0, range 0 to 5, is queued. Its flush reads no time of worker 0 and of worker 1, who
     // then announces 5, which does not need the range.
     last(&mut hub, "collect 0\n step 0 x2\n open 1\n step 1");
     assert_eq!(store(&hub).workers[0].times, []);
     last(&mut hub, "step 0");
     assert_eq!(store(&hub).workers[0].times, [5]);
-    assert_eq!(last(&mut hub, "step 0 x2"), Answer::Freed(0));
+    assert_eq!(last(&mut hub, "step 0 x3"), Answer::Freed(0));
 }
 
 #[test]
@@ -174,14 +174,14 @@ fn a_local_pool_follows_the_needed_pools() {
         let pools = store(hub).queue.pools();
         pools.map(|pool| pool.iter().map(|range| range.slot).collect()).collect()
     };
-    last(&mut hub, "put 0 0 9\n step 0 x7");
+    last(&mut hub, "put 0 0 9\n step 0 x8");
     assert_eq!(sizes(&hub), [[0]]);
-    last(&mut hub, "put 0 1 9\n step 0 x7");
+    last(&mut hub, "put 0 1 9\n step 0 x8");
     // One needed is at most B: merged into the local pool, local first on equal highs.
     assert_eq!(sizes(&hub), [[1, 0]]);
-    last(&mut hub, "put 0 2 9\n step 0 x7");
+    last(&mut hub, "put 0 2 9\n step 0 x8");
     assert_eq!(sizes(&hub), [vec![1, 0], vec![2]]);
-    last(&mut hub, "put 0 3 9\n step 0 x7");
+    last(&mut hub, "put 0 3 9\n step 0 x8");
     // Three are more than 2B: two and one, then the local pool.
     assert_eq!(sizes(&hub), [vec![1, 0], vec![2], vec![3]]);
 }

@@ -22,7 +22,7 @@ fn any_bytes_come_back() {
         round_trip(&file);
         // Mostly zero bytes and small numbers: many of these are well-formed records.
         let sparse =
-            |random: &mut Random| if random.chance(850) { 0 } else { random.below(10) as u8 };
+            |random: &mut Random| if random.chance(850) { 0 } else { random.below(13) as u8 };
         let file: Vec<u8> = (0..length).map(|_| sparse(&mut random)).collect();
         round_trip(&file);
     }
@@ -49,9 +49,16 @@ step 1
 step 2 x3
 total 3 31
 total 255 65535
-bytes 09 00 00 00 00 00 00 00 00 00 00 00 00 00 00 01  # refused with 1: operation above 8
+mark 3 11
+mark 255 65535
+release 0 12
+marked 3 7 11
+marked 255 65535 255
+bytes 0c 00 00 00 00 00 00 00 00 00 00 00 00 00 00 01  # refused with 1: operation above 11
 bytes 08 00 1f 00 01 00 00 00 00 00 00 00 00 00 00 00  # refused with 2: an unused byte is not zero
 bytes 02 00 00 00 00 00 00 00 00 00 00 00 00 00 00 01  # refused with 2: an unused byte is not zero
+bytes 09 00 00 00 01 00 00 00 00 00 00 00 00 00 00 00  # refused with 2: an unused byte is not zero
+bytes 0b 00 00 00 0b 01 00 00 00 00 00 00 00 00 00 00  # refused with 2: an unused byte is not zero
 bytes ff  # refused with 6: fewer than 16 bytes
 ";
     assert_eq!(unpack(&pack(text.as_bytes()).unwrap()), text);
@@ -62,13 +69,13 @@ fn unpacking_says_why_a_record_is_refused() {
     let mut random = Random::new(11);
     for length in 1..=LENGTH {
         for _ in 0..200 {
-            let bytes: Vec<u8> = (0..length).map(|_| random.below(11) as u8).collect();
+            let bytes: Vec<u8> = (0..length).map(|_| random.below(14) as u8).collect();
             let text = unpack(&bytes);
             let comment = text.trim_end().split_once("  # ").map(|(_, comment)| comment);
             let expected = match Record::decode(&bytes) {
                 Ok(_) => None,
                 Err(Refusal::Length) => Some("refused with 6: fewer than 16 bytes"),
-                Err(Refusal::Operation) => Some("refused with 1: operation above 8"),
+                Err(Refusal::Operation) => Some("refused with 1: operation above 11"),
                 Err(refusal) => {
                     assert_eq!(refusal, Refusal::UnusedByte);
                     Some("refused with 2: an unused byte is not zero")
@@ -81,7 +88,7 @@ fn unpacking_says_why_a_record_is_refused() {
 
 #[test]
 fn commands_and_their_bytes() {
-    let cases: [(&str, [u8; LENGTH]); 10] = [
+    let cases: [(&str, [u8; LENGTH]); 13] = [
         ("setup 2 258 772 84281096", [0, 2, 2, 1, 4, 3, 0, 0, 8, 7, 6, 5, 0, 0, 0, 0]),
         ("put 3 258 578437695752307201", [1, 3, 2, 1, 0, 0, 0, 0, 1, 2, 3, 4, 5, 6, 7, 8]),
         ("open 9", [2, 9, 0, 0, 0, 0, 0, 0, 0, 0, 0, 0, 0, 0, 0, 0]),
@@ -91,6 +98,9 @@ fn commands_and_their_bytes() {
         ("collect 9", [6, 9, 0, 0, 0, 0, 0, 0, 0, 0, 0, 0, 0, 0, 0, 0]),
         ("step 9", [7, 9, 0, 0, 0, 0, 0, 0, 0, 0, 0, 0, 0, 0, 0, 0]),
         ("total 9 513", [8, 9, 1, 2, 0, 0, 0, 0, 0, 0, 0, 0, 0, 0, 0, 0]),
+        ("mark 9 513", [9, 9, 1, 2, 0, 0, 0, 0, 0, 0, 0, 0, 0, 0, 0, 0]),
+        ("release 9 513", [10, 9, 1, 2, 0, 0, 0, 0, 0, 0, 0, 0, 0, 0, 0, 0]),
+        ("marked 9 513 3", [11, 9, 1, 2, 3, 0, 0, 0, 0, 0, 0, 0, 0, 0, 0, 0]),
         (
             "bytes 000102030405060708090a0b0c0D0E0f",
             [0, 1, 2, 3, 4, 5, 6, 7, 8, 9, 10, 11, 12, 13, 14, 15],
@@ -117,6 +127,9 @@ fn well_formed_records_decode_to_what_was_encoded() {
             Record::Collect { worker },
             Record::Step { worker },
             Record::Total { worker, group: register },
+            Record::Mark { worker, mark: register },
+            Record::Release { worker, mark: register },
+            Record::Marked { worker, register, mark: value as u8 },
         ]);
         assert_eq!(Record::decode(&record.encode()), Ok(record));
         assert_eq!(records(&unpack(&record.encode())), record.encode());
@@ -147,7 +160,7 @@ fn errors_say_line_and_reason() {
             "open 1\nfly 3",
             2,
             "unknown command \"fly\", not one of setup, put, open, read, close, get, collect, \
-            step, total, bytes",
+            step, total, mark, release, marked, bytes",
         ),
         ("open 256", 1, "worker \"256\" is not a number from 0 to 255"),
         ("open -1", 1, "worker \"-1\" is not a number from 0 to 255"),
@@ -167,6 +180,12 @@ fn errors_say_line_and_reason() {
         ("step 0 x1 x1", 1, "not of the form: step WORKER [xCOUNT]"),
         ("total 1", 1, "not of the form: total WORKER GROUP"),
         ("total 1 65536", 1, "group \"65536\" is not a number from 0 to 65535"),
+        ("mark 1", 1, "not of the form: mark WORKER MARK"),
+        ("release 1 2 3", 1, "not of the form: release WORKER MARK"),
+        ("marked 1 2", 1, "not of the form: marked WORKER REGISTER MARK"),
+        ("mark 1 65536", 1, "mark \"65536\" is not a number from 0 to 65535"),
+        ("marked 1 65536 0", 1, "register \"65536\" is not a number from 0 to 65535"),
+        ("marked 1 2 256", 1, "mark \"256\" is not a number from 0 to 255"),
         ("bytes", 1, "0 bytes where a record has 1 to 16"),
         ("bytes 0", 1, "\"0\" is not pairs of hexadecimal digits"),
         ("bytes 0g", 1, "\"0g\" is not pairs of hexadecimal digits"),

@@ -8,6 +8,7 @@ use reference::order::{self, Claim, Violation};
 use reference::store::MAX_VALUE;
 use reference::timeline::Timeline;
 use reference::Answer;
+use std::collections::HashSet;
 
 /// The timeline of a script, with some of the hub's answers replaced.
 fn timeline(script: &str, replaced: &[(usize, &str)]) -> String {
@@ -83,8 +84,10 @@ fn everything_is_drawn_once() {
             let refused =
                 order.operations.iter().filter(|o| matches!(o.answer(), Some(Answer::No(_))));
             let unfinished = order.operations.iter().filter(|o| o.end().is_none());
+            let marks: HashSet<u16> = order.held.iter().map(|held| held.mark).collect();
             let expected = [
-                ("lane", usize::from(order.workers)),
+                ("lane", usize::from(order.workers) + marks.len()),
+                ("held", order.held.len()),
                 ("bar", order.operations.len()),
                 ("bar refused", refused.count()),
                 ("label", order.operations.len()),
@@ -152,7 +155,7 @@ fn nothing_runs_past_its_lane() {
     let mut bars = 0;
     for svg in svgs {
         let Some(&lane) = right_edges(&svg, "lane").first() else { continue };
-        for class in ["bar", "snapshot", "effect"] {
+        for class in ["bar", "snapshot", "held", "effect"] {
             let edges = right_edges(&svg, class);
             bars += edges.len();
             assert!(edges.iter().all(|&edge| edge <= lane), "{class}: {edges:?} past {lane}");
@@ -223,7 +226,8 @@ fn a_broken_order_is_marked() {
 #[test]
 fn any_answers_can_be_drawn() {
     for seed in 0..200 {
-        let script = script(if seed % 2 == 0 { Kind::Mixed } else { Kind::Totals }, seed, 200);
+        let kind = [Kind::Mixed, Kind::Totals, Kind::Marks][seed as usize % 3];
+        let script = script(kind, seed, 200);
         let mut answers = script.answers();
         // Answers of other records, mostly unfit.
         let others = answers.clone();
@@ -249,13 +253,39 @@ fn text_is_escaped() {
 fn totals_are_drawn_as_reads() {
     let rows = "0 + 0\n 12 - 0";
     let script =
-        "setup 1 1 4 1\n put 0 0 7\n step 0 x7\n open 0\n step 0 x2\n total 0 12\n step 0 x2";
+        "setup 1 1 4 1\n put 0 0 7\n step 0 x8\n open 0\n step 0 x2\n total 0 12\n step 0 x2";
     let (order, violation) = examined_with(rows, script, &[]);
     let svg = Timeline::new(&order, violation.as_ref()).to_string();
     assert!(well_formed(&svg));
     assert_eq!((count(&svg, "bar read total"), count(&svg, "wrong")), (1, 0), "{svg}");
     assert!(svg.contains(">total g12</text>") && svg.contains(">-7</text>"), "{svg}");
-    let (order, violation) = examined_with(rows, script, &[(14, "value 7")]);
+    let (order, violation) = examined_with(rows, script, &[(15, "value 7")]);
     let svg = Timeline::new(&order, violation.as_ref()).to_string();
     assert!(svg.contains(">7 ≠ -7</text>"), "{svg}");
+}
+
+/// A lane for each mark that held something, below the workers', with a bar from its step to the
+/// release's, or to the end.
+#[test]
+fn marks_have_lanes() {
+    let script = "setup 2 1 4 1\n open 0\n step 0 x2\n mark 0 3\n step 0\n mark 0 11\n step 0\n close 0\n step 0
+        marked 1 0 3\n step 1 x2\n release 1 3\n step 1\n open 1\n step 1 x2\n mark 1 3\n step 1";
+    let legend = timeline("", &[]);
+    let svg = timeline(script, &[]);
+    assert!(well_formed(&svg));
+    let drawn = |class| count(&svg, class) - count(&legend, class);
+    assert_eq!((drawn("lane"), drawn("held"), drawn("bar read marked")), (4, 3, 1), "{svg}");
+    for words in [">mark 3<", ">mark 11<", ">mark m3<", ">marked r0 m3<", ">release m3<"] {
+        assert!(svg.contains(words), "{words}: {svg}");
+    }
+    // Columns of 40 pixels: mark 3 is held from record 5 to record 14, and again from record 19 on.
+    let lane = 58 + 2 * 68;
+    let [from, to, again] = [5, 14, 19].map(|record| 78 + 40 * record + 18);
+    let bar = |x, y, width: usize| format!(r#"class="held" x="{x}" y="{y}" width="{width}""#);
+    assert!(svg.contains(&bar(from, lane + 3, to - from)), "{svg}");
+    assert!(svg.contains(&bar(again, lane + 3, 78 + 40 * 20 - again)), "{svg}");
+    assert!(svg.contains(">time 1 of worker 0</text>"), "{svg}");
+    assert_eq!(drawn("snapshot"), 2);
+    // Without a mark in use there is no such lane.
+    assert_eq!(count(&timeline("setup 2 1 1 1\n mark 0 3\n release 0 3", &[]), "lane"), 2);
 }

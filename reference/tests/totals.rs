@@ -130,7 +130,7 @@ fn only_an_accepted_setup_takes_its_list() {
         assert_eq!(take("setup 1 2 8 1\n setup 0 0 0 0", list), ["no 9", "no 9"]);
     }
     assert_eq!(
-        take("put 0 0 5\n step 0 x7\n open 0\n step 0 x2", &none)[7..],
+        take("put 0 0 5\n step 0 x8\n open 0\n step 0 x2", &none)[8..],
         ["done", "ok", "going", "at 1"]
     );
     assert_eq!(take("total 0 1\n total 0 0\n step 0", &second), ["no 17", "ok", "going"]);
@@ -251,7 +251,7 @@ fn the_sum_is_of_one_time() {
 fn a_total_moves_off_a_freed_version() {
     // Slot 2 has the snapshot's reading, slot 3 the newest, on which the total will stand.
     let script = "setup 2 2 5 1\n put 0 0 5\n step 0 x3\n open 1\n step 1 x2
-        put 0 0 6\n step 0 x8\n total 1 0";
+        put 0 0 6\n step 0 x9\n total 1 0";
     for (rows, steps) in [("0 + 0", 1), ("0 - 1\n 0 + 0", 3)] {
         let mut hub = hub_with(rows, script);
         last(&mut hub, &format!("step 1 x{steps}"));
@@ -259,8 +259,8 @@ fn a_total_moves_off_a_freed_version() {
         assert!(stands(&hub, 3));
         // A put covers it and hands it in.
         last(&mut hub, "put 0 0 7\n step 0 x3");
-        assert_eq!(last(&mut hub, "collect 0\n step 0 x5"), Answer::Freed(0));
-        assert_eq!(last(&mut hub, "step 0\n collect 0\n step 0 x5"), Answer::Freed(3));
+        assert_eq!(last(&mut hub, "collect 0\n step 0 x6"), Answer::Freed(0));
+        assert_eq!(last(&mut hub, "step 0\n collect 0\n step 0 x6"), Answer::Freed(3));
         assert!(stands(&hub, 2));
         // The slot has another register's reading by now.
         last(&mut hub, "step 0\n put 0 1 1000\n step 0 x3");
@@ -278,7 +278,7 @@ fn where_17_stands() {
     let snapshot_busy = "setup 2 1 4 1\n open 0\n step 0 x2\n total 0 0";
     let cases = [
         ("", "bytes 08 00 01 00 00 00 00 00 00 00 00 00 00 00 00", 6),
-        ("", "bytes 09 00 01 00 00 00 00 00 00 00 00 00 00 00 00 00", 1),
+        ("", "bytes 0c 00 01 00 00 00 00 00 00 00 00 00 00 00 00 00", 1),
         // The group is in bytes 2 and 3 and nowhere else.
         (busy, "bytes 08 00 01 00 01 00 00 00 00 00 00 00 00 00 00 00", 2),
         (busy, "bytes 08 00 00 00 00 00 00 00 00 00 00 00 00 00 00 01", 2),

@@ -28,7 +28,7 @@ struct Met {
     records: usize,
     coverage: Coverage,
     /// By operation number.
-    begun: [u64; 9],
+    begun: [u64; 12],
     /// On average where a flush takes its pools.
     pools_queued: f64,
     ranges_taken: f64,
@@ -43,7 +43,7 @@ impl Met {
     fn over(workload: Workload, records: usize) -> Met {
         let mut hub = Hub::<Right, Coverage>::with_row(usize::from(MAX_SLOTS));
         let list = workload.list(1);
-        let mut begun = [0; 9];
+        let mut begun = [0; 12];
         let (mut takes, mut pools, mut ranges, mut snapshots) = (0, 0, 0, 0);
         for bytes in workload.records(1).take(records) {
             begun[usize::from(bytes[0])] += 1;
@@ -79,7 +79,7 @@ impl Met {
 
     /// The share of an operation among those begun.
     fn share(&self, operation: usize) -> f64 {
-        let all = self.begun[PUT..=COLLECT].iter().sum::<u64>() + self.begun[TOTAL];
+        let all = self.begun[PUT..].iter().sum::<u64>() - self.begun[STEP];
         self.begun[operation] as f64 / all as f64
     }
 
@@ -91,7 +91,10 @@ impl Met {
 
 const PUT: usize = 1;
 const COLLECT: usize = 6;
-const TOTAL: usize = 8;
+const STEP: usize = 7;
+const MARK: usize = 9;
+const RELEASE: usize = 10;
+const MARKED: usize = 11;
 
 #[test]
 fn the_same_seed_gives_the_same_records() {
@@ -120,6 +123,7 @@ fn each_begins_with_its_setup() {
         (16, 2, 2048),
         (16, 256, 2048),
         (16, 256, 2048),
+        (16, 64, 2048),
         (16, 256, 2048),
     ];
     for (workload, (workers, registers, slots)) in Workload::ALL.into_iter().zip(sizes) {
@@ -187,6 +191,20 @@ fn totals_are_of_the_longest_list() {
 }
 
 #[test]
+fn marks_outlive_their_snapshots() {
+    let met = Met::of(Workload::Marks);
+    assert_eq!(met.begun[COLLECT], 0, "there is a slot for every put");
+    assert!(met.begun[MARK] > 400 && met.begun[RELEASE] > 400, "{:?}", met.begun);
+    assert!(met.share(MARKED) > 0.08, "{:?}", met.begun);
+    let found = met.branch(Branch::MarkedFound) + met.branch(Branch::MarkedFoundAtOnce);
+    assert!(met.branch(Branch::MarkedMoves) / found > 10.0, "{found}");
+    assert!(met.branch(Branch::MarkedClosed) / found > 0.8, "{found}");
+    // Mostly all are in use, and versions are kept for them alone.
+    let [all, some] = [Branch::FlushAllMarks, Branch::FlushMarks].map(|marks| met.branch(marks));
+    assert!(all > 4.0 * some && met.branch(Branch::RangeOfMark) > 50_000.0, "{all}, {some}");
+}
+
+#[test]
 fn uniform_bytes_are_refused() {
     let records = file(Workload::Uniform, 1, COUNT);
     let (_, coverage) = common::covered(&Script::plain(records), 0);
@@ -227,7 +245,7 @@ fn some_has_renewed_snapshots_of_all_workers() {
         assert!(met.share(PUT) > 0.95, "{:?}", met.begun);
         assert_eq!(met.begun[COLLECT], 0, "there is a slot for every put");
         assert!(met.snapshots > 0.9 * f64::from(workers), "{workers}: {}", met.snapshots);
-        assert!(met.branch(Branch::Close) > 250.0, "{workers}: {}", met.branch(Branch::Close));
+        assert!(met.branch(Branch::Close) > 240.0, "{workers}: {}", met.branch(Branch::Close));
     }
 }
 

@@ -7,7 +7,7 @@ use reference::generate::Script;
 use reference::order::{self, Order, Violation};
 use reference::record::LENGTH;
 use reference::store::{Store, MAX_SLOTS, MAX_VALUE};
-use reference::{log, text, Answer, Hub, Refusal};
+use reference::{log, text, Answer, Hub, Record, Refusal};
 
 /// The records of a readable text.
 pub fn records(script: &str) -> Vec<u8> {
@@ -62,7 +62,7 @@ pub fn words(answers: &[Answer]) -> Vec<String> {
     answers.iter().map(word).collect()
 }
 
-/// A hub after a readable text, every record of which was answered neither 1 to 13.
+/// A hub after a readable text, no record of which was refused on reading.
 pub fn hub_after(script: &str) -> Hub {
     hub_with("", script)
 }
@@ -72,7 +72,7 @@ pub fn hub_with(rows: &str, script: &str) -> Hub {
     let mut hub = Hub::new();
     for (index, bytes) in records(script).chunks(16).enumerate() {
         let answer = hub.take(bytes, &list(rows));
-        let refused = matches!(answer, Answer::No(refusal) if !refusal.at_step());
+        let refused = Record::decode(bytes).is_ok_and(|record| record.refused_on_reading(answer));
         assert!(!refused, "record {index} of {script:?}: {answer:?}");
     }
     hub
