@@ -20,13 +20,14 @@ fn holds(script: &str, words: &[&str]) {
     assert_eq!(String::from_utf8(text).unwrap(), expected, "{script}");
 }
 
+/// With A3's step in each flush.
 #[test]
 fn the_log_example() {
     holds(
-        "setup 1 1 2 1\n put 0 0 7\n step 0 x7\n put 0 0 9\n step 0\n collect 0\n step 0 x5",
+        "setup 1 1 2 1\n put 0 0 7\n step 0 x8\n put 0 0 9\n step 0\n collect 0\n step 0 x6",
         &[
-            "ok", "ok", "going", "going", "going", "going", "going", "going", "done", "ok",
-            "no 14", "ok", "going", "going", "going", "freed 0", "done",
+            "ok", "ok", "going", "going", "going", "going", "going", "going", "going", "done",
+            "ok", "no 14", "ok", "going", "going", "going", "going", "freed 0", "done",
         ],
     );
 }
@@ -86,7 +87,7 @@ fn the_limit_of_a_put() {
     // 2, 1 and 6 come before it too.
     holds(
         "setup 1 1 2 1\n bytes 01 00 00 00 01 00 00 00 ff ff ff ff ff ff ff ff
-        bytes 09 00 00 00 00 00 00 00 ff ff ff ff ff ff ff ff
+        bytes 0c 00 00 00 00 00 00 00 ff ff ff ff ff ff ff ff
         bytes 01 00 00 00 00 00 00 00 ff ff ff ff ff ff ff",
         &["ok", "no 2", "no 1", "no 6"],
     );
@@ -170,12 +171,24 @@ fn random_scripts_of_all_kinds() {
     least(&Branch::OF_LIMIT, 500);
     least(&Branch::OF_TOTAL, 20);
     least(&Branch::OF_LIST, 500);
+    least(&Branch::of_marks().collect::<Vec<_>>(), 20);
     assert!(total.lists.iter().all(|&met| met >= 30), "{:?}", total.lists);
 }
 
 #[test]
 fn long_scripts_of_the_largest_hub() {
     together((1000..1012).map(|seed| (Kind::Large, "large", seed, 40_000)).collect());
+}
+
+/// Marks and releases in each other's way, and marks that are held for long.
+#[test]
+fn long_scripts_of_marks() {
+    let kinds = [(Kind::Marks, "marks"), (Kind::Held, "held")];
+    let seeded = |(kind, name)| (2000..2004).map(move |seed| (kind, name, seed, 40_000));
+    let total = together(kinds.into_iter().flat_map(seeded).collect());
+    for refusal in [19, 20, 21] {
+        assert!(total.refusals[refusal] > 100, "{refusal}: {}", total.refusals[refusal]);
+    }
 }
 
 /// The numbers of the lines have up to seven digits.

@@ -84,6 +84,7 @@ fn random_scripts_on_rows_of_other_lengths() {
             (Kind::Setups, "setups"),
             (Kind::Tails, "tails"),
             (Kind::Totals, "totals"),
+            (Kind::Marks, "marks"),
         ] {
             let Script { records, list } = script(kind, 900 + seed, 250);
             let long = 1 + (seed as usize * 7) % 60;

@@ -28,10 +28,10 @@ fn holds(list: Vec<u8>, script: &str, words: &[&str]) {
 #[test]
 fn one_register_after_another() {
     let readings =
-        "setup 2 3 20 1\n put 0 0 100\n step 0 x3\n put 0 1 20\n step 0 x8\n open 1\n step 1 x2\n";
+        "setup 2 3 20 1\n put 0 0 100\n step 0 x3\n put 0 1 20\n step 0 x9\n open 1\n step 1 x2\n";
     let before = [
         &["ok", "ok", "going", "going", "done", "ok"][..],
-        &["going"; 7],
+        &["going"; 8],
         &["done", "ok", "going", "at 1", "ok"],
     ]
     .concat();
@@ -50,12 +50,12 @@ fn one_register_after_another() {
 fn the_sum_is_of_one_time() {
     holds(
         list("0 + 0\n 0 - 1"),
-        "setup 2 2 12 1\n put 0 0 5\n step 0 x3\n put 0 1 2\n step 0 x8\n open 1\n step 1 x2
+        "setup 2 2 12 1\n put 0 0 5\n step 0 x3\n put 0 1 2\n step 0 x9\n open 1\n step 1 x2
         put 0 0 6\n step 0 x3\n total 1 0\n step 1\n put 0 1 9\n step 0\n step 1 x2\n put 0 0 4\n step 0 x2
         step 1\n put 0 1 3\n step 1 x2",
         &[
             "ok", "ok", "going", "going", "done", "ok", "going", "going", "going", "going", "going", "going",
-            "going", "done", "ok", "going", "at 1", "ok", "going", "going", "done", "ok", "going", "ok", "going",
+            "going", "going", "done", "ok", "going", "at 1", "ok", "going", "going", "done", "ok", "going", "ok", "going",
             "going", "going", "no 10", "going", "going", "going", "no 10", "going", "value 3",
         ],
     );
@@ -65,8 +65,8 @@ fn the_sum_is_of_one_time() {
 #[test]
 fn a_total_moves_off_a_freed_version() {
     let script =
-        "setup 2 2 5 1\n put 0 0 5\n step 0 x3\n open 1\n step 1 x2\n put 0 0 6\n step 0 x8
-        total 1 0\n step 1\n put 0 0 7\n step 0 x3\n collect 0\n step 0 x6\n collect 0\n step 0 x6
+        "setup 2 2 5 1\n put 0 0 5\n step 0 x3\n open 1\n step 1 x2\n put 0 0 6\n step 0 x9
+        total 1 0\n step 1\n put 0 0 7\n step 0 x3\n collect 0\n step 0 x7\n collect 0\n step 0 x7
         put 0 1 1000\n step 0 x3\n step 1";
     let both = Script { records: records(script), list: list("0 + 0") };
     agree("a freed version", &both);
@@ -76,7 +76,7 @@ fn a_total_moves_off_a_freed_version() {
 
 #[test]
 fn sums_at_the_extremes() {
-    let script = "setup 1 1 8 1\n put 0 0 999999999999\n step 0 x7\n open 0\n step 0 x2\n total 0 3\n step 0 x64";
+    let script = "setup 1 1 8 1\n put 0 0 999999999999\n step 0 x8\n open 0\n step 0 x2\n total 0 3\n step 0 x64";
     for (rows, sum) in [
         ("3 + 0\n".repeat(32), "31999999999968"),
         ("3 - 0\n".repeat(32), "-31999999999968"),
@@ -100,7 +100,7 @@ fn where_17_stands() {
         total 0 0\n total 0 3\n step 0 x2
         bytes 08 00 00 00 01 00 00 00 00 00 00 00 00 00 00 00
         bytes 08 00 00 00 00 00 00 00 00 00 00 00 00 00 00 80
-        bytes 09 00 00 00 00 00 00 00 00 00 00 00 00 00 00 00
+        bytes 0c 00 00 00 00 00 00 00 00 00 00 00 00 00 00 00
         bytes 08 00 00 00 00 00 00 00 00 00 00 00 00 00 00",
         &[
             "no 8", "ok", "no 3", "no 17", "no 13", "ok", "no 17", "no 10", "value 0", "ok", "going", "at 1",
@@ -159,7 +159,7 @@ fn every_byte_of_a_row() {
 }
 
 /// A put of 7, a snapshot, and totals of groups 0 and 31.
-const SUMMED: &str = "setup 1 1 4 1\n put 0 0 7\n step 0 x7\n open 0\n step 0 x2\n total 0 0\n step 0 x64\n total 0 31\n step 0 x64";
+const SUMMED: &str = "setup 1 1 4 1\n put 0 0 7\n step 0 x8\n open 0\n step 0 x2\n total 0 0\n step 0 x64\n total 0 31\n step 0 x64";
 
 /// What it prints for that with these arguments.
 fn printed_with(arguments: &[&Path]) -> String {

@@ -88,13 +88,15 @@ fn log_lines(answers: &[Answer]) -> Vec<String> {
 
 #[test]
 fn a_writer_waits_for_each_line() {
-    let script = script(Kind::Totals, 7, 500);
-    let mut talk = Talk::with_list(&script.list);
-    for (record, line) in script.records.chunks(16).zip(log_lines(&script.answers())) {
-        talk.send(record);
-        talk.expect(&line);
+    for kind in [Kind::Totals, Kind::Marks] {
+        let script = script(kind, 7, 500);
+        let mut talk = Talk::with_list(&script.list);
+        for (record, line) in script.records.chunks(16).zip(log_lines(&script.answers())) {
+            talk.send(record);
+            talk.expect(&line);
+        }
+        talk.close();
     }
-    talk.close();
 }
 
 #[test]

@@ -10,8 +10,7 @@ use Rattle.worker.specs.declared.Announced.{Announced}
 use Rattle.worker.specs.declared.Announced.the-variants.{Nothing, At}
 use Rattle.worker.specs.declared.Doing.{Doing}
 use Rattle.worker.specs.declared.Doing.the-variants.{Idle, OnTime}
-use Rattle.worker.specs.declared.TimeStep.{TimeStep}
-use Rattle.worker.specs.declared.TimeStep.the-variants.{OpenAnnounce, OpenPass, CloseWithdraw}
+use Rattle.worker.specs.declared.TimeStep.the-variants.{OpenPass}
 use Rattle.announcing.specs.declared.Outcome.{Outcome}
 
 abbrev pub outcomeOf : Doing → Announced → ℕ → ℕ → Answer → Outcome
@@ -33,9 +32,3 @@ openPassStep (At a) k n = outcomeOf Idle (At a) (cond (eqb k a) (cond (ltb k las
 -- Close, H5.40: the worker has no time then.
 unfoldable pub closeWithdrawStep : ℕ → ℕ → Outcome
 closeWithdrawStep k n = outcomeOf Idle Nothing k n Done
-
--- a step that moves the worker's time
-abbrev pub timeStepOf : TimeStep → Announced → ℕ → ℕ → Outcome
-timeStepOf OpenAnnounce t k n = openAnnounceStep t k n
-timeStepOf OpenPass t k n = openPassStep t k n
-timeStepOf CloseWithdraw t k n = closeWithdrawStep k n

@@ -4,7 +4,7 @@ ghost use mathlib.Core.Bool.{cond};
 ghost use Prim.Native.Nat.{_+_};
 ghost use lib.Dec.{eqb, ltb};
 ghost use Rattle.model.specs.Store.{lastClock};
-ghost use Rattle.announcing.specs.Announcing.{outcomeOf, openAnnounceStep, openPassStep, closeWithdrawStep, timeStepOf};
+ghost use Rattle.announcing.specs.Announcing.{outcomeOf, openAnnounceStep, openPassStep, closeWithdrawStep};
 use values::Answer;
 use worker::Announced;
 use worker::Doing;
@@ -39,7 +39,7 @@ pub fn outcome_of(
 }
 
 // Open (1).
-fn open_announce(t: Announced, clock: u32, n: usize) -> Outcome
+pub fn open_announce(t: Announced, clock: u32, n: usize) -> Outcome
     ensures { λ r. ⌜ r ≡ openAnnounceStep t clock n ⌝ }
 {
     if clock == 4294967295 {
@@ -68,7 +68,7 @@ fn passed(a: u32, clock: u32) -> u32
 }
 
 // Open (2).
-fn open_pass(t: Announced, clock: u32, n: usize) -> Outcome
+pub fn open_pass(t: Announced, clock: u32, n: usize) -> Outcome
     ensures { λ r. ⌜ r ≡ openPassStep t clock n ⌝ }
 {
     match t {
@@ -78,19 +78,8 @@ fn open_pass(t: Announced, clock: u32, n: usize) -> Outcome
 }
 
 // Close.
-fn close_withdraw(clock: u32, n: usize) -> Outcome
+pub fn close_withdraw(clock: u32, n: usize) -> Outcome
     ensures { λ r. ⌜ r ≡ closeWithdrawStep clock n ⌝ }
 {
     outcome_of(Doing::Idle, Announced::Nothing, clock, n, Answer::Done)
-}
-
-// A step that moves the worker's time.
-pub fn time_step(y: TimeStep, t: Announced, clock: u32, n: usize) -> Outcome
-    ensures { λ r. ⌜ r ≡ timeStepOf y t clock n ⌝ }
-{
-    match y {
-        TimeStep::OpenAnnounce => open_announce(t, clock, n),
-        TimeStep::OpenPass => open_pass(t, clock, n),
-        TimeStep::CloseWithdraw => close_withdraw(clock, n),
-    }
 }

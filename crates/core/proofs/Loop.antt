@@ -3,16 +3,16 @@
 use mathlib.Core.Path.{_≡_, refl, sym, ap, _∙_, subst}
 use mathlib.Core.Bool.{Bool, true, false, _||_}
 use mathlib.Core.List.{List, [], map}
-use Prim.Native.Nat.{ℕ, _<_, _≤_, _+_, _-_, _/_, _%_}
+use Prim.Native.Nat.{ℕ, _<_, _≤_, _+_, _*_, _-_, _/_, _%_}
 use native.Mathlib.Omega.{arith}
 use native.Mathlib.Numerals.{add-one}
 use lib.ListN.{length, getD, set, take, length-set, length-map, replicate}
-use Rattle.lists.specs.Over.{over}
+use Rattle.lists.specs.Over.{over, overAt}
 use Rattle.lists.proofs.Mapped.{mapped, mapped-all}
 use Rattle.model.specs.Record as Model
 use Rattle.model.specs.Record.{rowsOf}
 use Rattle.values.specs.declared.Answer.{Answer}
-use Rattle.values.specs.declared.Answer.the-variants.{Ok, Going, Freed, No}
+use Rattle.values.specs.declared.Answer.the-variants.{Ok, Going, Freed, Done, No}
 use Rattle.answers.specs.Numbers.{kindOf, numberOf}
 use Rattle.slots.specs.declared.Slot.{Slot}
 use Rattle.slots.specs.Slots.{linkedTo, madeTo}
@@ -21,16 +21,17 @@ use Rattle.ranges.specs.Words.{flat}
 use Rattle.queue.specs.declared.Taking.{Taking}
 use Rattle.queue.specs.State.{Queue, poolsIn, taken, rest}
 use Rattle.worker.specs.declared.Doing.{Doing}
-use Rattle.worker.specs.declared.Doing.the-variants.{FlushRead, FlushFree}
+use Rattle.worker.specs.declared.Doing.the-variants.{Idle, FlushRead, FlushFree}
 use Rattle.worker.specs.declared.Pool.{Pool}
 use Rattle.worker.specs.declared.Worker.{Worker}
 use Rattle.worker.specs.Pool.{placed}
 use Rattle.worker.specs.Rep.{poolRep}
 use Rattle.worker.proofs.Rep.{padded-nil}
+use Rattle.marks.specs.Marks.{readNext}
 use Rattle.record.specs.declared.Decoded.{Decoded}
 use Rattle.record.specs.Meaning.{decodedOf}
 use Rattle.state.specs.declared.Hub.{Hub}
-use Rattle.state.specs.State.{freshHub, nobody, workerIn, atPlace, withWorkersIn, withClockIn, withFreeIn, withWindowIn, withTimesIn}
+use Rattle.state.specs.State.{freshHub, nobody, workerIn, atPlace, withWorkersIn, withClockIn, withFreeIn, withWindowIn, withTimesIn, withMarksIn, withReadingIn}
 use Rattle.arrays.specs.Arrays.{short, fillTo}
 use Rattle.versions.specs.Versions.{slotIn, rowOf}
 use Rattle.gate.specs.declared.Gate.{Gate}
@@ -41,7 +42,7 @@ use Rattle.gate.proofs.Named.{Names, Named, named, byte-names}
 use Rattle.ready.specs.Ready.{readyOf}
 use Rattle.announcing.specs.declared.Outcome.{Outcome}
 use Rattle.step.specs.declared.Next.{Next}
-use Rattle.step.specs.declared.Next.the-variants.{Taken, HandIn, Take, Read, Split, Free}
+use Rattle.step.specs.declared.Next.the-variants.{Taken, HandIn, Take, Read, ReadMarks, Split, Free, Mark}
 use Rattle.step.specs.Step.{Stepped}
 use Rattle.step.proofs.Said.{Said, said}
 use Rattle.step.proofs.Lengths.{length-step}
@@ -53,7 +54,7 @@ use Rattle.splitting.specs.Splitting.{splitLeft, splitQueue, splitMerged}
 use Rattle.freeing.specs.Freeing.{freedStep, freedRow, freedFree}
 use Rattle.simulation.specs.Memory.{Memory, memory, withHub}
 use Rattle.simulation.specs.Left.{ready}
-use Rattle.simulation.specs.Shell.{Result, withRow, rowsKept, queueIn, takenIn, handedIn, tookIn, readIn, splitIn, freedIn, offWorker, nextIn, finishIn, stepAtIn, goIn, setUpIn, obeyIn, gateIn, doneAs}
+use Rattle.simulation.specs.Shell.{Result, withRow, rowsKept, marksRead, queueIn, takenIn, handedIn, tookIn, readIn, allReadIn, markedIn, splitIn, freedIn, offWorker, nextIn, finishIn, stepAtIn, goIn, setUpIn, obeyIn, gateIn, doneAs}
 use Rattle.simulation.specs.Records.{recordAt}
 use Rattle.simulation.specs.Loop.{makes, State, next, after, before, Ran}
 use Rattle.core.proofs.Lengths.{length-freed}
@@ -103,7 +104,7 @@ pub record Decides (S : State) (list bytes : List ℕ) (count k : ℕ) (T : Stat
   pub worker : w ≡ getD (recordAt bytes k) 1 0 % 16
   pub decided : g
       ≡ gateOf r (T .up) (T .memory .hub .p) (T .memory .hub .v) (length (T .memory .slots)) (workerIn (T .memory .hub) w .doing)
-      (workerIn (T .memory .hub) w .announced) list (rowsKept (T .memory .hub))
+      (workerIn (T .memory .hub) w .announced) list (rowsKept (T .memory .hub)) (T .memory .hub .marks) (marksRead (T .memory .hub))
 
 -- the worker's number by the record's bytes
 pub named-by : {v : ℕ} {b c : List ℕ} → v ≡ getD b 1 0 → b ≡ c → v % 16 ≡ getD c 1 0 % 16
@@ -115,6 +116,7 @@ pub deciding : (row : List (List ℕ)) {S : State} {list bytes : List ℕ} {coun
     → SoFar S list bytes count k (stateOf up h row newest free queue lens merged kinds numbers last) → k < count
     → decodedOf r ≡ Model.decode (recordAt bytes k) → w ≡ getD (recordAt bytes k) 1 0 % 16
     → g ≡ gateOf r up (h .p) (h .v) (length row) (getD (h .workers) w nobody .doing) (getD (h .workers) w nobody .announced) list (rowsKept h)
+    (h .marks) (marksRead h)
     → Decides S list bytes count k (stateOf up h row newest free queue lens merged kinds numbers last) r w g
 deciding row {list = list} {up = up} {h = h} {r = r} {w = w} R more reads worker decided =
     record {
@@ -124,7 +126,8 @@ deciding row {list = list} {up = up} {h = h} {r = r} {w = w} R more reads worker
       worker = worker;
       decided =
           decided
-          ∙ ap (λ (n : ℕ). gateOf r up (h .p) (h .v) n (getD (h .workers) w nobody .doing) (getD (h .workers) w nobody .announced) list (rowsKept h))
+          ∙ ap (λ (n : ℕ). gateOf r up (h .p) (h .v) n (getD (h .workers) w nobody .doing) (getD (h .workers) w nobody .announced) list (rowsKept h)
+          (h .marks) (marksRead h))
           (sym (length-map row _));
     }
 
@@ -159,7 +162,7 @@ module _ {S : State} {list bytes : List ℕ} {count k : ℕ} {T : State} {r : De
   gate : gateIn (T .up) m list b ≡ g
   gate =
       let by : Decoded → ℕ → Gate = λ z v. gateOf z (T .up) (h .p) (h .v) (length (m .slots)) (workerIn h v .doing) (workerIn h v .announced) list
-      (rowsKept h) in
+      (rowsKept h) (h .marks) (marksRead h) in
       sym (D .decided
       ∙ ap (by r) (D .worker)
       ∙ gate-at h r u names (T .up) (length (m .slots)) list (R .few)
@@ -169,7 +172,7 @@ module _ {S : State} {list bytes : List ℕ} {count k : ℕ} {T : State} {r : De
   says : Named (T .up) u (h .p) (length (m .slots)) g
   says =
       subst (Named (T .up) u (h .p) (length (m .slots))) (sym (D .decided))
-      (named r u names (T .up) (h .p) (h .v) (length (m .slots)) (x .doing) (x .announced) list (rowsKept h))
+      (named r u names (T .up) (h .p) (h .v) (length (m .slots)) (x .doing) (x .announced) list (rowsKept h) (h .marks) (marksRead h))
 
   -- the answer y is written
   abbrev pub Wrote : Answer → List ℕ → List ℕ → Answer → Type 0
@@ -255,7 +258,7 @@ module _ {S : State} {list bytes : List ℕ} {count k : ℕ} {T : State} {r : De
     long : length row ≡ length (m .slots)
     long =
         ap (λ (z : Stepped). length (z .row)) stepped
-        ∙ length-step (x .doing) (x .announced) (h .clock) (h .free) (h .p) (m .slots) (m .newest) (m .free) (rowsKept h)
+        ∙ length-step (x .doing) (x .announced) (h .clock) (h .free) (h .p) (m .slots) (m .newest) (m .free) (rowsKept h) (h .marks) (marksRead h)
 
     of-worker : (v ≡ w) × (w < 16)
     of-worker = named-worker v (subst (Named (T .up) u (h .p) (length (m .slots))) e says)
@@ -270,7 +273,7 @@ module _ {S : State} {list bytes : List ℕ} {count k : ℕ} {T : State} {r : De
     told s′ f =
         subst (Said (h .p)) f
         (subst (λ (z : Stepped). Said (h .p) (z .next)) (sym stepped)
-        (said (x .doing) (x .announced) (h .clock) (h .free) (h .p) (m .slots) (m .newest) (m .free) (rowsKept h)))
+        (said (x .doing) (x .announced) (h .clock) (h .free) (h .p) (m .slots) (m .newest) (m .free) (rowsKept h) (h .marks) (marksRead h)))
 
     abbrev m′ : Memory
     m′ = withRow m row newest
@@ -289,7 +292,8 @@ module _ {S : State} {list bytes : List ℕ} {count k : ℕ} {T : State} {r : De
     replaced : (y : Worker) → length (set (h .workers) w y) ≡ 16
     replaced y = length-set (h .workers) w y ∙ R .sixteen
 
-    pub on-taken : (o : Outcome) (kinds numbers : List ℕ) (last : Answer) → s ≡ Taken o → Wrote (o .answer) kinds numbers last
+    pub on-taken : (o : Outcome) (i : ℕ) (kinds numbers : List ℕ) (last : Answer) → s ≡ Taken o
+        → i ≡ readNext (x .doing) (o .doing) (getD (h .reading) w 0) → Wrote (o .answer) kinds numbers last
         → SoFar S list bytes count (k + 1)
         (record {
           up = T .up;
@@ -297,7 +301,9 @@ module _ {S : State} {list bytes : List ℕ} {count k : ℕ} {T : State} {r : De
               withHub m′
               (withFreeIn
               (withClockIn
+              (withReadingIn
               (withWorkersIn h (set (h .workers) w (record { doing = o .doing; announced = o .announced; pool = x .pool })))
+              (set (h .reading) w i))
               (o .clock))
               (o .free));
           kinds = kinds;
@@ -305,7 +311,20 @@ module _ {S : State} {list bytes : List ℕ} {count k : ℕ} {T : State} {r : De
           last = last;
         })
     unfolding nextIn takenIn
-    on-taken o kinds numbers last f z = on-go (Taken o) (takenIn m′ w x o) kinds numbers last f refl refl refl (replaced _) z
+    on-taken o i kinds numbers last f ei z =
+        let left : ℕ → Result = λ j. record {
+          memory =
+              withHub m′
+              (withFreeIn
+              (withClockIn
+              (withReadingIn
+              (withWorkersIn h (set (h .workers) w (record { doing = o .doing; announced = o .announced; pool = x .pool })))
+              (set (h .reading) w j))
+              (o .clock))
+              (o .free));
+          answer = o .answer;
+        } in
+        on-go (Taken o) (left i) kinds numbers last f (ap left (sym ei)) refl refl (replaced _) z
 
     -- put (3)
     pub on-hand-in : (c : ℕ) (a : Handed) (slots lows highs : List ℕ) (kinds numbers : List ℕ) (last : Answer) → s ≡ HandIn c
@@ -414,11 +433,51 @@ module _ {S : State} {list bytes : List ℕ} {count k : ℕ} {T : State} {r : De
         } in
         on-go (Read n j) (left times) kinds numbers last f (ap left (sym et)) refl refl (replaced _) z
 
+    -- flush (2), behind the last worker
+    pub on-read-marks : (n : ℕ) (times : List ℕ) (kinds numbers : List ℕ) (last : Answer) → s ≡ ReadMarks n
+        → times ≡ overAt (28 * w + h .p) (h .marks) (h .times) → Wrote Going kinds numbers last
+        → SoFar S list bytes count (k + 1)
+        (record {
+          up = T .up;
+          memory =
+              withHub m′
+              (withTimesIn
+              (withWorkersIn h (set (h .workers) w (record { doing = FlushRead n ((h .p + 12) % 256); announced = x .announced; pool = x .pool })))
+              times);
+          kinds = kinds;
+          numbers = numbers;
+          last = last;
+        })
+    unfolding nextIn allReadIn
+    on-read-marks n times kinds numbers last f et z =
+        let left : List ℕ → Result = λ y. record {
+          memory =
+              withHub m′
+              (withTimesIn
+              (withWorkersIn h (set (h .workers) w (record { doing = FlushRead n ((h .p + 12) % 256); announced = x .announced; pool = x .pool })))
+              y);
+          answer = Going;
+        } in
+        on-go (ReadMarks n) (left times) kinds numbers last f (ap left (sym et)) refl refl (replaced _) z
+
+    -- mark and release
+    pub on-mark : (i t : ℕ) (kinds numbers : List ℕ) (last : Answer) → s ≡ Mark i t → Wrote Done kinds numbers last
+        → SoFar S list bytes count (k + 1)
+        (record {
+          up = T .up;
+          memory = withHub m′ (withMarksIn (withWorkersIn h (set (h .workers) w (atPlace x Idle))) (set (h .marks) (i % 12) t));
+          kinds = kinds;
+          numbers = numbers;
+          last = last;
+        })
+    unfolding nextIn markedIn
+    on-mark i t kinds numbers last f z = on-go (Mark i t) (markedIn m′ w x i t) kinds numbers last f refl refl refl (replaced _) z
+
     -- flush (3)
-    pub on-split : (n : ℕ) (a : Parted) (queue lens merged : List ℕ) (kinds numbers : List ℕ) (last : Answer) → s ≡ Split n
-        → a .left ≡ splitLeft (m .merged) w n (h .times) (h .p) (x .pool)
-        → poolsIn queue lens (a .window) ≡ splitQueue (queueIn m) (m .merged) w n (h .times) (h .p) (x .pool)
-        → merged ≡ splitMerged (m .merged) w n (h .times) (h .p) (x .pool) → Wrote Going kinds numbers last
+    pub on-split : (n j : ℕ) (a : Parted) (queue lens merged : List ℕ) (kinds numbers : List ℕ) (last : Answer) → s ≡ Split n j
+        → a .left ≡ splitLeft (m .merged) w n (h .times) j (x .pool)
+        → poolsIn queue lens (a .window) ≡ splitQueue (queueIn m) (m .merged) w n (h .times) j (h .p) (x .pool)
+        → merged ≡ splitMerged (m .merged) w n (h .times) j (x .pool) → Wrote Going kinds numbers last
         → SoFar S list bytes count (k + 1)
         (record {
           up = T .up;
@@ -439,7 +498,7 @@ module _ {S : State} {list bytes : List ℕ} {count k : ℕ} {T : State} {r : De
           last = last;
         })
     unfolding nextIn splitIn
-    on-split n a queue lens merged kinds numbers last f el eq em z =
+    on-split n j a queue lens merged kinds numbers last f el eq em z =
         let left : Pool → ℕ → Queue → List ℕ → Result = λ e c q d. record {
           memory =
               memory
@@ -449,7 +508,7 @@ module _ {S : State} {list bytes : List ℕ} {count k : ℕ} {T : State} {r : De
               row newest (m .free) (q .queue) (q .lens) d;
           answer = Going;
         } in
-        on-go (Split n) (left emptyPool (a .left) (poolsIn queue lens (a .window)) merged) kinds numbers last f
+        on-go (Split n j) (left emptyPool (a .left) (poolsIn queue lens (a .window)) merged) kinds numbers last f
         (λ i. left (empty-is i) (sym el i) (sym eq i) (sym em i)) refl refl (replaced _) z
 
     -- flush (4), once the readers of all workers are moved

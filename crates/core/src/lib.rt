@@ -184,6 +184,8 @@ pub fn run(
             list,
             &hub.rows,
             hub.listed,
+            &hub.marks,
+            &hub.reading,
         );
         match g {
             Gate::Refuse(refusal) => {
@@ -216,6 +218,8 @@ pub fn run(
                     hub.p,
                     &hub.rows,
                     hub.listed,
+                    &hub.marks,
+                    &hub.reading,
                 );
                 match s {
                     Next::Taken(o) => {
@@ -227,6 +231,8 @@ pub fn run(
                             announced,
                             ..y
                         };
+                        let old = hub.reading[w];
+                        hub.reading[w] = marks::read_next(d, doing, old);
                         hub.clock = o.clock;
                         hub.free = o.free;
                         let answer = o.answer;
@@ -269,8 +275,8 @@ pub fn run(
                         let j = (read % 16) as usize;
                         let z = hub.workers[j];
                         let a = z.announced;
+                        hub.times[28 * w + j] = worker::time_of(a);
                         let y = hub.workers[w];
-                        hub.times[16 * w + j] = worker::time_of(a);
                         hub.workers[w] = Worker {
                             doing: Doing::FlushRead {
                                 merged: m,
@@ -281,8 +287,24 @@ pub fn run(
                         last = put_answer(kinds, numbers, k, Answer::Going);
                         k += 1;
                     }
+                    // Flush (2), behind the last worker.
+                    Next::ReadMarks { merged: m } => {
+                        let p = hub.p;
+                        let held = hub.marks;
+                        marks::read_all(&mut hub.times, w, p, &held);
+                        let y = hub.workers[w];
+                        hub.workers[w] = Worker {
+                            doing: Doing::FlushRead {
+                                merged: m,
+                                read: ((p + 12) % 256) as u8,
+                            },
+                            ..y
+                        };
+                        last = put_answer(kinds, numbers, k, Answer::Going);
+                        k += 1;
+                    }
                     // Flush (3).
-                    Next::Split { merged: m } => {
+                    Next::Split { merged: m, read } => {
                         let y = hub.workers[w];
                         let q = y.pool;
                         let f = splitting::flush_split(
@@ -293,6 +315,7 @@ pub fn run(
                             w,
                             m,
                             &hub.times,
+                            read as usize,
                             hub.p,
                             q,
                             &mut needed,
@@ -330,6 +353,18 @@ pub fn run(
                             }
                         }
                         last = put_answer(kinds, numbers, k, Answer::Freed(f.slot));
+                        k += 1;
+                    }
+                    // Mark and release.
+                    Next::Mark { mark, time } => {
+                        let i = (mark % 12) as usize;
+                        let y = hub.workers[w];
+                        hub.marks[i] = time;
+                        hub.workers[w] = Worker {
+                            doing: Doing::Idle,
+                            ..y
+                        };
+                        last = put_answer(kinds, numbers, k, Answer::Done);
                         k += 1;
                     }
                 }

@@ -170,9 +170,9 @@ fn changing() {
     let f = sent(e, PUT, 0, 1000000000002, 0);
     let g = sent(f, GET, 0, 0, 1);
     // A smaller one covers the second large value, and two collects free both.
-    let h = sent(g, PUT, 0, 5, 8);
-    let i = sent(h, COLLECT, 1, 0, 7);
-    let j = sent(i, COLLECT, 1, 0, 6);
+    let h = sent(g, PUT, 0, 5, 9);
+    let i = sent(h, COLLECT, 1, 0, 8);
+    let j = sent(i, COLLECT, 1, 0, 7);
     sent(j, GET, 1, 0, 1);
 }
 

@@ -63,10 +63,10 @@ withPart merged w part = take (768 * w) merged ++ (part ++ drop (768 * w + 768) 
 ------------------------------------------------------------------------
 -- Flush (2)
 
--- sixteen times for each worker
+-- 28 times for each worker: those of sixteen workers and of twelve marks
 abbrev pub timesOf : List ℕ → ℕ → List ℕ
-timesOf times w = take 16 (drop (16 * w) times)
+timesOf times w = take 28 (drop (28 * w) times)
 
 -- H5.17: worker w's flush reads the announced time of worker j
 abbrev pub flushReadStep : List ℕ → ℕ → ℕ → Announced → List ℕ
-flushReadStep times w j t = set times (16 * w + j % 16) (timeOf t)
+flushReadStep times w j t = set times (28 * w + j % 16) (timeOf t)

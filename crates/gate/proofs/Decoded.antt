@@ -2,7 +2,7 @@
 use mathlib.Core.Path.{_≡_, refl}
 use Rattle.record.specs.Meaning.{operationOf, commandMeaning, decodedOf}
 use Rattle.record.specs.declared.Operation.{Operation}
-use Rattle.record.specs.declared.Operation.the-variants.{Put, Open, Read, Close, Get, Collect, Total}
+use Rattle.record.specs.declared.Operation.the-variants.{Put, Open, Read, Close, Get, Collect, Total, Mark, Release, MarkedRead}
 use Rattle.record.specs.declared.Command.{Command}
 use Rattle.record.specs.declared.Command.the-variants.{SetUp, Begin, Step}
 use Rattle.record.specs.declared.Decoded.{Decoded}
@@ -17,6 +17,9 @@ operation-back Close = refl
 operation-back (Get r) = refl
 operation-back Collect = refl
 operation-back (Total g) = refl
+operation-back (Mark m) = refl
+operation-back (Release m) = refl
+operation-back (MarkedRead r m) = refl
 
 command-back : (c : Command) → c ≡ commandRep (commandMeaning c)
 command-back (SetUp p v n t) = refl

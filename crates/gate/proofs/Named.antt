@@ -40,44 +40,44 @@ Names (Asks (SetUp x y n k)) u = Unit {0}
 Names (Asks (Begin w o)) u = w ≡ u
 Names (Asks (Step w)) u = w ≡ u
 
-pub named : (r : Decoded) (u : ℕ) → Names r u → (up : Bool) (p v long : ℕ) (d : Doing) (t : Announced) (list rows : List ℕ)
-    → Named up u p long (gateOf r up p v long d t list rows)
+pub named : (r : Decoded) (u : ℕ) → Names r u → (up : Bool) (p v long : ℕ) (d : Doing) (t : Announced) (list rows marks reading : List ℕ)
+    → Named up u p long (gateOf r up p v long d t list rows marks reading)
 unfolding gateOf
-named (Refuses k) u e up p v long d t list rows = tt
-named (Asks (SetUp x y n k)) u e true p v long d t list rows = tt
-named (Asks (SetUp x y n k)) u e false p v long d t list rows =
+named (Refuses k) u e up p v long d t list rows marks reading = tt
+named (Asks (SetUp x y n k)) u e true p v long d t list rows marks reading = tt
+named (Asks (SetUp x y n k)) u e false p v long d t list rows marks reading =
     let sizes = sizesOk x y n k long in
     let fits = Model.listFits y list in
     cond-both (Named false u p long) (sizes && fits) _ _ (λ f. (refl, and-both sizes fits f .0)) (λ f. tt)
-named (Asks (Begin w o)) u e false p v long d t list rows = tt
-named (Asks (Begin w o)) u e true p v long d t list rows =
-    subst (λ (i : ℕ). Named true i p long (gateOf (Asks (Begin w o)) true p v long d t list rows)) e
-    (begin-gate-by (Named true w p long) p v w o d t rows (λ k n. tt) (λ h. (refl, refl, ltb-true w p h)))
-named (Asks (Step w)) u e false p v long d t list rows = tt
-named (Asks (Step w)) u e true p v long d t list rows =
-    subst (λ (i : ℕ). Named true i p long (gateOf (Asks (Step w)) true p v long d t list rows)) e
+named (Asks (Begin w o)) u e false p v long d t list rows marks reading = tt
+named (Asks (Begin w o)) u e true p v long d t list rows marks reading =
+    subst (λ (i : ℕ). Named true i p long (gateOf (Asks (Begin w o)) true p v long d t list rows marks reading)) e
+    (begin-gate-by (Named true w p long) p v w o d t rows marks reading (λ k n. tt) (λ h. (refl, refl, ltb-true w p h)))
+named (Asks (Step w)) u e false p v long d t list rows marks reading = tt
+named (Asks (Step w)) u e true p v long d t list rows marks reading =
+    subst (λ (i : ℕ). Named true i p long (gateOf (Asks (Step w)) true p v long d t list rows marks reading)) e
     (named-worker w p long (Go w) (λ h. (refl, refl, h)) (ltb w p) refl)
 
 ------------------------------------------------------------------------
 -- The worker's record matters only there
 
-same-begin : (p v w : ℕ) (o : Operation) (d e : Doing) (t u : Announced) (rows : List ℕ) → (w < p → (d ≡ e) × (t ≡ u)) → (y : Bool) → ltb w p ≡ y
-    → beginGate p v w o d t rows ≡ beginGate p v w o e u rows
+same-begin : (p v w : ℕ) (o : Operation) (d e : Doing) (t u : Announced) (rows marks reading : List ℕ) → (w < p → (d ≡ e) × (t ≡ u)) → (y : Bool) → ltb w p ≡ y
+    → beginGate p v w o d t rows marks reading ≡ beginGate p v w o e u rows marks reading
 unfolding beginGate
-same-begin p v w o d e t u rows f true h =
+same-begin p v w o d e t u rows marks reading f true h =
     let s = f (ltb-true w p h) in
-    λ i. beginGate p v w o (s .0 i) (s .1 i) rows
-same-begin p v w o d e t u rows f false h = rw h
+    λ i. beginGate p v w o (s .0 i) (s .1 i) rows marks reading
+same-begin p v w o d e t u rows marks reading f false h = rw h
 
-pub same-gate : (r : Decoded) (w : ℕ) → Names r w → (up : Bool) (p v long : ℕ) (d e : Doing) (t u : Announced) (list rows : List ℕ)
-    → (up ≡ true → w < p → whoOf r ≡ w → (d ≡ e) × (t ≡ u)) → gateOf r up p v long d t list rows ≡ gateOf r up p v long e u list rows
+pub same-gate : (r : Decoded) (w : ℕ) → Names r w → (up : Bool) (p v long : ℕ) (d e : Doing) (t u : Announced) (list rows marks reading : List ℕ)
+    → (up ≡ true → w < p → whoOf r ≡ w → (d ≡ e) × (t ≡ u)) → gateOf r up p v long d t list rows marks reading ≡ gateOf r up p v long e u list rows marks reading
 unfolding gateOf whoOf
-same-gate (Refuses k) w n up p v long d e t u list rows f = refl
-same-gate (Asks (SetUp x y a k)) w n up p v long d e t u list rows f = refl
-same-gate (Asks (Begin i o)) w n false p v long d e t u list rows f = refl
-same-gate (Asks (Begin i o)) w n true p v long d e t u list rows f =
-    same-begin p v i o d e t u rows (λ h. f refl (subst (λ (k : ℕ). k < p) n h) n) (ltb i p) refl
-same-gate (Asks (Step i)) w n up p v long d e t u list rows f = refl
+same-gate (Refuses k) w n up p v long d e t u list rows marks reading f = refl
+same-gate (Asks (SetUp x y a k)) w n up p v long d e t u list rows marks reading f = refl
+same-gate (Asks (Begin i o)) w n false p v long d e t u list rows marks reading f = refl
+same-gate (Asks (Begin i o)) w n true p v long d e t u list rows marks reading f =
+    same-begin p v i o d e t u rows marks reading (λ h. f refl (subst (λ (k : ℕ). k < p) n h) n) (ltb i p) refl
+same-gate (Asks (Step i)) w n up p v long d e t u list rows marks reading f = refl
 
 ------------------------------------------------------------------------
 -- The worker that a record names stands in its byte 1 (H3.3)
@@ -98,7 +98,10 @@ command-names b (suc (suc (suc (suc zero)))) = omega arith
 command-names b (suc (suc (suc (suc (suc zero))))) = omega arith
 command-names b (suc (suc (suc (suc (suc (suc zero)))))) = omega arith
 command-names b (suc (suc (suc (suc (suc (suc (suc zero))))))) = omega arith
-command-names b (suc (suc (suc (suc (suc (suc (suc (suc n)))))))) = omega arith
+command-names b (suc (suc (suc (suc (suc (suc (suc (suc zero)))))))) = omega arith
+command-names b (suc (suc (suc (suc (suc (suc (suc (suc (suc zero))))))))) = omega arith
+command-names b (suc (suc (suc (suc (suc (suc (suc (suc (suc (suc zero)))))))))) = omega arith
+command-names b (suc (suc (suc (suc (suc (suc (suc (suc (suc (suc (suc n))))))))))) = omega arith
 
 decode-names : (b : List ℕ) → ModelNames (Model.decode b) (getD b 1 0)
 unfolding Model.decode
@@ -106,7 +109,7 @@ decode-names b =
     let c = Model.commandOf b (getD b 0 0) in
     let P : Model.Decoded → Type 0 = λ x. ModelNames x (getD b 1 0) in
     cond-both P (ltb (length b) 16) _ _ (λ e. tt)
-    (λ e. cond-both P (ltb 8 (getD b 0 0)) _ _ (λ f. tt)
+    (λ e. cond-both P (ltb 11 (getD b 0 0)) _ _ (λ f. tt)
     (λ f. cond-both P (Model.unusedZero b c) _ _ (λ g. command-names b (getD b 0 0)) (λ g. tt)))
 
 names-as : (r : Decoded) (u : ℕ) → ModelNames (decodedOf r) u → Names r u

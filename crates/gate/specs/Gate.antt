@@ -3,8 +3,9 @@ use mathlib.Core.Bool.{Bool, true, false, cond, not, _&&_}
 use mathlib.Core.List.{List, []}
 use mathlib.Core.Option.{some}
 use Prim.Native.Nat.{ℕ}
-use lib.Dec.{ltb, leb}
+use lib.Dec.{ltb, leb, eqb}
 use lib.ListN.{length}
+use Rattle.model.specs.Store.{markCount}
 use Rattle.model.specs.Rules.{inForce}
 use Rattle.model.specs.Totals.{firstOf}
 use Rattle.model.specs.Record as Model
@@ -13,17 +14,20 @@ use Rattle.worker.specs.declared.Announced.{Announced}
 use Rattle.worker.specs.declared.Announced.the-variants.{Nothing as NoTime, At}
 use Rattle.worker.specs.declared.Doing.{Doing}
 use Rattle.worker.specs.declared.Doing.the-variants.{PutPublish, FlushTake, OnTime, ReadEnter, GetShow}
-use Rattle.worker.specs.declared.TimeStep.the-variants.{OpenAnnounce, CloseWithdraw}
-use Rattle.worker.specs.declared.Purpose.the-variants.{Single}
+use Rattle.worker.specs.declared.TimeStep.the-variants.{OpenAnnounce, CloseWithdraw, MarkKeep, MarkRelease}
+use Rattle.worker.specs.declared.Purpose.the-variants.{Single, Marked}
 use Rattle.worker.specs.declared.Named.{Named}
 use Rattle.worker.specs.declared.Named.the-variants.{Nothing, Is}
 use Rattle.worker.specs.About.{aboutOf}
 use Rattle.record.specs.declared.Operation.{Operation}
-use Rattle.record.specs.declared.Operation.the-variants.{Put, Open, Read, Close, Get, Collect, Total}
+use Rattle.record.specs.declared.Operation.the-variants.{Put, Open, Read, Close, Get, Collect, Total, Mark, Release, MarkedRead}
 use Rattle.record.specs.declared.Command.{Command}
 use Rattle.record.specs.declared.Command.the-variants.{SetUp, Begin, Step}
 use Rattle.record.specs.declared.Decoded.{Decoded}
 use Rattle.record.specs.declared.Decoded.the-variants.{Asks, Refuses}
+use Rattle.marks.specs.declared.MarkNeed.{MarkNeed}
+use Rattle.marks.specs.declared.MarkNeed.the-variants.{Nothing as NoMark, Empty, Held, Unread}
+use Rattle.marks.specs.Marks.{refusalIn}
 use Rattle.totals.specs.Rows.{goalIn}
 use Rattle.gate.specs.declared.TimeNeed.{TimeNeed}
 use Rattle.gate.specs.declared.TimeNeed.the-variants.{Any, Absent, Own}
@@ -36,7 +40,7 @@ use Rattle.gate.specs.declared.Gate.the-variants.{Refuse, Make, Start, G
 ------------------------------------------------------------------------
 -- A record as the decoder gives it: the model's `decode` in this code's types
 
--- an operation with its register, or its group, and what to store
+-- an operation with its register, its group or its mark, and what to store
 abbrev pub operationRep : Model.Operation → Operation
 operationRep (Model.Put r x) = Put r (record { count = x .count })
 operationRep Model.Open = Open
@@ -45,6 +49,9 @@ operationRep Model.Close = Close
 operationRep (Model.Get r) = Get r
 operationRep Model.Collect = Collect
 operationRep (Model.Total g) = Total g
+operationRep (Model.Mark m) = Mark m
+operationRep (Model.Release m) = Release m
+operationRep (Model.MarkedRead r m) = MarkedRead r m
 
 -- the sizes and the clock of a setup, or the worker
 abbrev pub commandRep : Model.Command → Command
@@ -64,18 +71,23 @@ decodedIn b = decodedRep (Model.decode b)
 ------------------------------------------------------------------------
 -- Refusals
 
--- an operation that names no register, no group and no value
+-- an operation that names no register, no group, no value and no mark
 abbrev pub bare : TimeNeed → Doing → Terms
-bare t d = record { register = Nothing; row = Nothing; value = NoValue; time = t; first = d }
+bare t d = record { register = Nothing; row = Nothing; value = NoValue; time = t; mark = NoMark; first = d }
 
--- and one that names a register alone
+-- one that names a register alone
 abbrev pub onRegister : ℕ → TimeNeed → Doing → Terms
-onRegister r t d = record { register = Is r; row = Nothing; value = NoValue; time = t; first = d }
+onRegister r t d = record { register = Is r; row = Nothing; value = NoValue; time = t; mark = NoMark; first = d }
+
+-- and one that names a mark alone
+abbrev pub onMark : MarkNeed → TimeNeed → Doing → Terms
+onMark m t d = record { register = Nothing; row = Nothing; value = NoValue; time = t; mark = m; first = d }
 
 -- The terms on which an operation begins, with the rows of totals: the model's `terms` in this code's types, with the first row of its group in
 -- the place of the group that an operation names.
 abbrev pub termsOf : Operation → List ℕ → Terms
-termsOf (Put r x) rows = record { register = Is r; row = Nothing; value = Value (x .count); time = Any; first = PutPublish r x }
+termsOf (Put r x) rows =
+    record { register = Is r; row = Nothing; value = Value (x .count); time = Any; mark = NoMark; first = PutPublish r x }
 termsOf Open rows = bare Absent (OnTime OpenAnnounce)
 termsOf (Read r) rows = onRegister r Own (ReadEnter (record { register = r; purpose = Single }))
 termsOf Close rows = bare Own (OnTime CloseWithdraw)
@@ -83,12 +95,30 @@ termsOf (Get r) rows = onRegister r Any (GetShow r)
 termsOf Collect rows = bare Any FlushTake
 termsOf (Total g) rows =
     let i = firstOf g rows in
-    record { register = Nothing; row = Is i; value = NoValue; time = Own; first = ReadEnter (goalIn rows g i 0 0) }
+    record { register = Nothing; row = Is i; value = NoValue; time = Own; mark = NoMark; first = ReadEnter (goalIn rows g i 0 0) }
+termsOf (Mark m) rows = onMark (Empty m) Own (OnTime (MarkKeep m))
+termsOf (Release m) rows = onMark (Unread m) Any (OnTime (MarkRelease m))
+termsOf (MarkedRead r m) rows =
+    record {
+      register = Is r;
+      row = Nothing;
+      value = NoValue;
+      time = Any;
+      mark = Held m;
+      first = ReadEnter (record { register = r; purpose = Marked m });
+    }
 
--- 4: the register, if there is one, is below v
-abbrev pub registerOk : Named → ℕ → Bool
-registerOk Nothing v = true
-registerOk (Is r) v = ltb r v
+-- the mark that something is asked of, if any
+abbrev pub markOf : MarkNeed → Named
+markOf NoMark = Nothing
+markOf (Empty m) = Is m
+markOf (Held m) = Is m
+markOf (Unread m) = Is m
+
+-- 4: the register, or the mark, if there is one, is below v
+abbrev pub namedOk : Named → ℕ → Bool
+namedOk Nothing v = true
+namedOk (Is r) v = ltb r v
 
 -- 17: the group, if there is one, has rows: its first is among them
 abbrev pub groupOk : Named → List ℕ → Bool
@@ -111,22 +141,25 @@ openOk Any t = true
 openOk Absent t = not (hasTime t)
 openOk Own t = true
 
--- 13: only a read, a total and a close ask that a time is announced
+-- 13: only a read, a total, a mark and a close ask that a time is announced
 abbrev pub timeOk : TimeNeed → Announced → Bool
 timeOk Any t = true
 timeOk Absent t = true
 timeOk Own t = hasTime t
 
--- the refusals of a begin in their order: 3, 4, 17, 16, 10, 12, 13
-unfoldable pub beginGate : ℕ → ℕ → ℕ → Operation → Doing → Announced → List ℕ → Gate
-beginGate p v w o d t rows =
+-- the refusals of a begin in their order: 3, 4, 17, 16, 10, 12, 13, and 19, 20 or 21, where `reading` says which mark each worker reads
+unfoldable pub beginGate : ℕ → ℕ → ℕ → Operation → Doing → Announced → List ℕ → List ℕ → List ℕ → Gate
+beginGate p v w o d t rows marks reading =
     let x = termsOf o rows in
+    let k = refusalIn (x .mark) marks reading in
     cond (ltb w p)
-    (cond (registerOk (x .register) v)
+    (cond (namedOk (x .register) v && namedOk (markOf (x .mark)) markCount)
     (cond (groupOk (x .row) rows)
     (cond (valueOk (x .value))
     (cond (aboutOf d .idle)
-    (cond (openOk (x .time) t) (cond (timeOk (x .time) t) (Start w (x .first)) (Refuse 13)) (Refuse 12))
+    (cond (openOk (x .time) t)
+    (cond (timeOk (x .time) t) (cond (eqb k 0) (Start w (x .first)) (Refuse k)) (Refuse 13))
+    (Refuse 12))
     (Refuse 10))
     (Refuse 16))
     (Refuse 17))
@@ -143,16 +176,17 @@ abbrev pub setupOk : ℕ → ℕ → ℕ → ℕ → ℕ → List ℕ → Bool
 setupOk p v n k long list = sizesOk p v n k long && Model.listFits v list
 
 -- 9 or 5 of a setup, with the list that comes with it; 8, then those of a begin; 8 or 3 of a step
-abbrev pub commandGate : Command → Bool → ℕ → ℕ → ℕ → Doing → Announced → List ℕ → List ℕ → Gate
-commandGate (SetUp x y n k) up p v long d t list rows =
+abbrev pub commandGate : Command → Bool → ℕ → ℕ → ℕ → Doing → Announced → List ℕ → List ℕ → List ℕ → List ℕ → Gate
+commandGate (SetUp x y n k) up p v long d t list rows marks reading =
     cond up (Refuse 9) (cond (setupOk x y n k long list) (Make x y n k) (Refuse 5))
-commandGate (Begin w o) up p v long d t list rows = cond up (beginGate p v w o d t rows) (Refuse 8)
-commandGate (Step w) up p v long d t list rows = cond up (cond (ltb w p) (Go w) (Refuse 3)) (Refuse 8)
+commandGate (Begin w o) up p v long d t list rows marks reading = cond up (beginGate p v w o d t rows marks reading) (Refuse 8)
+commandGate (Step w) up p v long d t list rows marks reading = cond up (cond (ltb w p) (Go w) (Refuse 3)) (Refuse 8)
 
--- what is to be done with a record that was read; `up` says that the memory counts as set up, and `rows` are the rows of totals that it has
-unfoldable pub gateOf : Decoded → Bool → ℕ → ℕ → ℕ → Doing → Announced → List ℕ → List ℕ → Gate
-gateOf (Asks c) up p v long d t list rows = commandGate c up p v long d t list rows
-gateOf (Refuses k) up p v long d t list rows = Refuse k
+-- what is to be done with a record that was read; `up` says that the memory counts as set up, `rows` are the rows of totals that it has, `marks`
+-- the times of the marks, and `reading` says which mark each worker reads
+unfoldable pub gateOf : Decoded → Bool → ℕ → ℕ → ℕ → Doing → Announced → List ℕ → List ℕ → List ℕ → List ℕ → Gate
+gateOf (Asks c) up p v long d t list rows marks reading = commandGate c up p v long d t list rows marks reading
+gateOf (Refuses k) up p v long d t list rows marks reading = Refuse k
 
 -- the worker that a command names, 0 where it names none
 abbrev pub commandWho : Command → ℕ

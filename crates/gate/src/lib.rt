@@ -2,7 +2,8 @@
 ghost use mathlib.Core.Path.{_≡_};
 ghost use Prim.Native.Nat.{_≤_};
 ghost use lib.ListN.{take};
-ghost use Rattle.gate.specs.Gate.{bare, onRegister, termsOf, registerOk, groupOk, valueOk, hasTime, openOk, timeOk, beginGate, sizesOk, setupOk, gateOf};
+ghost use Rattle.gate.specs.Gate.{bare, onRegister, onMark, termsOf, markOf, namedOk, groupOk, valueOk, hasTime, openOk, timeOk, beginGate, sizesOk, setupOk, gateOf};
+use marks::MarkNeed;
 use record::Command;
 use record::Decoded;
 use record::Operation;
@@ -51,16 +52,17 @@ pub enum Putting {
 }
 
 // The terms on which an operation begins: the register that it names, the first row of the group that it names, the value that it puts, what
-// it asks of the announced time, and its first place.
+// it asks of the announced time and of a mark, and its first place.
 pub struct Terms {
     pub register: Named,
     pub row: Named,
     pub value: Putting,
     pub time: TimeNeed,
+    pub mark: MarkNeed,
     pub first: Doing,
 }
 
-// An operation that names no register, no group and no value.
+// An operation that names no register, no group, no value and no mark.
 fn bare(time: TimeNeed, first: Doing) -> Terms
     ensures { λ r. ⌜ r ≡ bare time first ⌝ }
 {
@@ -69,11 +71,12 @@ fn bare(time: TimeNeed, first: Doing) -> Terms
         row: Named::Nothing,
         value: Putting::Nothing,
         time,
+        mark: MarkNeed::Nothing,
         first,
     }
 }
 
-// And one that names a register alone.
+// One that names a register alone.
 fn on_register(register: u16, time: TimeNeed, first: Doing) -> Terms
     ensures { λ r. ⌜ r ≡ onRegister register time first ⌝ }
 {
@@ -82,6 +85,21 @@ fn on_register(register: u16, time: TimeNeed, first: Doing) -> Terms
         row: Named::Nothing,
         value: Putting::Nothing,
         time,
+        mark: MarkNeed::Nothing,
+        first,
+    }
+}
+
+// And one that names a mark alone.
+fn on_mark(mark: MarkNeed, time: TimeNeed, first: Doing) -> Terms
+    ensures { λ r. ⌜ r ≡ onMark mark time first ⌝ }
+{
+    Terms {
+        register: Named::Nothing,
+        row: Named::Nothing,
+        value: Putting::Nothing,
+        time,
+        mark,
         first,
     }
 }
@@ -96,6 +114,7 @@ fn terms_of(o: Operation, rows: &[u32; 1024], n: usize) -> Terms
             row: Named::Nothing,
             value: Putting::Value(reading.count),
             time: TimeNeed::Any,
+            mark: MarkNeed::Nothing,
             first: Doing::PutPublish { register, reading },
         },
         Operation::Open => bare(TimeNeed::Absent, Doing::OnTime(TimeStep::OpenAnnounce)),
@@ -120,17 +139,54 @@ fn terms_of(o: Operation, rows: &[u32; 1024], n: usize) -> Terms
                 row: Named::Is(row),
                 value: Putting::Nothing,
                 time: TimeNeed::Own,
+                mark: MarkNeed::Nothing,
+                first: Doing::ReadEnter { goal },
+            }
+        }
+        Operation::Mark { mark } => on_mark(
+            MarkNeed::Empty(mark),
+            TimeNeed::Own,
+            Doing::OnTime(TimeStep::MarkKeep(mark)),
+        ),
+        Operation::Release { mark } => on_mark(
+            MarkNeed::Unread(mark),
+            TimeNeed::Any,
+            Doing::OnTime(TimeStep::MarkRelease(mark)),
+        ),
+        Operation::MarkedRead { register, mark } => {
+            let goal = Goal {
+                register,
+                purpose: Purpose::Marked(mark),
+            };
+            Terms {
+                register: Named::Is(register),
+                row: Named::Nothing,
+                value: Putting::Nothing,
+                time: TimeNeed::Any,
+                mark: MarkNeed::Held(mark),
                 first: Doing::ReadEnter { goal },
             }
         }
     }
 }
 
-// 4: the register, if there is one, is below v.
-fn register_ok(r: Named, v: usize) -> bool
-    ensures { λ y. ⌜ y ≡ registerOk r v ⌝ }
+// The mark that something is asked of, if any.
+fn mark_of(need: MarkNeed) -> Named
+    ensures { λ r. ⌜ r ≡ markOf need ⌝ }
 {
-    match r {
+    match need {
+        MarkNeed::Nothing => Named::Nothing,
+        MarkNeed::Empty(m) => Named::Is(m),
+        MarkNeed::Held(m) => Named::Is(m),
+        MarkNeed::Unread(m) => Named::Is(m),
+    }
+}
+
+// 4: the register, or the mark, if there is one, is below v.
+fn named_ok(x: Named, v: usize) -> bool
+    ensures { λ y. ⌜ y ≡ namedOk x v ⌝ }
+{
+    match x {
         Named::Nothing => true,
         Named::Is(i) => wide16(i) < v,
     }
@@ -176,7 +232,7 @@ fn open_ok(x: TimeNeed, t: Announced) -> bool
     }
 }
 
-// 13: only a read, a total and a close ask that a time is announced.
+// 13: only a read, a total, a mark and a close ask that a time is announced.
 fn time_ok(x: TimeNeed, t: Announced) -> bool
     ensures { λ y. ⌜ y ≡ timeOk x t ⌝ }
 {
@@ -188,32 +244,39 @@ fn time_ok(x: TimeNeed, t: Announced) -> bool
 }
 
 // The tests of a begin, of a worker at the place d with the announced time t, in the order of the refusals. They are made before the first is
-// looked at: none changes anything, and the order stands in one place.
-fn begin(
+// looked at: none changes anything, and the order stands in one place. `reading` says of the first p workers which mark each reads.
+fn begin<'a>(
     p: usize,
     v: usize,
     worker: u8,
     o: Operation,
     d: Doing,
     t: Announced,
-    rows: &[u32; 1024],
+    rows: &'a [u32; 1024],
     n: usize,
+    marks: &'a [u64; 12],
+    reading: &'a [u8; 16],
 ) -> Gate
-    ensures { λ r. ⌜ r ≡ beginGate p v worker o d t (take n (now (rows .entry))) ⌝ }
+    ensures { λ r. ⌜
+        r
+        ≡ beginGate p v worker o d t (take n (now (rows .entry))) (now (marks .entry)) (take p (now (reading .entry)))
+        ⌝ }
 {
     let x = terms_of(o, rows, n);
     let register = x.register;
     let row = x.row;
     let value = x.value;
     let need = x.time;
+    let mark = x.mark;
     let doing = x.first;
     let below = wide8(worker) < p;
-    let known = register_ok(register, v);
+    let known = named_ok(register, v) & named_ok(mark_of(mark), 12);
     let there = group_ok(row, rows, n);
     let fits = value_ok(value);
     let place = worker::about(d);
     let unannounced = open_ok(need, t);
     let announced = time_ok(need, t);
+    let k = marks::refusal(mark, marks, reading, p);
     if below {
         if known {
             if there {
@@ -221,7 +284,10 @@ fn begin(
                     if place.idle {
                         if unannounced {
                             if announced {
-                                return Gate::Start { worker, doing };
+                                if k == 0 {
+                                    return Gate::Start { worker, doing };
+                                }
+                                return Gate::Refuse(k);
                             }
                             return Gate::Refuse(13);
                         }
@@ -254,8 +320,9 @@ fn setup_ok(p: u8, v: u16, n: u16, clock: u32, long: usize, list: &[u8]) -> bool
 }
 
 // What is to be done with a record that was read as r, where `up` says that the memory counts as set up, of a worker at the place d with
-// the announced time t; a setup comes with the list, and of the rows of totals the first `listed` count.
-pub fn gate_for(
+// the announced time t; a setup comes with the list, and of the rows of totals the first `listed` count. `reading` says of the first p workers
+// which mark each reads.
+pub fn gate_for<'a>(
     r: Decoded,
     up: bool,
     p: usize,
@@ -264,10 +331,17 @@ pub fn gate_for(
     d: Doing,
     t: Announced,
     list: &[u8],
-    rows: &[u32; 1024],
+    rows: &'a [u32; 1024],
     listed: usize,
+    marks: &'a [u64; 12],
+    reading: &'a [u8; 16],
 ) -> Gate
-    ensures { λ g. ⌜ g ≡ gateOf r up p v long d t (now (list .entry)) (take listed (now (rows .entry))) ⌝ }
+    ensures { λ g. ⌜
+        g
+        ≡ gateOf r up p v long d t (now (list .entry)) (take listed (now (rows .entry)))
+        (now (marks .entry))
+        (take p (now (reading .entry)))
+        ⌝ }
 {
     match r {
         Decoded::Refuses(k) => {
@@ -295,7 +369,7 @@ pub fn gate_for(
             }
             Command::Begin { worker, operation } => {
                 if up {
-                    return begin(p, v, worker, operation, d, t, rows, listed);
+                    return begin(p, v, worker, operation, d, t, rows, listed, marks, reading);
                 }
                 return Gate::Refuse(8);
             }

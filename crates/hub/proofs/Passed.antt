@@ -113,15 +113,18 @@ arrays-long 𝓤 H A W ks qs a =
     (and-more 𝓤 H A W (array-long 𝓤 H A W (ks .1 .1 .1 .1 .0) (qs .1 .1 .1 .1 .0) (named 0) u32 12288 (a .1 .1 .1 .1 .0))
     (no-thing 𝓤 H A W)))))
 
--- a hub by value has sixteen workers, sixteen times for each, and room for 1,024 rows of totals
+-- a hub by value has sixteen workers, 28 times for each, room for 1,024 rows of totals and for twelve marks, and a byte for each worker
 abbrev pub HubLong : Hub → Type 0
-HubLong h = (length (h .workers) ≡ 16) × (length (h .times) ≡ 256) × (length (h .rows) ≡ 1024)
+HubLong h =
+    (length (h .workers) ≡ 16) × (length (h .times) ≡ 448) × (length (h .rows) ≡ 1024) × (length (h .marks) ≡ 12) × (length (h .reading) ≡ 16)
 
 sized : (h : Hub) (s : List Slot) (a : Arrays) → HubLong h → Long a → Sized (found h s a)
 sized h s a w long =
     record {
       workers = w .0;
       times = w .1;
+      marks = w .3;
+      reading = w .4;
       rows = w .2;
       newest = long .0;
       free = long .1 .0;

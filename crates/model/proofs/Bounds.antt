@@ -8,16 +8,17 @@ use native.Mathlib.Omega.{arith}
 use lib.Dec.{ltb, leb, eqb}
 use lib.ListN.{length, set, take, drop, length-append, length-take, length-drop}
 use borrow.Author.Tests as Tests
-use Rattle.model.specs.Store.{OnTime, absent, Reading, Range, OpenAnnounce, OpenPass, CloseWithdraw, Doing, Idle, PutPublish, PutStamp, PutHandIn, FlushTake, FlushRead, FlushFree, OnTime, ReadEnter, ReadStand, GetShow, Worker, startWorker, Store, workerAt, slotAt, rangeOf, withWorker, withDoing, place}
+use Rattle.model.specs.Store.{OnTime, absent, Reading, Range, OpenAnnounce, OpenPass, CloseWithdraw, MarkKeep, MarkRelease, Doing, Idle, PutPublish, PutStamp, PutHandIn, FlushTake, FlushRead, FlushFree, OnTime, ReadEnter, ReadStand, GetShow, Worker, startWorker, Store, workerAt, slotAt, rangeOf, withWorker, withDoing, place}
+use Rattle.model.specs.Marks.{timeFor}
 use Rattle.model.specs.Answer.{Stepped}
 use Rattle.model.specs.Versions.{stamp}
 use Rattle.model.specs.Ranges.{needed, filter, mergeInto, merge, firstTwo, neededPools, joining, queuedPool}
-use Rattle.model.specs.Steps.{putPublish, putStamp, putHandIn, flushTake, readTimes, flushSplit, flushRead, moveOff, workerOff, flushFree, openAnnounce, openPass, readEnter, readStand, getShow, closeWithdraw, timeStep, stepAt}
-use Rattle.model.specs.Record.{Operation, Put, Open, Read, Close, Get, Collect, Total}
+use Rattle.model.specs.Steps.{putPublish, putStamp, putHandIn, flushTake, readTimes, flushSplit, flushRead, moveOff, workerOff, flushFree, openAnnounce, openPass, readEnter, readStand, getShow, closeWithdraw, markKeep, markRelease, timeStep, stepAt}
+use Rattle.model.specs.Record.{Operation, Put, Open, Read, Close, Get, Collect, Total, Mark, Release, MarkedRead}
 use Rattle.model.specs.Apply.{terms}
 use Rattle.model.specs.Demand.{All}
 use Rattle.model.proofs.View.{off-keeps}
-use Rattle.model.proofs.Found.{found-by}
+use Rattle.model.proofs.Found.{found-by, stopped-by}
 use Rattle.model.proofs.Basic.{cond-both, All-append, All-nth, All-set, All-drop, All-through}
 
 ------------------------------------------------------------------------
@@ -134,7 +135,7 @@ module _ (s : Store) (pos : 0 < s .site .B) (W : Within (s .site .B) s) (w : ℕ
   put-within r y e (f ∷ fs) = record { workers = to (withDoing (workerAt s w) (PutStamp r _)) (own (PutPublish r y) e); pools = W .pools }
 
   pub step-within : (d : Doing) → workerAt s w .doing ≡ d → Within b (stepAt s w d .store)
-  unfolding stepAt timeStep putStamp putHandIn flushTake flushRead flushSplit flushFree openAnnounce openPass readEnter readStand getShow closeWithdraw stamp workerOff
+  unfolding stepAt timeStep putStamp putHandIn flushTake flushRead flushSplit flushFree openAnnounce openPass readEnter readStand getShow closeWithdraw markKeep markRelease stamp workerOff
   step-within Idle e = W
   step-within (PutPublish r y) e = put-within r y e (s .free)
   step-within (PutStamp r c) e =
@@ -166,7 +167,7 @@ module _ (s : Store) (pos : 0 < s .site .B) (W : Within (s .site .B) s) (w : ℕ
         pools = All-drop (Sized (2 * b)) 2 (s .queue) (W .pools);
       }
   step-within (FlushRead m ts) e =
-      cond-both (λ (q : Stepped). Within b (q .store)) (ltb (length ts) (s .site .P)) _ _
+      cond-both (λ (q : Stepped). Within b (q .store)) (leb (length ts) (s .site .P)) _ _
       (λ u. record {
         workers = to (withDoing (workerAt s w) (FlushRead m (ts ++ readTimes s (length ts))))
             (own (FlushRead m ts) e);
@@ -203,9 +204,11 @@ module _ (s : Store) (pos : 0 < s .site .B) (W : Within (s .site .B) s) (w : ℕ
         pools = W .pools;
       })
   step-within (OnTime OpenPass) e = record { workers = to (withDoing (workerAt s w) Idle) (own (OnTime OpenPass) e); pools = W .pools }
-  step-within (ReadEnter g) e = record { workers = to (withDoing (workerAt s w) (ReadStand g _)) (own (ReadEnter g) e); pools = W .pools }
+  step-within (ReadEnter g) e =
+      stopped-by (λ (q : Stepped). Within b (q .store)) _ s w _ (λ k u. at Idle (own (ReadEnter g) e))
+      (λ u. record { workers = to (withDoing (workerAt s w) (ReadStand g _)) (own (ReadEnter g) e); pools = W .pools })
   step-within (ReadStand g c) e =
-      cond-both (λ (q : Stepped). Within b (q .store)) (leb (slotAt s c .low) (workerAt s w .announced)) _ _
+      cond-both (λ (q : Stepped). Within b (q .store)) (leb (slotAt s c .low) (timeFor (s .marks) (workerAt s w .announced) (g .purpose))) _ _
       (λ u. found-by (λ (q : Stepped). Within b (q .store)) s w (g .purpose) (slotAt s c .value)
       (λ a T. at Idle (own (ReadStand g c) e)) (at Idle (own (ReadStand g c) e)) (λ g′. at (ReadEnter g′) (own (ReadStand g c) e)))
       (λ u. record { workers = to (withDoing (workerAt s w) (ReadStand g (slotAt s c .older))) (own (ReadStand g c) e); pools = W .pools })
@@ -215,6 +218,12 @@ module _ (s : Store) (pos : 0 < s .site .B) (W : Within (s .site .B) s) (w : ℕ
             (own (OnTime CloseWithdraw) e);
         pools = W .pools;
       }
+  step-within (OnTime (MarkKeep m)) e =
+      stopped-by (λ (q : Stepped). Within b (q .store)) _ s w _ (λ k u. at Idle (own (OnTime (MarkKeep m)) e))
+      (λ u. record { workers = to (withDoing (workerAt s w) Idle) (own (OnTime (MarkKeep m)) e); pools = W .pools })
+  step-within (OnTime (MarkRelease m)) e =
+      stopped-by (λ (q : Stepped). Within b (q .store)) _ s w _ (λ k u. at Idle (own (OnTime (MarkRelease m)) e))
+      (λ u. record { workers = to (withDoing (workerAt s w) Idle) (own (OnTime (MarkRelease m)) e); pools = W .pools })
   step-within (GetShow r) e = record { workers = to (withDoing (workerAt s w) Idle) (own (GetShow r) e); pools = W .pools }
 
   pub begin-within : (c : Operation) → workerAt s w .doing ≡ Idle → Within b (place s w (terms (s .site .rows) c .first))
@@ -225,3 +234,6 @@ module _ (s : Store) (pos : 0 < s .site .B) (W : Within (s .site .B) s) (w : ℕ
   begin-within (Get r) e = record { workers = to (withDoing (workerAt s w) (GetShow r)) (own Idle e); pools = W .pools }
   begin-within Collect e = record { workers = to (withDoing (workerAt s w) FlushTake) (omega (arith, own Idle e)); pools = W .pools }
   begin-within (Total g) e = record { workers = to (withDoing (workerAt s w) (ReadEnter _)) (own Idle e); pools = W .pools }
+  begin-within (Mark m) e = record { workers = to (withDoing (workerAt s w) (OnTime (MarkKeep m))) (own Idle e); pools = W .pools }
+  begin-within (Release m) e = record { workers = to (withDoing (workerAt s w) (OnTime (MarkRelease m))) (own Idle e); pools = W .pools }
+  begin-within (MarkedRead r m) e = record { workers = to (withDoing (workerAt s w) (ReadEnter _)) (own Idle e); pools = W .pools }

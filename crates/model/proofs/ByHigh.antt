@@ -11,17 +11,18 @@ use lib.Dec.{ltb, leb, eqb}
 use lib.ListN.{length, getD, set, take, drop, replicate}
 use lib.Seq.{getD-set-same, getD-set-other, set-out}
 use borrow.Author.Tests as Tests
-use Rattle.model.specs.Store.{absent, Reading, Slot, Range, OpenAnnounce, OpenPass, CloseWithdraw, Doing, Idle, PutPublish, PutStamp, PutHandIn, FlushTake, FlushRead, FlushFree, OnTime, ReadEnter, ReadStand, GetShow, Worker, startWorker, Store, workerAt, slotAt, newestOf, rangeOf, withWorker, withDoing, place}
+use Rattle.model.specs.Store.{absent, Reading, Slot, Range, OpenAnnounce, OpenPass, CloseWithdraw, MarkKeep, MarkRelease, Doing, Idle, PutPublish, PutStamp, PutHandIn, FlushTake, FlushRead, FlushFree, OnTime, ReadEnter, ReadStand, GetShow, Worker, startWorker, Store, workerAt, slotAt, newestOf, rangeOf, withWorker, withDoing, place}
 use Rattle.model.specs.About.{Hand, Empty, Covered, Merged, Needless, about}
+use Rattle.model.specs.Marks.{timeFor}
 use Rattle.model.specs.Answer.{Stepped}
 use Rattle.model.specs.Versions.{setLow, setHigh, setNewer, change, published, stampSlots, stamp, linkSlots, unlinkSlots}
 use Rattle.model.specs.Ranges.{needed, filter, mergeInto, merge, firstTwo, neededPools, joining}
-use Rattle.model.specs.Steps.{putPublish, putStamp, putHandIn, flushTake, readTimes, flushSplit, flushRead, moveOff, workerOff, flushFree, openAnnounce, openPass, readEnter, readStand, getShow, closeWithdraw, timeStep, stepAt}
+use Rattle.model.specs.Steps.{putPublish, putStamp, putHandIn, flushTake, readTimes, flushSplit, flushRead, moveOff, workerOff, flushFree, openAnnounce, openPass, readEnter, readStand, getShow, closeWithdraw, markKeep, markRelease, timeStep, stepAt}
 use Rattle.model.specs.Record.{Operation}
 use Rattle.model.specs.Apply.{terms}
 use Rattle.model.specs.Demand.{Call, Plain, All}
 use Rattle.model.specs.Figure.{ByHigh, HandByHigh, WorkerByHigh, StoreByHigh}
-use Rattle.model.proofs.Found.{found-by}
+use Rattle.model.proofs.Found.{found-by, stopped-by}
 use Rattle.model.proofs.Basic.{cond-both, eq-cases, lt-cases, All-map, All-append, All-nth, All-set, All-take, All-drop, All-through}
 use Rattle.model.proofs.View.{off-keeps, first-hand}
 use Rattle.model.proofs.Slots.{nth, change-part, unlink-part}
@@ -216,7 +217,7 @@ module _ (now : ℕ) (s : Store) (olds : List (List ℕ)) (h : List Call) (o : L
       high = I .stamps r (doing-is now s olds h o p I w wb (PutPublish r y) e .0) .0
 
   pub step-byHigh : (d : Doing) → workerAt s w .doing ≡ d → StoreByHigh (stepAt s w d .store)
-  unfolding stepAt timeStep putStamp putHandIn flushTake flushRead flushSplit flushFree openAnnounce openPass readEnter readStand getShow closeWithdraw workerOff rangeOf
+  unfolding stepAt timeStep putStamp putHandIn flushTake flushRead flushSplit flushFree openAnnounce openPass readEnter readStand getShow closeWithdraw markKeep markRelease workerOff rangeOf
   step-byHigh Idle e = S
   step-byHigh (PutPublish r y) e = put-byHigh r y e (s .free)
   step-byHigh (PutStamp r c) e =
@@ -238,7 +239,7 @@ module _ (now : ℕ) (s : Store) (olds : List (List ℕ)) (h : List Call) (o : L
         workers = at (FlushRead (firstTwo (s .queue)) []) (firstTwo-has ByHigh tt merge-byHigh (s .queue) (S .queued));
       }
   step-byHigh (FlushRead m ts) e =
-      cond-both (λ (q : Stepped). StoreByHigh (q .store)) (ltb (length ts) (s .site .P)) _ _
+      cond-both (λ (q : Stepped). StoreByHigh (q .store)) (leb (length ts) (s .site .P)) _ _
       (λ u. placed (FlushRead m (ts ++ readTimes s (length ts))) (hand (FlushRead m ts) e))
       (λ u.
       let b = s .site .B in
@@ -271,13 +272,21 @@ module _ (now : ℕ) (s : Store) (olds : List (List ℕ)) (h : List Call) (o : L
       (λ u. placed Idle tt)
       (λ u. record { queued = S .queued; workers = to _ (record { local = own .local; hand = tt }) })
   step-byHigh (OnTime OpenPass) e = record { queued = S .queued; workers = at Idle tt }
-  step-byHigh (ReadEnter g) e = stamped (g .register) (ReadStand g (newestOf s (g .register))) tt
+  step-byHigh (ReadEnter g) e =
+      stopped-by (λ (q : Stepped). StoreByHigh (q .store)) _ s w _ (λ k u. placed Idle tt)
+      (λ u. stamped (g .register) (ReadStand g (newestOf s (g .register))) tt)
   step-byHigh (ReadStand g c) e =
-      cond-both (λ (q : Stepped). StoreByHigh (q .store)) (leb (slotAt s c .low) (workerAt s w .announced)) _ _
+      cond-both (λ (q : Stepped). StoreByHigh (q .store)) (leb (slotAt s c .low) (timeFor (s .marks) (workerAt s w .announced) (g .purpose))) _ _
       (λ u. found-by (λ (q : Stepped). StoreByHigh (q .store)) s w (g .purpose) (slotAt s c .value)
       (λ a T. placed Idle tt) (placed Idle tt) (λ g′. placed (ReadEnter g′) tt))
       (λ u. placed (ReadStand g (slotAt s c .older)) tt)
   step-byHigh (OnTime CloseWithdraw) e = record { queued = S .queued; workers = to _ (record { local = own .local; hand = tt }) }
+  step-byHigh (OnTime (MarkKeep m)) e =
+      stopped-by (λ (q : Stepped). StoreByHigh (q .store)) _ s w _ (λ k u. placed Idle tt)
+      (λ u. record { queued = S .queued; workers = at Idle tt })
+  step-byHigh (OnTime (MarkRelease m)) e =
+      stopped-by (λ (q : Stepped). StoreByHigh (q .store)) _ s w _ (λ k u. placed Idle tt)
+      (λ u. record { queued = S .queued; workers = at Idle tt })
   step-byHigh (GetShow r) e = stamped r Idle tt
 
   pub begin-byHigh : (c : Operation) → StoreByHigh (place s w (terms (s .site .rows) c .first))

@@ -8,15 +8,17 @@ use Prim.Native.Nat.{ℕ, zero, suc, _≤_}
 use native.Mathlib.Omega.{arith}
 use lib.Dec.{ltb, leb}
 use borrow.Author.Tests as Tests
-use Rattle.model.specs.Store.{Hub, blank, up}
+use Rattle.model.specs.Store.{markCount, Hub, blank, up}
+use Rattle.model.specs.Marks.{markOf}
 use Rattle.model.specs.Batch.{leastFrom, logUp, batchOf}
 use Rattle.model.specs.Rules.{Rules, document01, inForce, Allowed, under, allUnder}
 use Rattle.model.specs.Answer.{Applied}
 use Rattle.model.specs.Record.{SetUp, Begin, Step, Decoded, Asks, Refuses, decode}
-use Rattle.model.specs.Apply.{refuse, setUp, terms, registerBelow, groupThere, valueWithin, begin, obey, applyDecoded, apply}
+use Rattle.model.specs.Apply.{refuse, setUp, terms, namedBelow, groupThere, valueWithin, begin, obey, applyDecoded, apply}
 use Rattle.model.specs.Document.{Theorems, Document}
 use Rattle.model.proofs.Basic.{eq-cases, and-both}
 use Rattle.model.proofs.Main.{demand}
+use Rattle.model.proofs.MonthEnd.{month-end}
 use Rattle.model.proofs.Refusals.{demand-1}
 use Rattle.model.proofs.Reached.{sound, as-published}
 
@@ -74,7 +76,7 @@ only-16 l (up s) (Asks (SetUp z)) = inr refl
 only-16 l (blank row) (Asks (Begin w o)) = inr refl
 only-16 l (up s) (Asks (Begin w o)) =
     let x = terms (s .site .rows) o in
-    one-test (ltb w (s .site .P)) (registerBelow (s .site .V') (x .register)) (groupThere (s .site .rows) (x .group))
+    one-test (ltb w (s .site .P)) (namedBelow (s .site .V') (x .register) && namedBelow markCount (markOf (x .mark))) (groupThere (s .site .rows) (x .group))
     (valueWithin (inForce l .limit) (x .value)) _ _ _ _ _
 only-16 l (blank row) (Asks (Step w)) = inr refl
 only-16 l (up s) (Asks (Step w)) = inr refl
@@ -87,5 +89,6 @@ document =
       in-force = λ l. theorems (inForce l) refl;
       earlier = λ l. theorems (document01 l) refl;
       changing = demand;
+      month-end = month-end;
       refusal-16 = λ l h b. only-16 l h (decode b);
     }

@@ -1,14 +1,14 @@
--- What follows where a read or a total has found its version: a claim that holds of each of its ends holds of it.
+-- What follows where a read or a total has found its version, and where a step may be refused: a claim that holds of each end holds of it.
 use mathlib.Core.Path.{_≡_, refl}
 use mathlib.Core.Bool.{true}
-use mathlib.Core.Option.{none}
+use mathlib.Core.Option.{Option, none, some}
 use Prim.Native.Nat.{ℕ}
 use lib.Dec.{leb}
 use Rattle.model.specs.Totals.{goesOn, Sum}
-use Rattle.model.specs.Store.{Reading, Purpose, Single, Totaling, Goal, Idle, ReadEnter, Store, place}
+use Rattle.model.specs.Store.{Reading, Purpose, Single, Marked, Totaling, Goal, Idle, ReadEnter, Store, place}
 use Rattle.model.specs.Rules.{twelveDigits}
 use Rattle.model.specs.Answer.{Answer, Going, No, Stepped, said}
-use Rattle.model.specs.Steps.{answerFor, signed, totalFound, found}
+use Rattle.model.specs.Steps.{answerFor, signed, totalFound, found, stoppedBy}
 use Rattle.model.specs.Demand.{FinishedAt, endAs, finishes}
 use Rattle.model.proofs.Basic.{cond-both}
 
@@ -35,6 +35,13 @@ tells-finishes T = rw (T .ends, T .refusal)
 pub tells-end : (i : ℕ) {a : Answer} → Tells a → endAs i a ≡ FinishedAt i a
 tells-end i T = rw (T .refusal)
 
+-- a refusal met at a step, or what follows where there is none
+pub stopped-by : (Q : Stepped → Type 0) (y : Option ℕ) (s : Store) (w : ℕ) (next : Stepped)
+    → ((k : ℕ) → y ≡ some k → Q (record { store = place s w Idle; answer = No k })) → (y ≡ none → Q next) → Q (stoppedBy y s w next)
+unfolding stoppedBy
+stopped-by Q none s w next f g = g refl
+stopped-by Q (some k) s w next f g = f k refl
+
 pub found-by : (Q : Stepped → Type 0) (s : Store) (w : ℕ) (y : Purpose) (x : Reading)
     → ((a : Answer) → Tells a → Q (record { store = place s w Idle; answer = a }))
     → Q (record { store = place s w Idle; answer = No 18 })
@@ -42,6 +49,7 @@ pub found-by : (Q : Stepped → Type 0) (s : Store) (w : ℕ) (y : Purpose) (x :
     → Q (found s w y x)
 unfolding found totalFound
 found-by Q s w Single x shown over next = shown (answerFor x) (answerFor-tells x)
+found-by Q s w (Marked m) x shown over next = shown (answerFor x) (answerFor-tells x)
 found-by Q s w (Totaling g i y) x shown over next =
     cond-both Q (leb (x .count) twelveDigits) _ _
     (λ e. cond-both Q (goesOn (s .site .rows) g i) _ _ (λ f. next _) (λ f. shown _ (signed-tells _)))

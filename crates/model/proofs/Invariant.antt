@@ -4,22 +4,25 @@
 --
 -- Besides the store the invariant speaks of: `olds`, for each register the slots of its versions below the newest, newest first; the calls
 -- of the history so far; their order so far; and the plain registers that this order has led to.
-use mathlib.Core.Path.{_≡_}
+use mathlib.Core.Path.{_≡_, ap}
 use mathlib.Core.Bool.{Bool, true, false, cond}
-use mathlib.Core.Logic.{_⊎_}
+use mathlib.Core.Logic.{_⊎_, ⊎-elim}
 use mathlib.Core.List.{List, [], _∷_}
-use mathlib.Core.Option.{some}
-use Prim.Native.Nat.{ℕ, _+_, _*_, _≤_, _<_}
+use mathlib.Core.Option.{Option, none, some}
+use Prim.Native.Nat.{ℕ, _+_, _*_, _-_, _≤_, _<_}
+use native.Mathlib.Omega.{arith}
 use lib.Dec.{ltb}
 use lib.ListN.{length, getD, take}
+use borrow.Author.Tests as Tests
 use Rattle.model.specs.Totals.{groupOf, registerOf, rowAt, ofGroup, follow}
 use Rattle.model.specs.Rules.{twelveDigits}
-use Rattle.model.specs.Store.{absent, Reading, Slot, Range, TimeStep, OpenAnnounce, OpenPass, CloseWithdraw, Purpose, Single, Totaling, Goal, Doing, Idle, PutPublish, PutStamp, PutHandIn, FlushTake, FlushRead, FlushFree, OnTime, ReadEnter, ReadStand, GetShow, Worker, Store, workerAt, newestOf, holders, held}
+use Rattle.model.specs.Store.{absent, Reading, Slot, Range, TimeStep, OpenAnnounce, OpenPass, CloseWithdraw, MarkKeep, MarkRelease, Purpose, Single, Marked, Totaling, Goal, Doing, Idle, PutPublish, PutStamp, PutHandIn, FlushTake, FlushRead, FlushFree, OnTime, ReadEnter, ReadStand, GetShow, Worker, Store, workerAt, newestOf, markCount, markAt, holders, held}
+use Rattle.model.specs.Marks.{timeFor}
 use Rattle.model.specs.About.{Hand, Empty, Covered, Merged, Needless, about}
-use Rattle.model.specs.Record.{Operation, Put, Open, Read, Close, Get, Collect, Total}
+use Rattle.model.specs.Record.{Operation, Put, Open, Read, Close, Get, Collect, Total, Mark, Release, MarkedRead}
 use Rattle.model.specs.Demand.{Unfinished, Call, Plain, sumOver, occurrences, All, callAt}
 use Rattle.model.specs.Reached.{sumBy}
-use Rattle.model.proofs.Basic.{hit}
+use Rattle.model.proofs.Basic.{hit, lt-cases}
 use Rattle.model.proofs.Linear.{Lin}
 use Rattle.model.proofs.Slots.{nth}
 use Rattle.model.proofs.Chain.{Linked, Sees, On, Fine}
@@ -32,6 +35,7 @@ pub record Ctx : Type 0 where
   pub newest : List ℕ
   pub olds : List (List ℕ)
   pub held : ℕ → ℕ
+  pub marks : List ℕ
   pub registers : ℕ
   pub holders : ℕ
   pub rows : List ℕ
@@ -44,6 +48,7 @@ ctx s olds =
       newest = s .newest;
       olds = olds;
       held = held s;
+      marks = s .marks;
       registers = s .site .V';
       holders = holders s;
       rows = s .site .rows;
@@ -99,9 +104,14 @@ abbrev pub Settled : Ctx → ℕ → Type 0
 Settled x t = (t ≡ absent) ⊎ (t < x .clock)
 
 -- While a flush reads the times: each holder read so far has now no time, or some time that was read, or one that no merged range covers. The
--- last is the heart of demand 3: a time announced after the pools were taken is the clock, and the clock is at least every high in them.
+-- last is the heart of demand 3: a time announced after the pools were taken is the clock, and the clock is at least every high in them. A mark's
+-- time is one that a worker held, and workers are read before marks: so a time that a mark got since was read, or is new.
 abbrev pub Asked : Ctx → List ℕ → Range → Type 0
 Asked x ts ρ = (v : ℕ) → v < length ts → (x .held v ≡ absent) ⊎ ((0 < occurrences (x .held v) ts) ⊎ (ρ .high ≤ x .held v))
+
+-- the marks are asked last, and all at once
+abbrev pub AskedOf : Ctx → List ℕ → Type 0
+AskedOf x ts = (length ts + markCount ≤ x .holders) ⊎ (length ts ≡ x .holders)
 
 -- no time held needs the range: what the split leaves to be freed
 abbrev pub Spared : Ctx → Range → Type 0
@@ -111,10 +121,34 @@ Spared x ρ = (v : ℕ) → v < x .holders → x .held v < absent → ρ .low �
 abbrev pub Snap : Ctx → Plain → ℕ → ℕ → Type 0
 Snap x p w t = (f : ℕ → Reading) × (p .copy w ≡ some f) × ((r : ℕ) → r < x .registers → Sees (x .slots) t (f r) (chain x r))
 
+-- a mark is empty; or its time is past, and in each register's list the version that the time needs has the value of the copy under the mark
+abbrev pub MarkHolds : Ctx → Plain → ℕ → Type 0
+MarkHolds x p m =
+    let a = getD (x .marks) m absent in
+    ((a ≡ absent) × (p .kept m ≡ none))
+    ⊎ ((a < x .clock)
+    × (f : ℕ → Reading) × (p .kept m ≡ some f) × ((r : ℕ) → r < x .registers → Sees (x .slots) a (f r) (chain x r)))
+
+-- the time as of which a worker with the announced time t reads, and the copy in which the value is shown
+abbrev pub timeIn : Ctx → ℕ → Purpose → ℕ
+timeIn x t y = timeFor (x .marks) t y
+
+abbrev pub copyFor : Plain → ℕ → Purpose → Option (ℕ → Reading)
+copyFor p w Single = p .copy w
+copyFor p w (Marked m) = p .kept m
+copyFor p w (Totaling g i y) = p .copy w
+
+-- of a read as of the worker's own time, it has one that is past; of a marked read, there is such a mark
+abbrev pub Sourced : ℕ → ℕ → Purpose → Type 0
+Sourced clock t Single = t < clock
+Sourced clock t (Marked m) = (m < markCount) × ((t ≡ absent) ⊎ (t < clock))
+Sourced clock t (Totaling g i y) = t < clock
+
 -- Where a value of register r is read for a total: the register is that of its row, which is one of its group; the sums are those of the rows of
 -- the group before it over the worker's copy, and each value was one of twelve digits.
 abbrev pub Summed : List ℕ → Plain → ℕ → ℕ → Purpose → Type 0
 Summed rows p w r Single = Unit {0}
+Summed rows p w r (Marked m) = Unit {0}
 Summed rows p w r (Totaling g i y) =
     (i < length rows)
     × (r ≡ registerOf (rowAt rows i))
@@ -130,6 +164,8 @@ abbrev pub TimeHolds : Ctx → ℕ → TimeStep → Type 0
 TimeHolds x t OpenAnnounce = t ≡ absent
 TimeHolds x t OpenPass = (t ≤ x .clock) × (t < 4294967295)
 TimeHolds x t CloseWithdraw = t < x .clock
+TimeHolds x t (MarkKeep m) = (m < markCount) × (t < x .clock)
+TimeHolds x t (MarkRelease m) = (m < markCount) × Settled x t
 
 -- what holds at a worker's place, whose announced time is t
 abbrev pub PlaceHolds : Ctx → Plain → ℕ → ℕ → Doing → Type 0
@@ -138,14 +174,17 @@ PlaceHolds x p w t (PutPublish r y) = (r < x .registers) × Settled x t
 PlaceHolds x p w t (PutStamp r c) = (r < x .registers) × Settled x t × (0 < occurrences c (old x r))
 PlaceHolds x p w t (PutHandIn r c) = (r < x .registers) × Settled x t × (0 < occurrences c (old x r)) × (nth (x .slots) c .high ≤ x .clock)
 PlaceHolds x p w t FlushTake = Settled x t
-PlaceHolds x p w t (FlushRead m ts) = Settled x t × All (Good x) m × (length ts ≤ x .holders) × All (Asked x ts) m
+PlaceHolds x p w t (FlushRead m ts) = Settled x t × All (Good x) m × AskedOf x ts × All (Asked x ts) m
 PlaceHolds x p w t (FlushFree m) = Settled x t × All (Good x) m × All (Spared x) m
 PlaceHolds x p w t (OnTime y) = TimeHolds x t y
-PlaceHolds x p w t (ReadEnter g) = (g .register < x .registers) × (t < x .clock) × SummedFor x p w g
+PlaceHolds x p w t (ReadEnter g) = (g .register < x .registers) × Sourced (x .clock) t (g .purpose) × SummedFor x p w g
 PlaceHolds x p w t (ReadStand g c) =
     (g .register < x .registers)
-    × (t < x .clock)
-    × ((f : ℕ → Reading) × (p .copy w ≡ some f) × On (x .slots) t c (f (g .register)) (chain x (g .register)))
+    × Sourced (x .clock) t (g .purpose)
+    × ((timeIn x t (g .purpose) < x .clock)
+    × (f : ℕ → Reading)
+    × (copyFor p w (g .purpose) ≡ some f)
+    × On (x .slots) (timeIn x t (g .purpose)) c (f (g .register)) (chain x (g .register)))
     × SummedFor x p w g
 PlaceHolds x p w t (GetShow r) = (r < x .registers) × Settled x t
 
@@ -169,14 +208,17 @@ abbrev pub FitsTime : Ctx → ℕ → Operation → TimeStep → ℕ → Type 0
 FitsTime x t c OpenAnnounce n = (c ≡ Open) × (n ≡ 0)
 FitsTime x t c OpenPass n = (c ≡ Open) × (((t ≡ x .clock) × (n ≡ 0)) ⊎ ((t < x .clock) × (n ≡ 1)))
 FitsTime x t c CloseWithdraw n = (c ≡ Close) × (n ≡ 0)
+FitsTime x t c (MarkKeep m) n = (c ≡ Mark m) × (n ≡ 0)
+FitsTime x t c (MarkRelease m) n = (c ≡ Release m) × (n ≡ 0)
 
 -- a flush ends a put that has taken effect, or is a collect
 abbrev pub FitsFlush : Operation → ℕ → Type 0
 FitsFlush c n = (IsPut c × (n ≡ 1)) ⊎ ((c ≡ Collect) × (n ≡ 0))
 
--- a read's value, or one of a total
+-- a read's value, a marked read's, or one of a total
 abbrev pub Serves : Operation → ℕ → Purpose → Type 0
 Serves c r Single = c ≡ Read r
+Serves c r (Marked m) = c ≡ MarkedRead r m
 Serves c r (Totaling g i y) = c ≡ Total g
 
 abbrev pub Fits : Ctx → ℕ → Operation → Doing → ℕ → Type 0
@@ -230,6 +272,7 @@ pub record Inv (now : ℕ) (s : Store) (olds : List (List ℕ)) (h : List Call) 
   pub newestLength : length (s .newest) ≡ s .site .V'
   pub slotsLength : length (s .slots) ≡ s .site .N
   pub oldsLength : length olds ≡ s .site .V'
+  pub marksLength : length (s .marks) ≡ markCount
   pub slotsFew : s .site .N ≤ absent
   pub clockFits : s .clock < absent
   -- every slot is in just one place: pending, free, or a register's newest version
@@ -246,6 +289,7 @@ pub record Inv (now : ℕ) (s : Store) (olds : List (List ℕ)) (h : List Call) 
   -- the ranges of the queued pools
   pub queue : All (All (Good (ctx s olds))) (s .queue)
   pub workers : (w : ℕ) → w < s .site .P → Works (ctx s olds) h o p w (workerAt s w)
+  pub marks : (m : ℕ) → m < markCount → MarkHolds (ctx s olds) p m
   -- an unstamped newest version belongs to a put that is at its second step
   pub stamper : (r : ℕ) → r < s .site .V' → nth (s .slots) (newestOf s r) .low ≡ absent
       → (w : ℕ) × (w < s .site .P) × (c : ℕ) × (workerAt s w .doing ≡ PutStamp r c) × (nth (s .slots) c .high ≡ absent)
@@ -255,3 +299,17 @@ pub record Inv (now : ℕ) (s : Store) (olds : List (List ℕ)) (h : List Call) 
   pub linear : Lin (s .site .rows) now h o p
   -- the rows of totals are those of a list that a setup accepts
   pub rowsFit : follow (s .site .V') 0 0 (s .site .rows) ≡ true
+
+------------------------------------------------------------------------
+-- Who holds a time
+
+pub held-worker : (s : Store) (v : ℕ) → v < s .site .P → held s v ≡ workerAt s v .announced
+held-worker s v b = rw (Tests.lt-ltb v (s .site .P) b)
+
+pub held-mark : (s : Store) (m : ℕ) → held s (s .site .P + m) ≡ markAt s m
+held-mark s m = rw (Tests.le-ltb (s .site .P + m) (s .site .P) (omega arith)) (ap (markAt s) (let e : (s .site .P + m) - s .site .P ≡ m = omega arith in e))
+
+-- with the same announced times and marks each holds what it held
+pub held-same : (s s′ : Store) → s′ .site .P ≡ s .site .P → s′ .marks ≡ s .marks → (v : ℕ)
+    → (v < s .site .P → workerAt s′ v .announced ≡ workerAt s v .announced) → held s′ v ≡ held s v
+held-same s s′ e q v f = ⊎-elim (λ u. rw (e, u .1) (f (u .0))) (λ u. rw (e, q, u .1)) (lt-cases v (s .site .P))

@@ -16,6 +16,7 @@ pub mod Stamp
 pub mod History
 pub mod Work
 pub mod Places
+pub mod Marking
 pub mod Stamping
 pub mod Link
 pub mod Unlink
@@ -25,6 +26,7 @@ pub mod Site
 pub mod Record
 pub mod Setup
 pub mod Main
+pub mod MonthEnd
 pub mod Bounds
 pub mod Total
 pub mod Full

@@ -1,6 +1,6 @@
 -- The order of operations: what happens to it when an operation begins, takes effect, and ends.
 use mathlib.Core.Path.{_≡_, refl, sym, ap, _∙_, subst}
-use mathlib.Core.Bool.{Bool, true, false, cond}
+use mathlib.Core.Bool.{Bool, true, false, cond, true≢false}
 use mathlib.Core.Logic.{_≢_, ⊎-elim}
 use mathlib.Core.List.{List, [], _∷_, _++_, map}
 use mathlib.Core.Option.{Option, none, some}
@@ -12,7 +12,7 @@ use lib.Seq.{getD-append-seam}
 use borrow.Author.Tests.{eqb-true, eq-eqb}
 use Rattle.model.specs.Answer.{Answer, said}
 use Rattle.model.specs.Record.{Operation}
-use Rattle.model.specs.Demand.{Ending, Unfinished, RefusedAt, FinishedAt, Call, endAs, endOnce, endFor, Plain, plain₀, feed, shows, call₀, occurrences, All, Stands, EndsBefore, Ordered, Agrees, RegistersAgree, IsOrder, callAt, endBy, showing, AgreesIf}
+use Rattle.model.specs.Demand.{Ending, Unfinished, RefusedAt, FinishedAt, Call, endAs, endOnce, endFor, Plain, plain₀, feed, shows, call₀, occurrences, All, Stands, EndsBefore, Ordered, FinishedBefore, FinishedBy, ByEnds, atEnd, Agrees, RegistersAgree, IsOrder, callAt, endBy, showing, AgreesIf}
 use Rattle.model.proofs.Basic.{hit-same, hit-other, occurrences-snoc, eq-cases, lt-cases, All-append, getD-map}
 
 unfoldable pub after : List Call → Plain → List ℕ → Plain
@@ -45,6 +45,34 @@ Ordered-mono h h′ (i ∷ o) b e t = (
       (λ z. u .0 (e i j here (omega (arith, sub j (omega (arith, hit-same j))))
           (subst (λ (k : ℕ). EndsBefore k (callAt h′ j .ending)) (b i here) z))),
       both q (λ k y. sub k (omega arith)) (u .1),
+    )
+
+pub ByEnds-mono : (h h′ : List Call) (o : List ℕ)
+    → ((i : ℕ) → 0 < occurrences i o → callAt h′ i .operation ≡ callAt h i .operation)
+    → ((i : ℕ) → 0 < occurrences i o → atEnd (callAt h i .operation) ≡ true → callAt h′ i .ending ≡ callAt h i .ending)
+    → ByEnds h o → ByEnds h′ o
+unfolding ByEnds occurrences
+ByEnds-mono h h′ [] c e t = tt
+ByEnds-mono h h′ (i ∷ o) c e t =
+    (all o (λ j x. x) (t .0), ByEnds-mono h h′ o (λ j x. c j (omega arith)) (λ j x. e j (omega arith)) (t .1))
+  where
+    here : 0 < occurrences i (i ∷ o)
+    here = omega (arith, hit-same i)
+
+    all : (q : List ℕ) → ((j : ℕ) → 0 < occurrences j q → 0 < occurrences j o)
+        → All (λ j. atEnd (callAt h i .operation) ≡ true → atEnd (callAt h j .operation) ≡ true
+        → FinishedBy (callAt h i .ending) (callAt h j .ending)) q
+        → All (λ j. atEnd (callAt h′ i .operation) ≡ true → atEnd (callAt h′ j .operation) ≡ true
+        → FinishedBy (callAt h′ i .ending) (callAt h′ j .ending)) q
+    all [] sub u = tt
+    all (j ∷ q) sub u = (
+      (λ x y.
+          let there : 0 < occurrences j (i ∷ o) = omega (arith, sub j (omega (arith, hit-same j))) in
+          let a = sym (ap atEnd (c i here)) ∙ x in
+          let b = sym (ap atEnd (c j there)) ∙ y in
+          subst (λ (q : Ending). FinishedBy q (callAt h′ j .ending)) (sym (e i here a))
+          (subst (FinishedBy (callAt h i .ending)) (sym (e j there b)) (u .0 a b))),
+      all q (λ k y. sub k (omega arith)) (u .1),
     )
 
 pub after-mono : (h h′ : List Call) (p : Plain) (o : List ℕ)
@@ -82,6 +110,15 @@ Ordered-snoc h [] k n t = (tt, tt)
 Ordered-snoc h (i ∷ o) k n t =
     (All-append _ o (k ∷ []) (t .0) (n i (omega (arith, hit-same i)), tt), Ordered-snoc h o k (λ j x. n j (omega arith)) (t .1))
 
+pub ByEnds-snoc : (h : List Call) (o : List ℕ) (k : ℕ)
+    → ((i : ℕ) → 0 < occurrences i o → atEnd (callAt h i .operation) ≡ true → atEnd (callAt h k .operation) ≡ true
+    → FinishedBy (callAt h i .ending) (callAt h k .ending))
+    → ByEnds h o → ByEnds h (o ++ (k ∷ []))
+unfolding ByEnds occurrences
+ByEnds-snoc h [] k n t = (tt, tt)
+ByEnds-snoc h (i ∷ o) k n t =
+    (All-append _ o (k ∷ []) (t .0) (n i (omega (arith, hit-same i)), tt), ByEnds-snoc h o k (λ j x. n j (omega arith)) (t .1))
+
 pub after-snoc : (h : List Call) (p : Plain) (o : List ℕ) (k : ℕ)
     → after h p (o ++ (k ∷ [])) ≡ feed (after h p o) (callAt h k .worker) (callAt h k .operation)
 unfolding after
@@ -101,11 +138,24 @@ RegistersAgree-snoc rows h p (i ∷ o) k a t = (t .0, RegistersAgree-snoc rows h
 pub record Lin (rows : List ℕ) (now : ℕ) (h : List Call) (o : List ℕ) (p : Plain) : Type 0 where
   pub isOrder : IsOrder rows h o
   pub early : (i : ℕ) → i < length h → callAt h i .begun < now
+  -- one that takes effect at its end has ended where it stands in the order
+  pub past : (i : ℕ) → 0 < occurrences i o → atEnd (callAt h i .operation) ≡ true → FinishedBefore now (callAt h i .ending)
   pub come : after h plain₀ o ≡ p
+
+finished-later : (now : ℕ) (e : Ending) → FinishedBefore now e → FinishedBefore (now + 1) e
+finished-later now Unfinished x = x
+finished-later now (RefusedAt i) x = x
+finished-later now (FinishedAt i a) x = omega (arith, x)
 
 -- nothing happened to the operations
 pub lin-skip : {rows : List ℕ} {now : ℕ} {h : List Call} {o : List ℕ} {p : Plain} → Lin rows now h o p → Lin rows (now + 1) h o p
-lin-skip L = record { isOrder = L .isOrder; early = λ i x. omega (arith, L .early i x); come = L .come }
+lin-skip {now = now} {h = h} L =
+    record {
+      isOrder = L .isOrder;
+      early = λ i x. omega (arith, L .early i x);
+      past = λ i x y. finished-later now (callAt h i .ending) (L .past i x y);
+      come = L .come;
+    }
 
 agrees-unended : (c : Operation) (s : Option Answer) → Agrees c Unfinished s
 agrees-unended c s = go (showing c)
@@ -136,6 +186,9 @@ module _ {rows : List ℕ} {now : ℕ} {h : List Call} {o : List ℕ} {p : Plain
               ordered =
                   Ordered-mono h h′ o (λ i x. ap (λ (v : Call). v .begun) (keep i x))
                   (λ i j x y z. subst (λ (v : Call). EndsBefore (callAt h i .begun) (v .ending)) (keep j y) z) (L .isOrder .ordered);
+              byEnds =
+                  ByEnds-mono h h′ o (λ i x. ap (λ (v : Call). v .operation) (keep i x)) (λ i x y. ap (λ (v : Call). v .ending) (keep i x))
+                  (L .isOrder .byEnds);
               registersAgree =
                   RegistersAgree-mono rows h h′ plain₀ o (λ i x. (ap (λ (v : Call). v .operation) (keep i x), ap (λ (v : Call). v .worker) (keep i x)))
                   (λ i s x. subst (λ (v : Call). Agrees (callAt h i .operation) (v .ending) s) (sym (keep i x))) (L .isOrder .registersAgree);
@@ -143,6 +196,9 @@ module _ {rows : List ℕ} {now : ℕ} {h : List Call} {o : List ℕ} {p : Plain
         early =
             λ i x. ⊎-elim (λ u. omega (arith, L .early i (u .0), ap (λ (v : Call). v .begun) (List·getD-append h (d ∷ []) call₀ i (u .0))))
             (λ u. omega (arith, b, ap (λ (v : Call). v .begun) (last i x (u .0)))) (lt-cases i (length h));
+        past = λ i x y.
+            subst (λ (v : Call). FinishedBefore (now + 1) (v .ending)) (sym (keep i x))
+            (finished-later now (callAt h i .ending) (L .past i x (ap (λ (v : Call). atEnd (v .operation)) (sym (keep i x)) ∙ y)));
         come = after-mono h h′ plain₀ o (λ i x. (ap (λ (v : Call). v .operation) (keep i x), ap (λ (v : Call). v .worker) (keep i x))) ∙ L .come;
       }
     where
@@ -163,19 +219,23 @@ module _ {rows : List ℕ} {now : ℕ} {h : List Call} {o : List ℕ} {p : Plain
       new : (i : ℕ) → i < length h′ → (length h ≤ i) × (ltb i (length h) ≡ false) → Stands (callAt h′ i .ending) (occurrences i o)
       new i x y = rw (last i x (y .0), u) (omega (arith, L .isOrder .within i (y .0)))
 
-  -- operation k, which has not ended, takes effect
-  pub lin-effect : (k : ℕ) → k < length h → callAt h k .ending ≡ Unfinished → occurrences k o ≡ 0
+  -- operation k, which has not ended, takes effect: a put or an open
+  pub lin-effect : (k : ℕ) → k < length h → callAt h k .ending ≡ Unfinished → occurrences k o ≡ 0 → atEnd (callAt h k .operation) ≡ false
       → Lin rows now h (o ++ (k ∷ [])) (feed p (callAt h k .worker) (callAt h k .operation))
-  lin-effect k x u z =
+  lin-effect k x u z ne =
       record {
         isOrder =
             record {
               within = λ i y. omega (arith, occurrences-snoc i o k, L .isOrder .within i y, hit-other k i (omega arith));
               stands = λ i y. ⊎-elim (own i) (other i y) (eq-cases k i);
               ordered = Ordered-snoc h o k (λ i y e. subst (EndsBefore (callAt h i .begun)) u e) (L .isOrder .ordered);
+              byEnds = ByEnds-snoc h o k (λ i y a b. absurd (true≢false (sym b ∙ ne))) (L .isOrder .byEnds);
               registersAgree = RegistersAgree-snoc rows h plain₀ o k (rw u (agrees-unended (callAt h k .operation) _)) (L .isOrder .registersAgree);
             };
         early = L .early;
+        past = λ i y a.
+            ⊎-elim (λ e. absurd (true≢false (sym a ∙ ap (λ (j : ℕ). atEnd (callAt h j .operation)) (sym (e .0)) ∙ ne)))
+            (λ e. L .past i (omega (arith, y, occurrences-snoc i o k, hit-other k i (e .0))) a) (eq-cases k i);
         come = after-snoc h plain₀ o k ∙ ap (λ (q : Plain). feed q (callAt h k .worker) (callAt h k .operation)) (L .come);
       }
     where
@@ -255,6 +315,19 @@ module _ (now w : ℕ) (a : Answer) (h : List Call) (k : ℕ) (kin : k < length 
         (eq-cases k j))
         (L .isOrder .ordered)
 
+    -- the one that ends is not in the order yet, or takes no effect at its end
+    not-yet : (i : ℕ) → 0 < occurrences i o → atEnd (callAt h i .operation) ≡ true → k ≢ i
+    not-yet i x y e = subst (FinishedBefore now) (ap (λ (j : ℕ). callAt h j .ending) (sym e) ∙ ku) (L .past i x y)
+
+    byEndsE : ByEnds ended o
+    byEndsE =
+        ByEnds-mono h ended o (λ i x. ended-same i (inside L i x) .0) (λ i x y. ended-other i (inside L i x) (not-yet i x y)) (L .isOrder .byEnds)
+
+    pastE : (i : ℕ) → 0 < occurrences i o → atEnd (callAt ended i .operation) ≡ true → FinishedBefore now (callAt ended i .ending)
+    pastE i x y =
+        let z = sym (ap atEnd (ended-same i (inside L i x) .0)) ∙ y in
+        subst (FinishedBefore now) (sym (ended-other i (inside L i x) (not-yet i x z))) (L .past i x z)
+
     comeE : after ended plain₀ o ≡ p
     comeE = after-mono h ended plain₀ o (λ i x. ended-same i (inside L i x)) ∙ L .come
 
@@ -273,6 +346,7 @@ module _ (now w : ℕ) (a : Answer) (h : List Call) (k : ℕ) (kin : k < length 
                     (λ e. subst (λ (q : Ending). Stands q (occurrences i o)) (sym (ended-other i y (e .0))) (L .isOrder .stands i y))
                     (eq-cases k i);
                 ordered = orderedE;
+                byEnds = byEndsE;
                 registersAgree =
                     RegistersAgree-mono rows h ended plain₀ o (λ i x. ended-same i (inside L i x))
                     (λ i s x z. ⊎-elim
@@ -283,6 +357,7 @@ module _ (now w : ℕ) (a : Answer) (h : List Call) (k : ℕ) (kin : k < length 
                     (L .isOrder .registersAgree);
               };
           early = earlyE;
+          past = λ i x y. finished-later now (callAt ended i .ending) (pastE i x y);
           come = comeE;
         }
 
@@ -315,6 +390,8 @@ module _ (now w : ℕ) (a : Answer) (h : List Call) (k : ℕ) (kin : k < length 
                     (subst (EndsBefore (callAt h i .begun)) ended-own
                     (subst (λ (q : ℕ). EndsBefore q (callAt ended k .ending)) (ended-begun i (inside L i x)) e)))
                     orderedE;
+                byEnds =
+                    ByEnds-snoc ended o k (λ i x y v. subst (FinishedBy (callAt ended i .ending)) (sym finishes-now) (pastE i x y)) byEndsE;
                 registersAgree =
                     RegistersAgree-snoc rows ended plain₀ o k
                     (rw (comeE, ended-own, ended-same k kin .0, ended-same k kin .1, kw) ag)
@@ -324,5 +401,20 @@ module _ (now w : ℕ) (a : Answer) (h : List Call) (k : ℕ) (kin : k < length 
                     (L .isOrder .registersAgree));
               };
           early = earlyE;
+          past = λ i x y.
+              ⊎-elim
+              (λ e. subst (FinishedBefore (now + 1)) (sym finishes-now ∙ ap (λ (j : ℕ). callAt ended j .ending) (e .0)) at-now)
+              (λ e. finished-later now (callAt ended i .ending) (pastE i (omega (arith, x, occurrences-snoc i o k, hit-other k i (e .0))) y))
+              (eq-cases k i);
           come = after-snoc ended plain₀ o k ∙ rw (comeE, ended-same k kin .0, ended-same k kin .1, kw);
         }
+      where
+        finished-is : (y : Option ℕ) → Stands (endBy now a y) 1 → endBy now a y ≡ FinishedAt now a
+        finished-is none s = refl
+        finished-is (some j) s = absurd (omega (arith, s))
+
+        finishes-now : callAt ended k .ending ≡ FinishedAt now a
+        finishes-now = ended-own ∙ finished-is (said a .refusal) st
+
+        at-now : now < now + 1
+        at-now = omega arith

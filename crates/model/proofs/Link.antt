@@ -7,7 +7,7 @@ use native.Mathlib.Nat.{not-suc-le-zero, le-of-suc-le-suc}
 use native.Mathlib.Omega.{arith}
 use lib.ListN.{length, getD, set, length-set}
 use lib.Seq.{getD-set-same, getD-set-other}
-use Rattle.model.specs.Store.{absent, Reading, Slot, Range, PutPublish, PutStamp, Worker, startWorker, Store, workerAt, newestOf, withDoing, place, withSlots, withNewest, withFree}
+use Rattle.model.specs.Store.{absent, Reading, Slot, Range, PutPublish, PutStamp, Worker, startWorker, Store, workerAt, newestOf, markAt, withDoing, place, withSlots, withNewest, withFree}
 use Rattle.model.specs.Versions.{linkSlots}
 use Rattle.model.specs.Demand.{Call, Plain, occurrences, All, callAt}
 use Rattle.model.specs.Reached.{sumBy}
@@ -16,9 +16,9 @@ use Rattle.model.proofs.Linear.{lin-skip}
 use Rattle.model.proofs.Slots.{nth, link-length, link-new, link-part, link-newer-other}
 use Rattle.model.proofs.Chain.{Linked, Linked-same, Linked-link, Sees, Sees-mono, On, On-mono, Fine, Past}
 use Rattle.model.proofs.Count.{cnt, sumBy-set, sumBy-one}
-use Rattle.model.proofs.Invariant.{Ctx, ctx, top, old, chain, inDoing, pendW, pend, Good, PlaceHolds, Works, Inv}
+use Rattle.model.proofs.Invariant.{Ctx, ctx, top, old, chain, inDoing, pendW, pend, Good, PlaceHolds, Works, Inv, held-same}
 use Rattle.model.proofs.Apart.{below≤1, chain-once, chain-in, chain-apart, free-in}
-use Rattle.model.proofs.Transport.{Moves, doing-map, fits-map, current-map, Covers, Fine-same, All-cnt}
+use Rattle.model.proofs.Transport.{stays, Moves, doing-map, fits-map, current-map, Covers, Fine-same, All-cnt}
 use Rattle.model.proofs.Places.{Kept, doing-is, cur-is}
 
 pub times-set : (l : List ℕ) (i y c : ℕ) → i < length l → occurrences c (set l i y) + hit (getD l i absent) c ≡ occurrences c l + hit y c
@@ -223,11 +223,12 @@ module _ (now : ℕ) (s : Store) (olds : List (List ℕ)) (h : List Call) (o : L
 
   still : (v : ℕ) → x′ .held v ≡ x .held v
   still v =
-      ⊎-elim
+      held-same s linked-store refl refl v
+      (λ _. ⊎-elim
       (λ u. ap (λ (i : ℕ). workerAt linked-store i .announced) (u .0) ∙ ap (λ (z : Worker). z .announced) at-own
       ∙ ap (λ (i : ℕ). workerAt s i .announced) (sym (u .0)))
       (λ u. ap (λ (z : Worker). z .announced) (at-other v (u .0)))
-      (eq-cases v w)
+      (eq-cases v w))
 
   other : (v : ℕ) → v < s .site .P → v ≢ w → Works x′ h o p v (workerAt s v)
   other v vb vw =
@@ -235,7 +236,7 @@ module _ (now : ℕ) (s : Store) (olds : List (List ℕ)) (h : List Call) (o : L
         pool = All-cnt (workerAt s v .pool) (λ ρ z. good ρ (work-f v vb (ρ .slot) (omega (arith, z)))) (Z .pool);
         announced = Z .announced;
         snapshot = λ z. let a = Z .snapshot z in (a .0, a .1, λ q d. sees (workerAt s v .announced) (a .0 q) q d z (a .2 q d));
-        doing = doing-map x x′ p p v (workerAt s v .announced) refl (workerAt s v .doing) moves (Z .doing);
+        doing = doing-map x x′ p p v (workerAt s v .announced) refl (workerAt s v .doing) (λ g c e. refl) moves (Z .doing);
         current =
             current-map x x′ h h o o v (workerAt s v .announced) (workerAt s v .announced) (workerAt s v .doing) (λ z. z)
             (λ k K g. (
@@ -257,10 +258,11 @@ module _ (now : ℕ) (s : Store) (olds : List (List ℕ)) (h : List Call) (o : L
             nhd = refl;
             sameRows = refl;
             good = λ ρ z. good ρ (work-f v vb (ρ .slot) (omega (arith, z)));
-            times′ = λ i z. inl (still i);
+            times′ = λ i z. stays x x′ i (still i);
             mem = λ q c z u k. mem q c k;
             highs = λ c z k. omega (arith, k, highs c (work-f v vb c (omega (arith, z))));
-            on = λ g c a z u k. ons (workerAt s v .announced) c a (g .register) z u;
+            source = λ g c e. refl;
+            on = λ g c y a z u k. ons a c y (g .register) z u;
           }
 
       covers : (q i : ℕ) → workerAt s v .doing ≡ PutStamp q i → Covers x x′ q i
@@ -342,6 +344,7 @@ module _ (now : ℕ) (s : Store) (olds : List (List ℕ)) (h : List Call) (o : L
               newestLength = length-set (s .newest) r f ∙ I .newestLength;
               slotsLength = link-length sl n f y ∙ I .slotsLength;
               oldsLength = length-set olds r (n ∷ old x r) ∙ I .oldsLength;
+              marksLength = I .marksLength;
               slotsFew = I .slotsFew;
               clockFits = I .clockFits;
               freeAlone = alone;
@@ -355,6 +358,8 @@ module _ (now : ℕ) (s : Store) (olds : List (List ℕ)) (h : List Call) (o : L
                   λ v vb. ⊎-elim (λ u. subst (λ (i : ℕ). Works x′ h o p i (workerAt linked-store i)) (sym (u .0))
                   (subst (Works x′ h o p w) (sym at-own) own)) (λ u. subst (Works x′ h o p v) (sym (at-other v (u .0))) (other v vb (u .0)))
                   (eq-cases v w);
+              marks =
+                  λ m z. ⊎-elim inl (λ u. inr (u .0, u .1, u .2, λ q d. sees (markAt s m) (u .1 q) q d (u .0) (u .3 q d))) (I .marks m z);
               stamper = λ q d z.
                   ⊎-elim
                   (λ u. subst (λ (j : ℕ). (v : ℕ) × (v < s .site .P) × (c : ℕ) × (workerAt linked-store v .doing ≡ PutStamp j c)

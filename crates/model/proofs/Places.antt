@@ -10,30 +10,31 @@ use native.Mathlib.Nat.{not-suc-le-zero}
 use lib.Dec.{ltb, leb}
 use lib.ListN.{length, getD, take, drop, length-append}
 use borrow.Author.Tests as Tests
-use Rattle.model.specs.Store.{absent, Reading, Slot, Range, OpenAnnounce, OpenPass, CloseWithdraw, Purpose, Single, Totaling, Goal, Doing, Idle, PutPublish, PutStamp, PutHandIn, FlushTake, FlushRead, FlushFree, OnTime, ReadEnter, ReadStand, GetShow, Worker, Store, workerAt, slotAt, newestOf, holders, held, rangeOf, withQueue, withWorker, withDoing, place}
+use Rattle.model.specs.Store.{absent, Reading, Slot, Range, markCount, OpenAnnounce, OpenPass, CloseWithdraw, MarkKeep, MarkRelease, Purpose, Single, Marked, Totaling, Goal, Doing, Idle, PutPublish, PutStamp, PutHandIn, FlushTake, FlushRead, FlushFree, OnTime, ReadEnter, ReadStand, GetShow, Worker, Store, workerAt, slotAt, newestOf, holders, held, rangeOf, withQueue, withWorker, withDoing, place}
+use Rattle.model.specs.Marks.{markOf}
 use Rattle.model.specs.About.{Effect, NoEffect, ByStamp, ByClock, about}
 use Rattle.model.specs.Answer.{Answer, Done, No}
 use Rattle.model.specs.Ranges.{needed, filter, merge, firstTwo, neededPools, joining, queuedPool}
 use Rattle.model.specs.Totals.{groupOf, signOf, registerOf, rowAt, ofGroup, firstOf, goesOn, addRow, Sum, sum₀}
 use Rattle.model.specs.Rules.{twelveDigits}
 use Rattle.model.specs.Steps.{readTimes, answerFor, signed, goalAt}
-use Rattle.model.specs.Record.{Operation, Put, Open, Read, Close, Get, Collect, Total}
-use Rattle.model.specs.Apply.{terms, registerBelow, groupThere, mayOpen, mayUseTime}
+use Rattle.model.specs.Record.{Operation, Put, Open, Read, Close, Get, Collect, Total, Mark, Release, MarkedRead}
+use Rattle.model.specs.Apply.{terms, namedBelow, groupThere, mayOpen, mayUseTime}
 use Rattle.model.specs.Demand.{Ending, Unfinished, FinishedAt, Call, endFor, Plain, feed, inCopy, sumOver, shows, atEnd, endEffects, occurrences, All, Stands, showing, AgreesIf, Agrees, callAt}
 use Rattle.model.specs.Reached.{sumBy}
-use Rattle.model.proofs.Basic.{and-both, lt-cases, All-append, All-get, All-map, All-take, All-drop, occurrences-append, occurrences-at}
+use Rattle.model.proofs.Basic.{and-both, cond-both, eq-cases, lt-cases, All-append, All-get, All-map, All-take, All-drop, occurrences-append, occurrences-at}
 use Rattle.model.proofs.Totals.{own-next, first-none, first-own, sum-next, sum-grows, row-fits, last-own, goes, goes-not}
 use Rattle.model.proofs.Found.{Tells, answerFor-tells, signed-tells, tells-finishes, tells-end}
 use Rattle.model.proofs.Linear.{agrees-refused}
 use Rattle.model.proofs.Slots.{nth}
 use Rattle.model.proofs.Chain.{On-found, On-on, Fine, Past}
 use Rattle.model.proofs.Count.{cnt, sumBy-append, cnt-append, cnt-merge, cnt-split, cnt-queued, cnt-firstTwo, cnt-sent, All-merge, All-keep, firstTwo-has, pools-have, joining-has, queued-has, All-kept, not-needed}
-use Rattle.model.proofs.Invariant.{Ctx, ctx, old, chain, inDoing, pendW, Good, Settled, Asked, Spared, Summed, PlaceHolds, Running, NoneRunning, IsPut, Serves, Fits, Busy, Current, Works, Inv}
+use Rattle.model.proofs.Invariant.{Ctx, ctx, old, chain, inDoing, pendW, Good, Settled, Asked, AskedOf, Spared, timeIn, copyFor, Sourced, Summed, PlaceHolds, Running, NoneRunning, IsPut, Serves, Fits, Busy, Current, Works, Inv, held-worker, held-mark, held-same}
 use Rattle.model.proofs.Effect.{own-not, own-is}
-use Rattle.model.proofs.Transport.{asked, spared}
+use Rattle.model.proofs.Transport.{Came, asked, asked-of, spared, sourced-settled}
 use Rattle.model.proofs.Stamp.{put-at-other, next-open, next-low, next-high}
 use Rattle.model.proofs.History.{Hist, hist-skip, hist-begin, begin-running, begin-call, begin-not, hist-end, hist-show, end-shut}
-use Rattle.model.proofs.Work.{work-inv, after-times}
+use Rattle.model.proofs.Work.{at-own, at-other, work-inv, came}
 
 -- the invariant after a record
 pub record Kept (now : ℕ) (s : Store) (h : List Call) (o : List ℕ) : Type 0 where
@@ -71,6 +72,10 @@ pub looks-get : (r : ℕ) → Looks (Get r)
 unfolding atEnd feed
 looks-get r = record { end = refl; shown = refl; feeds = λ p w. refl }
 
+pub looks-marked : (r m : ℕ) → Looks (MarkedRead r m)
+unfolding atEnd feed
+looks-marked r m = record { end = refl; shown = refl; feeds = λ p w. refl }
+
 pub looks-total : (g : ℕ) → Looks (Total g)
 unfolding atEnd feed
 looks-total g = record { end = refl; shown = refl; feeds = λ p w. refl }
@@ -78,17 +83,29 @@ looks-total g = record { end = refl; shown = refl; feeds = λ p w. refl }
 some-inj : {f g : ℕ → Reading} → some f ≡ some g → f ≡ g
 some-inj e = cc
 
--- a flush's step reads the next holders' times
-abbrev Reads : Store → ℕ → Type 0
-Reads s k = (k + length (readTimes s k) ≤ holders s) × ((i : ℕ) → i < length (readTimes s k) → getD (readTimes s k) i absent ≡ held s (k + i))
+-- a flush's step reads the next holders' times: those of a list that starts with holder k
+abbrev ReadAs : Store → ℕ → List ℕ → Type 0
+ReadAs s k l =
+    ((k + length l + markCount ≤ holders s) ⊎ (k + length l ≡ holders s)) × ((i : ℕ) → i < length l → getD l i absent ≡ held s (k + i))
 
-reads : (s : Store) (k : ℕ) → k < holders s → Reads s k
+abbrev Reads : Store → ℕ → Type 0
+Reads s k = ReadAs s k (readTimes s k)
+
+reads : (s : Store) (k : ℕ) → length (s .marks) ≡ markCount → k ≤ s .site .P → Reads s k
 unfolding readTimes
-reads s k b = (omega arith, go)
+reads s k lm b = cond-both (ReadAs s k) (ltb k (s .site .P)) _ _ worker marks
   where
-    go : (i : ℕ) → i < 1 → getD (held s k ∷ []) i absent ≡ held s (k + i)
-    go zero z = ap (held s) (let e : k ≡ k + 0 = omega arith in e)
-    go (suc i) z = absurd (omega (arith, z))
+    worker : ltb k (s .site .P) ≡ true → ReadAs s k (workerAt s k .announced ∷ [])
+    worker u = (inl (omega (arith, Tests.ltb-true k (s .site .P) u)), go)
+      where
+        go : (i : ℕ) → i < 1 → getD (workerAt s k .announced ∷ []) i absent ≡ held s (k + i)
+        go zero z = sym (held-worker s k (Tests.ltb-true k (s .site .P) u)) ∙ ap (held s) (let e : k ≡ k + 0 = omega arith in e)
+        go (suc i) z = absurd (omega (arith, z))
+
+    marks : ltb k (s .site .P) ≡ false → ReadAs s k (s .marks)
+    marks u =
+        let e : k ≡ s .site .P = omega (arith, Tests.ltb-false k (s .site .P) u) in
+        (inr (omega (arith, e, lm)), λ i z. sym (held-mark s i) ∙ ap (λ (j : ℕ). held s (j + i)) (sym e))
 
 module _ (now : ℕ) (s : Store) (olds : List (List ℕ)) (h : List Call) (o : List ℕ) (p : Plain) (I : Inv now s olds h o p) (w : ℕ)
     (wb : w < s .site .P) where
@@ -114,14 +131,15 @@ module _ (now : ℕ) (s : Store) (olds : List (List ℕ)) (h : List Call) (o : L
   -- the worker goes on to place d, its time and its pool as before
   pub place-inv : (d d′ : Doing) → workerAt s w .doing ≡ d → ((c : ℕ) → inDoing c d′ ≡ inDoing c d) → Calm
       → (h′ : List Call) (o′ : List ℕ) (p′ : Plain) → Hist (s .site .rows) (now + 1) w h o p h′ o′ p′ → p′ .copy w ≡ p .copy w
+      → ((m : ℕ) → p′ .kept m ≡ p .kept m)
       → PlaceHolds (ctx (to d′) olds) p′ w t d′ → Current (ctx (to d′) olds) h′ o′ w t d′ → Kept now (to d′) h′ o′
-  place-inv d d′ e m nc h′ o′ p′ H cp dk ck =
+  place-inv d d′ e m nc h′ o′ p′ H cp kp dk ck =
       record {
         olds = olds;
         p = p′;
         inv =
             work-inv now s olds h o p I w wb (withDoing (workerAt s w) d′) (s .queue) (now + 1) h′ o′ p′
-            (λ c. omega (arith, m c, ap (inDoing c) e)) (I .queue) (inl refl) nc H
+            (λ c. omega (arith, m c, ap (inDoing c) e)) (I .queue) (inl refl) nc H kp
             (record {
               pool = Z .pool;
               announced = Z .announced;
@@ -140,7 +158,7 @@ module _ (now : ℕ) (s : Store) (olds : List (List ℕ)) (h : List Call) (o : L
   Unstamping (ByStamp c) = ⊥
   Unstamping ByClock = Unit {0}
 
-  abbrev Plainly : Doing → Type 0
+  abbrev pub Plainly : Doing → Type 0
   Plainly d = Unstamping (about d .effect)
 
   pub calm : (d : Doing) → Plainly d → workerAt s w .doing ≡ d → Calm
@@ -168,11 +186,14 @@ module _ (now : ℕ) (s : Store) (olds : List (List ℕ)) (h : List Call) (o : L
   unfolding sumOver
   none-yet f g = ap (sumOver f) (sym (first-none g rows))
 
-  pub begin-kept : (c : Operation) → workerAt s w .doing ≡ Idle → registerBelow (s .site .V') (terms rows c .register) ≡ true
+  pub begin-kept : (c : Operation) → workerAt s w .doing ≡ Idle
+      → (namedBelow (s .site .V') (terms rows c .register) && namedBelow markCount (markOf (terms rows c .mark))) ≡ true
       → groupThere rows (terms rows c .group) ≡ true
       → mayOpen (terms rows c .time) (ltb t absent) ≡ true → mayUseTime (terms rows c .time) (ltb t absent) ≡ true
       → Kept now (place s w (terms rows c .first)) (h ++ (record { operation = c; worker = w; begun = now; ending = Unfinished } ∷ [])) o
-  begin-kept c e rg gr fresh has = go c rg gr (ltb t absent) refl fresh has
+  begin-kept c e named gr fresh has =
+      let n = and-both (namedBelow (s .site .V') (terms rows c .register)) _ named in
+      go c (n .0) (n .1) gr (ltb t absent) refl fresh has
     where
       st : Settled x t
       st = doing-is Idle e
@@ -186,7 +207,7 @@ module _ (now : ℕ) (s : Store) (olds : List (List ℕ)) (h : List Call) (o : L
           → Fits (ctx (to d) olds) t c d 0
           → Kept now (to d) (h ++ (record { operation = c; worker = w; begun = now; ending = Unfinished } ∷ [])) o
       begun c d m dk f ft =
-          place-inv Idle d e m (calm Idle tt e) _ o p (hist-begin now w h o p (I .linear) c) refl dk
+          place-inv Idle d e m (calm Idle tt e) _ o p (hist-begin now w h o p (I .linear) c) refl (λ i. refl) dk
           (f (
             length h,
             begin-running now w h o p (I .linear) c no-open,
@@ -204,27 +225,36 @@ module _ (now : ℕ) (s : Store) (olds : List (List ℕ)) (h : List Call) (o : L
             (b, refl, first-own g rows b, omega arith, (f .0, f .1, none-yet (f .0) g)),
           )
 
-      go : (c : Operation) → registerBelow (s .site .V') (terms rows c .register) ≡ true → groupThere rows (terms rows c .group) ≡ true
+      go : (c : Operation) → namedBelow (s .site .V') (terms rows c .register) ≡ true
+          → namedBelow markCount (markOf (terms rows c .mark)) ≡ true → groupThere rows (terms rows c .group) ≡ true
           → (b : Bool) → ltb t absent ≡ b → mayOpen (terms rows c .time) b ≡ true → mayUseTime (terms rows c .time) b ≡ true
           → Kept now (place s w (terms rows c .first)) (h ++ (record { operation = c; worker = w; begun = now; ending = Unfinished } ∷ [])) o
-      go (Put r y) rg gr b eb fresh has = begun (Put r y) (PutPublish r y) (λ i. refl) (Tests.ltb-true r (s .site .V') rg, st) (λ a. a) (refl, refl)
-      go Open rg gr true eb fresh has = absurd (true≢false (sym fresh))
-      go Open rg gr false eb fresh has =
+      go (Put r y) rg mk gr b eb fresh has = begun (Put r y) (PutPublish r y) (λ i. refl) (Tests.ltb-true r (s .site .V') rg, st) (λ a. a) (refl, refl)
+      go Open rg mk gr true eb fresh has = absurd (true≢false (sym fresh))
+      go Open rg mk gr false eb fresh has =
           begun Open (OnTime OpenAnnounce) (λ i. refl)
           (⊎-elim (λ u. u) (λ u. absurd (omega (arith, u, I .clockFits, Tests.ltb-false t absent eb))) st)
           (λ a. a) (refl, refl)
-      go (Read r) rg gr true eb fresh has =
+      go (Read r) rg mk gr true eb fresh has =
           begun (Read r) (ReadEnter (record { register = r; purpose = Single })) (λ i. refl)
           (Tests.ltb-true r (s .site .V') rg, has-time eb st, tt) (λ a. a) (refl, refl)
-      go (Read r) rg gr false eb fresh has = absurd (true≢false (sym has))
-      go Close rg gr true eb fresh has = begun Close (OnTime CloseWithdraw) (λ i. refl) (has-time eb st) (λ a. a) (refl, refl)
-      go Close rg gr false eb fresh has = absurd (true≢false (sym has))
-      go (Get r) rg gr b eb fresh has = begun (Get r) (GetShow r) (λ i. refl) (Tests.ltb-true r (s .site .V') rg, st) (λ a. a) (refl, refl)
-      go Collect rg gr b eb fresh has = begun Collect FlushTake (λ i. refl) st (λ a. a) (inr (refl, refl))
-      go (Total g) rg gr true eb fresh has =
+      go (Read r) rg mk gr false eb fresh has = absurd (true≢false (sym has))
+      go Close rg mk gr true eb fresh has = begun Close (OnTime CloseWithdraw) (λ i. refl) (has-time eb st) (λ a. a) (refl, refl)
+      go Close rg mk gr false eb fresh has = absurd (true≢false (sym has))
+      go (Get r) rg mk gr b eb fresh has = begun (Get r) (GetShow r) (λ i. refl) (Tests.ltb-true r (s .site .V') rg, st) (λ a. a) (refl, refl)
+      go Collect rg mk gr b eb fresh has = begun Collect FlushTake (λ i. refl) st (λ a. a) (inr (refl, refl))
+      go (Total g) rg mk gr true eb fresh has =
           begun (Total g) (ReadEnter (goalAt rows g (firstOf g rows) sum₀)) (λ i. refl)
           (at-first g (Tests.ltb-true (firstOf g rows) (length rows) gr) (has-time eb st)) (λ a. a) (refl, refl)
-      go (Total g) rg gr false eb fresh has = absurd (true≢false (sym has))
+      go (Total g) rg mk gr false eb fresh has = absurd (true≢false (sym has))
+      go (Mark m) rg mk gr true eb fresh has =
+          begun (Mark m) (OnTime (MarkKeep m)) (λ i. refl) (Tests.ltb-true m markCount mk, has-time eb st) (λ a. a) (refl, refl)
+      go (Mark m) rg mk gr false eb fresh has = absurd (true≢false (sym has))
+      go (Release m) rg mk gr b eb fresh has =
+          begun (Release m) (OnTime (MarkRelease m)) (λ i. refl) (Tests.ltb-true m markCount mk, st) (λ a. a) (refl, refl)
+      go (MarkedRead r m) rg mk gr b eb fresh has =
+          begun (MarkedRead r m) (ReadEnter (record { register = r; purpose = Marked m })) (λ i. refl)
+          (Tests.ltb-true r (s .site .V') rg, (Tests.ltb-true m markCount mk, st), tt) (λ a. a) (refl, refl)
 
   ------------------------------------------------------------------------
   -- Ends
@@ -235,7 +265,7 @@ module _ (now : ℕ) (s : Store) (olds : List (List ℕ)) (h : List Call) (o : L
   refuse-kept k d e pl m st a =
       place-inv d Idle e (λ c. sym (m c)) (calm d pl e) _ o p
       (hist-end now w h o p (I .linear) (No k) (a .0) (a .1) (a .2) (agrees-refused (callAt h (a .0) .operation) now))
-      refl st (end-shut now w h o p (I .linear) (No k) (a .0) (a .1))
+      refl (λ i. refl) st (end-shut now w h o p (I .linear) (No k) (a .0) (a .1))
 
   pub refuse-put : (r : ℕ) (y : Reading) → workerAt s w .doing ≡ PutPublish r y → Kept now (to Idle) (map (endFor now w (No 14)) h) o
   refuse-put r y e =
@@ -265,7 +295,7 @@ module _ (now : ℕ) (s : Store) (olds : List (List ℕ)) (h : List Call) (o : L
           none-more o (endEffects h w Done) (own-not (a .1) Done (ap atEnd (u .0 .2)))
           (place-inv (FlushFree []) Idle e (λ c. refl) (calm (FlushFree []) tt e) _ o p
           (hist-end now w h o p (I .linear) Done (a .0) (a .1) (u .1) (put-agrees (callAt h (a .0) .operation) (u .0) (FinishedAt now Done)))
-          refl (doing-is (FlushFree []) e .0) (end-shut now w h o p (I .linear) Done (a .0) (a .1)))
+          refl (λ i. refl) (doing-is (FlushFree []) e .0) (end-shut now w h o p (I .linear) Done (a .0) (a .1)))
 
       for-collect : (callAt h (a .0) .operation ≡ Collect) × (occurrences (a .0) o ≡ 0)
           → Kept now (to Idle) (map (endFor now w Done) h) (o ++ endEffects h w Done)
@@ -275,7 +305,7 @@ module _ (now : ℕ) (s : Store) (olds : List (List ℕ)) (h : List Call) (o : L
           (hist-show now w h o p (I .linear) Done (a .0) (a .1) (u .1) refl
           (subst (λ (z : Operation). Agrees z (FinishedAt now Done) (shows rows p w z)) (sym (u .0)) tt)
           (λ r. rw (u .0)) (λ v n. rw (u .0)))
-          (rw (u .0)) (doing-is (FlushFree []) e .0) (end-shut now w h o p (I .linear) Done (a .0) (a .1)))
+          (rw (u .0)) (λ i. rw (u .0)) (doing-is (FlushFree []) e .0) (end-shut now w h o p (I .linear) Done (a .0) (a .1)))
 
   ------------------------------------------------------------------------
   -- The hand-in
@@ -309,6 +339,7 @@ module _ (now : ℕ) (s : Store) (olds : List (List ℕ)) (h : List Call) (o : L
               (pend⁺ Idle (λ i. refl)) (I .queue) (inl refl) (calm (PutHandIn r c) tt e)
               (hist-end now w h o p (I .linear) Done (a .0) (a .1) (a .2 .1)
               (put-agrees (callAt h (a .0) .operation) (a .2 .0) (FinishedAt now Done)))
+              (λ i. refl)
               (record {
                 pool = good⁺;
                 announced = I .workers w wb .announced;
@@ -326,7 +357,7 @@ module _ (now : ℕ) (s : Store) (olds : List (List ℕ)) (h : List Call) (o : L
           p = p;
           inv =
               work-inv now s olds h o p I w wb (record { doing = FlushTake; announced = t; pool = pool⁺ }) (s .queue) (now + 1) h o p
-              (pend⁺ FlushTake (λ i. refl)) (I .queue) (inl refl) (calm (PutHandIn r c) tt e) skip
+              (pend⁺ FlushTake (λ i. refl)) (I .queue) (inl refl) (calm (PutHandIn r c) tt e) skip (λ i. refl)
               (record {
                 pool = good⁺;
                 announced = I .workers w wb .announced;
@@ -349,12 +380,12 @@ module _ (now : ℕ) (s : Store) (olds : List (List ℕ)) (h : List Call) (o : L
         inv =
             work-inv now s olds h o p I w wb (withDoing (workerAt s w) (FlushRead (firstTwo (s .queue)) [])) (drop 2 (s .queue)) (now + 1) h o p
             (λ c. omega (arith, cnt-firstTwo c (s .queue), ap (inDoing c) e)) (All-drop (All (Good x)) 2 (s .queue) (I .queue))
-            (inl refl) (calm FlushTake tt e) skip
+            (inl refl) (calm FlushTake tt e) skip (λ i. refl)
             (record {
               pool = I .workers w wb .pool;
               announced = I .workers w wb .announced;
               snapshot = I .workers w wb .snapshot;
-              doing = (doing-is FlushTake e, good, omega arith, All-map (λ ρ g v z. absurd (not-suc-le-zero z)) (firstTwo (s .queue)) good);
+              doing = (doing-is FlushTake e, good, inl (omega arith), All-map (λ ρ g v z. absurd (not-suc-le-zero z)) (firstTwo (s .queue)) good);
               current = (a .0, a .1, a .2);
             });
       }
@@ -363,18 +394,18 @@ module _ (now : ℕ) (s : Store) (olds : List (List ℕ)) (h : List Call) (o : L
     d₀ : PlaceHolds x p w t (FlushRead m ts)
     d₀ = doing-is (FlushRead m ts) e
 
-    pub ask-kept : length ts < holders s → Kept now (to (FlushRead m (ts ++ readTimes s (length ts)))) h o
+    pub ask-kept : length ts ≤ s .site .P → Kept now (to (FlushRead m (ts ++ readTimes s (length ts)))) h o
     ask-kept b =
         let a = cur-is (FlushRead m ts) e in
-        place-inv (FlushRead m ts) (FlushRead m ts⁺) e (λ c. refl) (calm (FlushRead m ts) tt e) h o p skip refl
-        (d₀ .0, d₀ .1, omega (arith, len, R .0), more m (d₀ .1) (d₀ .3))
+        place-inv (FlushRead m ts) (FlushRead m ts⁺) e (λ c. refl) (calm (FlushRead m ts) tt e) h o p skip refl (λ i. refl)
+        (d₀ .0, d₀ .1, ⊎-elim (λ u. inl (omega (arith, len, u))) (λ u. inr (omega (arith, len, u))) (R .0), more m (d₀ .1) (d₀ .3))
         (a .0, a .1, a .2)
       where
         ts⁺ : List ℕ
         ts⁺ = ts ++ readTimes s (length ts)
 
         R : Reads s (length ts)
-        R = reads s (length ts) b
+        R = reads s (length ts) (I .marksLength) b
 
         len : length ts⁺ ≡ length ts + length (readTimes s (length ts))
         len = length-append ts (readTimes s (length ts))
@@ -382,8 +413,19 @@ module _ (now : ℕ) (s : Store) (olds : List (List ℕ)) (h : List Call) (o : L
         x⁺ : Ctx
         x⁺ = ctx (to (FlushRead m ts⁺)) olds
 
-        still : (v : ℕ) → (x⁺ .held v ≡ x .held v) ⊎ ((x⁺ .held v ≡ absent) ⊎ (x .clock ≤ x⁺ .held v))
-        still = after-times now s olds h o p I w wb (withDoing (workerAt s w) (FlushRead m ts⁺)) (s .queue) (inl refl)
+        still : (v : ℕ) → Came x x⁺ v
+        still = came now s olds h o p I w wb (withDoing (workerAt s w) (FlushRead m ts⁺)) (s .queue) (inl refl)
+
+        -- no holder's time changes
+        as-it-was : (v : ℕ) → x⁺ .held v ≡ x .held v
+        as-it-was v =
+            held-same s (to (FlushRead m ts⁺)) refl refl v
+            (λ _. ⊎-elim
+            (λ u. ap (λ (i : ℕ). workerAt (to (FlushRead m ts⁺)) i .announced) (u .0)
+            ∙ ap (λ (z : Worker). z .announced) (at-own now s olds h o p I w wb _ (s .queue) (s .marks))
+            ∙ ap (λ (i : ℕ). workerAt s i .announced) (sym (u .0)))
+            (λ u. ap (λ (z : Worker). z .announced) (at-other now s olds h o p I w wb _ (s .queue) (s .marks) v (u .0)))
+            (eq-cases v w))
 
         -- the time of a holder that this step reads is among those read
         read-now : (v i : ℕ) → v ≡ length ts + i → i < length (readTimes s (length ts)) → x⁺ .held v ≡ x .held v → 0 < occurrences (x⁺ .held v) ts⁺
@@ -400,20 +442,17 @@ module _ (now : ℕ) (s : Store) (olds : List (List ℕ)) (h : List Call) (o : L
             ⊎-elim
             (λ u. ⊎-elim inl (⊎-elim (λ y. inr (inl (omega (arith, y, occurrences-append (x⁺ .held v) ts (readTimes s (length ts))))))
             (λ y. inr (inr y)))
-            (asked x x⁺ ts ρ (d₀ .2) (λ i _. still i) (g .2) k v (u .0)))
+            (asked x x⁺ ts ρ (asked-of x x⁺ ts (d₀ .2)) (λ i _. still i) (g .2) k v (u .0)))
             (λ u.
             let i : v ≡ length ts + (v - length ts) = omega (arith, u .0) in
-            ⊎-elim
-            (λ y. inr (inl (read-now v (v - length ts) i (omega (arith, z, len, u .0)) y)))
-            (⊎-elim inl (λ y. inr (inr (omega (arith, y, g .2)))))
-            (still v))
+            inr (inl (read-now v (v - length ts) i (omega (arith, z, len, u .0)) (as-it-was v))))
             (lt-cases v (length ts))
 
         more : (q : List Range) → All (Good x) q → All (Asked x ts) q → All (Asked x⁺ ts⁺) q
         more [] g k = tt
         more (ρ ∷ q) g k = (one ρ (g .0) (k .0), more q (g .1) (k .1))
 
-    pub split-kept : (b : ℕ) → holders s ≤ length ts
+    pub split-kept : (b : ℕ) → s .site .P < length ts
         → Kept now
         (withQueue (withWorker s w (record { doing = FlushFree (filter (λ ρ. not (needed ts ρ)) m); announced = t; pool = [] }))
         (s .queue ++ neededPools b (filter (needed ts) m) ++ queuedPool (merge (workerAt s w .pool) (joining b (filter (needed ts) m)))))
@@ -442,7 +481,7 @@ module _ (now : ℕ) (s : Store) (olds : List (List ℕ)) (h : List Call) (o : L
               (pools-have (All (Good x)) b stay (λ n. All-take (Good x) n stay gs) (λ n. All-drop (Good x) n stay gs) gs))
               (queued-has (All (Good x)) _
               (All-merge (Good x) (workerAt s w .pool) (joining b stay) (I .workers w wb .pool) (joining-has (All (Good x)) b stay tt gs))))
-              (inl refl) (calm (FlushRead m ts) tt e) skip
+              (inl refl) (calm (FlushRead m ts) tt e) skip (λ i. refl)
               (record {
                 pool = tt;
                 announced = I .workers w wb .announced;
@@ -470,8 +509,11 @@ module _ (now : ℕ) (s : Store) (olds : List (List ℕ)) (h : List Call) (o : L
         x⁺ : Ctx
         x⁺ = ctx (withQueue (withWorker s w y⁺) q⁺) olds
 
-        still : (v : ℕ) → (x⁺ .held v ≡ x .held v) ⊎ ((x⁺ .held v ≡ absent) ⊎ (x .clock ≤ x⁺ .held v))
-        still = after-times now s olds h o p I w wb y⁺ q⁺ (inl refl)
+        still : (v : ℕ) → Came x x⁺ v
+        still = came now s olds h o p I w wb y⁺ q⁺ (inl refl)
+
+        all-asked : length ts ≡ holders s
+        all-asked = ⊎-elim (λ u. absurd (omega (arith, u, full))) (λ u. u) (d₀ .2)
 
         zip : (q : List Range) → All (λ ρ. not (needed ts ρ) ≡ true) q → All (Good x) q → All (Asked x ts) q
             → All (λ ρ. (not (needed ts ρ) ≡ true) × (Good x ρ) × (Asked x ts ρ)) q
@@ -489,7 +531,7 @@ module _ (now : ℕ) (s : Store) (olds : List (List ℕ)) (h : List Call) (o : L
             (⊎-elim
             (λ q. not-needed ts ρ (Tests.not-true (needed ts ρ) (u .0)) (x .held v) q i j k)
             (λ q. omega (arith, q)))
-            (u .2 v (omega arith)))
+            (u .2 v (omega (arith, all-asked, z))))
 
   ------------------------------------------------------------------------
   -- Open, read, close
@@ -504,7 +546,7 @@ module _ (now : ℕ) (s : Store) (olds : List (List ℕ)) (h : List Call) (o : L
         inv =
             work-inv now s olds h o p I w wb (record { doing = OnTime OpenPass; announced = s .clock; pool = workerAt s w .pool }) (s .queue)
             (now + 1) h o p
-            (λ c. omega (arith, ap (inDoing c) e)) (I .queue) (inr (inr (omega arith))) (calm (OnTime OpenAnnounce) tt e) skip
+            (λ c. omega (arith, ap (inDoing c) e)) (I .queue) (inr (inr (omega arith))) (calm (OnTime OpenAnnounce) tt e) skip (λ i. refl)
             (record {
               pool = I .workers w wb .pool;
               announced = inr (omega arith, omega (arith, I .clockFits));
@@ -530,6 +572,7 @@ module _ (now : ℕ) (s : Store) (olds : List (List ℕ)) (h : List Call) (o : L
             (hist-show now w h o p (I .linear) Done (a .0) (a .1) (a .2 .1) refl
             (subst (λ (z : Operation). Agrees z (FinishedAt now Done) (shows rows p w z)) (sym (a .2 .0)) tt)
             (λ r. rw (a .2 .0)) (λ v n. rw (a .2 .0) (put-at-other (p .copy) w mathlib.Core.Option.none v n)))
+            (λ i. rw (a .2 .0))
             (record {
               pool = I .workers w wb .pool;
               announced = inl refl;
@@ -552,7 +595,8 @@ module _ (now : ℕ) (s : Store) (olds : List (List ℕ)) (h : List Call) (o : L
       (subst (λ (q : Ending). Agrees (callAt h k .operation) q (shows rows p w (callAt h k .operation))) (sym (tells-end now T))
       (subst (λ (q : Bool). AgreesIf q (FinishedAt now a) (shows rows p w (callAt h k .operation))) (sym (L .shown)) sh))
       (λ i. ap (λ (q : Plain). q .registers i) (L .feeds p w)) (λ v z. ap (λ (q : Plain). q .copy v) (L .feeds p w)))
-      (ap (λ (q : Plain). q .copy w) (L .feeds p w)) st (end-shut now w h o p (I .linear) a k K))
+      (ap (λ (q : Plain). q .copy w) (L .feeds p w)) (λ i. ap (λ (q : Plain). q .kept i) (L .feeds p w)) st
+      (end-shut now w h o p (I .linear) a k K))
 
   module _ (g : Goal) (c : ℕ) (e : workerAt s w .doing ≡ ReadStand g c) where
     abbrev r : ℕ
@@ -561,25 +605,47 @@ module _ (now : ℕ) (s : Store) (olds : List (List ℕ)) (h : List Call) (o : L
     abbrev v : Reading
     v = slotAt s c .value
 
-    -- the copy has the value that is found
-    found-in : slotAt s c .low ≤ t → (f : ℕ → Reading) → p .copy w ≡ some f → v ≡ f r
-    found-in z f q =
-        let d = doing-is (ReadStand g c) e in
-        let i : d .2 .0 ≡ f = some-inj (sym (d .2 .1) ∙ q) in
-        On-found (s .slots) t c (d .2 .0 r) (chain x r) (d .2 .2) z ∙ ap (λ (q : ℕ → Reading). q r) i
+    abbrev t′ : ℕ
+    t′ = timeIn x t (g .purpose)
 
-    pub found-kept : slotAt s c .low ≤ t → g .purpose ≡ Single
+    settled : Settled x t
+    settled = sourced-settled x x t (g .purpose) (doing-is (ReadStand g c) e .1)
+
+    -- the copy has the value that is found
+    found-in : slotAt s c .low ≤ t′ → (f : ℕ → Reading) → copyFor p w (g .purpose) ≡ some f → v ≡ f r
+    found-in z f q =
+        let d = doing-is (ReadStand g c) e .2 in
+        let i : d .1 ≡ f = some-inj (sym (d .2) ∙ q) in
+        On-found (s .slots) t′ c (d .1 r) (chain x r) (d .3) z ∙ ap (λ (q : ℕ → Reading). q r) i
+
+    -- a read, or a marked read
+    single-kept : slotAt s c .low ≤ t′ → (o′ : Operation) → Looks o′
+        → ((k : ℕ) → Serves (callAt h k .operation) r (g .purpose) → callAt h k .operation ≡ o′)
+        → ((f : ℕ → Reading) → copyFor p w (g .purpose) ≡ some f → shows rows p w o′ ≡ some (answerFor (f r)))
+        → Kept now (to Idle) (map (endFor now w (answerFor v)) h) (o ++ endEffects h w (answerFor v))
+    single-kept z o′ L is sh =
+        let a = cur-is (ReadStand g c) e in
+        let d = doing-is (ReadStand g c) e .2 in
+        let i = is (a .0) (a .2 .0) in
+        shown-kept (ReadStand g c) e tt (λ i. refl) settled (a .0) (a .1) (a .2 .1) (subst Looks (sym i) L)
+        (answerFor v) (answerFor-tells v)
+        (rw i (sh (d .1) (d .2) ∙ ap (λ (q : Reading). some (answerFor q)) (sym (found-in z (d .1) (d .2)))))
+
+    pub found-kept : slotAt s c .low ≤ t′ → g .purpose ≡ Single
         → Kept now (to Idle) (map (endFor now w (answerFor v)) h) (o ++ endEffects h w (answerFor v))
     unfolding shows inCopy
     found-kept z single =
-        let a = cur-is (ReadStand g c) e in
-        let d = doing-is (ReadStand g c) e in
-        let i : callAt h (a .0) .operation ≡ Read r = subst (Serves (callAt h (a .0) .operation) r) single (a .2 .0) in
-        shown-kept (ReadStand g c) e tt (λ i. refl) (inr (d .1)) (a .0) (a .1) (a .2 .1) (subst Looks (sym i) (looks-read r))
-        (answerFor v) (answerFor-tells v)
-        (rw (i, d .2 .1) (ap (λ (q : Reading). some (answerFor q)) (sym (found-in z (d .2 .0) (d .2 .1)))))
+        single-kept z (Read r) (looks-read r) (λ k q. subst (Serves (callAt h k .operation) r) single q)
+        (λ f q. ap (λ (i : Option (ℕ → Reading)). inCopy i (λ f. answerFor (f r))) (sym (ap (copyFor p w) single) ∙ q))
 
-    module _ (j i : ℕ) (y : Sum) (total : g .purpose ≡ Totaling j i y) (z : slotAt s c .low ≤ t) where
+    pub found-marked : slotAt s c .low ≤ t′ → (m : ℕ) → g .purpose ≡ Marked m
+        → Kept now (to Idle) (map (endFor now w (answerFor v)) h) (o ++ endEffects h w (answerFor v))
+    unfolding shows inCopy
+    found-marked z m marked =
+        single-kept z (MarkedRead r m) (looks-marked r m) (λ k q. subst (Serves (callAt h k .operation) r) marked q)
+        (λ f q. ap (λ (i : Option (ℕ → Reading)). inCopy i (λ f. answerFor (f r))) (sym (ap (copyFor p w) marked) ∙ q))
+
+    module _ (j i : ℕ) (y : Sum) (total : g .purpose ≡ Totaling j i y) (z : slotAt s c .low ≤ t′) where
       abbrev more : Sum
       more = addRow y (rowAt rows i) (v .count)
 
@@ -588,9 +654,6 @@ module _ (now : ℕ) (s : Store) (olds : List (List ℕ)) (h : List Call) (o : L
           let a = cur-is (ReadStand g c) e in
           (a .0, a .1, subst (Serves (callAt h (a .0) .operation) r) total (a .2 .0), a .2 .1)
 
-      settled : Settled x t
-      settled = inr (doing-is (ReadStand g c) e .1)
-
       so-far : Summed rows p w r (Totaling j i y)
       so-far = subst (Summed rows p w r) total (doing-is (ReadStand g c) e .3)
 
@@ -598,7 +661,7 @@ module _ (now : ℕ) (s : Store) (olds : List (List ℕ)) (h : List Call) (o : L
       more-is : more ≡ sumOver (so-far .4 .0) (ofGroup j (take (i + 1) rows))
       more-is =
           let f = so-far .4 .0 in
-          let q : v ≡ f (registerOf (rowAt rows i)) = found-in z f (so-far .4 .1) ∙ ap f (so-far .1) in
+          let q : v ≡ f (registerOf (rowAt rows i)) = found-in z f (ap (copyFor p w) total ∙ so-far .4 .1) ∙ ap f (so-far .1) in
           ap (λ (k : Reading). addRow y (rowAt rows i) (k .count)) q
           ∙ ap (λ (k : Sum). addRow k (rowAt rows i) (f (registerOf (rowAt rows i)) .count)) (so-far .4 .2)
           ∙ sym (sum-next f (ofGroup j (take i rows)) (rowAt rows i))
@@ -625,9 +688,9 @@ module _ (now : ℕ) (s : Store) (olds : List (List ℕ)) (h : List Call) (o : L
           let k = goes rows j i n in
           let own : length (ofGroup j (take (i + 1) rows)) ≡ length (ofGroup j (take i rows)) + 1 =
           ap length (own-next j rows i (so-far .0) (so-far .2)) ∙ length-append (ofGroup j (take i rows)) (rowAt rows i ∷ []) in
-          place-inv (ReadStand g c) (ReadEnter (goalAt rows j (i + 1) more)) e (λ i. refl) (calm (ReadStand g c) tt e) h o p skip refl (
+          place-inv (ReadStand g c) (ReadEnter (goalAt rows j (i + 1) more)) e (λ i. refl) (calm (ReadStand g c) tt e) h o p skip refl (λ i. refl) (
             register-fits (i + 1) (k .0),
-            doing-is (ReadStand g c) e .1,
+            subst (Sourced (s .clock) t) total (doing-is (ReadStand g c) e .1),
             (
               k .0,
               refl,
@@ -638,10 +701,14 @@ module _ (now : ℕ) (s : Store) (olds : List (List ℕ)) (h : List Call) (o : L
           )
           (call .0, call .1, (call .2, call .3))
 
-    pub on-kept : t < slotAt s c .low → Kept now (to (ReadStand g (slotAt s c .older))) h o
+    pub on-kept : t′ < slotAt s c .low → Kept now (to (ReadStand g (slotAt s c .older))) h o
     on-kept z =
         let a = cur-is (ReadStand g c) e in
         let d = doing-is (ReadStand g c) e in
-        place-inv (ReadStand g c) (ReadStand g (slotAt s c .older)) e (λ i. refl) (calm (ReadStand g c) tt e) h o p skip refl
-        (d .0, d .1, (d .2 .0, d .2 .1, On-on (s .slots) absent t c (d .2 .0 r) (chain x r) (I .linked r (d .0)) (d .2 .2) z), d .3)
+        place-inv (ReadStand g c) (ReadStand g (slotAt s c .older)) e (λ i. refl) (calm (ReadStand g c) tt e) h o p skip refl (λ i. refl) (
+          d .0,
+          d .1,
+          (d .2 .0, d .2 .1, d .2 .2, On-on (s .slots) absent t′ c (d .2 .1 r) (chain x r) (I .linked r (d .0)) (d .2 .3) z),
+          d .3,
+        )
         (a .0, a .1, a .2)

@@ -1,13 +1,14 @@
 -- Every hub that records leave after an accepted setup satisfies the invariant and the bounds, and its pools are sorted by high, by induction over
 -- the records; and what specs/Reached.antt and specs/Figure.antt claim of such a hub follows.
 use mathlib.Core.Path.{_≡_, refl, sym, ap, _∙_, subst}
+use mathlib.Core.Logic.{inl, inr, ⊎-elim}
 use mathlib.Core.List.{List, [], _∷_, _++_}
 use Prim.Native.Nat.{ℕ, zero, suc, _+_, _*_, _≤_, _<_}
 use native.Mathlib.Omega.{arith}
 use lib.Dec.{ltb, leb, eqb}
 use lib.ListN.{length, getD, take, replicate, length-append}
 use borrow.Author.Tests as Tests
-use Rattle.model.specs.Store.{absent, lastClock, Reading, Slot, Range, OpenAnnounce, OpenPass, CloseWithdraw, Purpose, Single, Totaling, Doing, Idle, PutPublish, PutStamp, PutHandIn, FlushTake, FlushRead, FlushFree, OnTime, ReadEnter, ReadStand, GetShow, startWorker, Site, Store, Hub, blank, up, workerAt, slotAt, place}
+use Rattle.model.specs.Store.{absent, lastClock, Reading, Slot, Range, OpenAnnounce, OpenPass, CloseWithdraw, Purpose, Single, Marked, Totaling, Doing, Idle, PutPublish, PutStamp, PutHandIn, FlushTake, FlushRead, FlushFree, OnTime, ReadEnter, ReadStand, GetShow, startWorker, Site, Store, Hub, blank, up, workerAt, slotAt, place}
 use Rattle.model.specs.Totals.{rowAt, ofGroup}
 use Rattle.model.specs.About.{about}
 use Rattle.model.specs.Rules.{Rules, Allowed, Ruled}
@@ -17,7 +18,7 @@ use Rattle.model.specs.Steps.{putPublish, putStamp, putHandIn, flushTake
 use Rattle.model.specs.Record.{SetUp, Begin, Step, Decoded, Asks, Refuses, decode, rowsOf}
 use Rattle.model.specs.Apply.{refuse, fresh, setUp, terms, step, obey, applyDecoded, apply, applyRuled}
 use Rattle.model.specs.Demand.{Call, Plain, plain₀, events, observe, effects, All}
-use Rattle.model.specs.Reached.{sumBy, inHand, TotalFits, Bounds, SoundHub, Throughout, Sound}
+use Rattle.model.specs.Reached.{sumBy, inHand, TotalFits, TimesFit, Bounds, SoundHub, Throughout, Sound}
 use Rattle.model.specs.Figure.{HandByHigh, WorkerByHigh, StoreByHigh, FigureHub, AsPublished}
 use Rattle.model.proofs.Basic.{cond-both, All-from, All-map, All-nth, up-inj}
 use Rattle.model.proofs.Begin.{begin-by}
@@ -210,6 +211,7 @@ module _ (b : ℕ) where
 module _ {now : ℕ} {s : Store} {olds : List (List ℕ)} {h : List Call} {o : List ℕ} {p : Plain} (I : Inv now s olds h o p) where
   summed-fits : (w r : ℕ) (y : Purpose) → Summed (s .site .rows) p w r y → TotalFits (s .site .rows) y
   summed-fits w r Single a = tt
+  summed-fits w r (Marked m) a = tt
   summed-fits w r (Totaling g i y) a =
       let own = ap length (own-next g (s .site .rows) i (a .0) (a .2))
       ∙ length-append (ofGroup g (take i (s .site .rows))) (rowAt (s .site .rows) i ∷ []) in (
@@ -231,6 +233,19 @@ module _ {now : ℕ} {s : Store} {olds : List (List ℕ)} {h : List Call} {o : L
   place-fits w t (ReadStand g c) a = summed-fits w (g .register) (g .purpose) (a .3)
   place-fits w t (GetShow r) a = tt
 
+  times-fit : (w t : ℕ) (d : Doing) → PlaceHolds (ctx s olds) p w t d → TimesFit s (about d .hand)
+  times-fit w t Idle a = tt
+  times-fit w t (PutPublish r x) a = tt
+  times-fit w t (PutStamp r c) a = tt
+  times-fit w t (PutHandIn r c) a = tt
+  times-fit w t FlushTake a = tt
+  times-fit w t (FlushRead m ts) a = ⊎-elim (λ u. inl (omega (arith, u))) inr (a .2)
+  times-fit w t (FlushFree m) a = tt
+  times-fit w t (OnTime y) a = tt
+  times-fit w t (ReadEnter g) a = tt
+  times-fit w t (ReadStand g c) a = tt
+  times-fit w t (GetShow r) a = tt
+
 pub bounds : {rules : Rules} (s : Store) → Reached rules s → Bounds s
 bounds s R =
     record {
@@ -242,6 +257,11 @@ bounds s R =
       local = All-map (λ x a. fit-local (s .site .B) (length (x .pool)) (x .doing) a .0) (s .workers) (R .within .workers);
       merged = All-map (λ x a. fit-local (s .site .B) (length (x .pool)) (x .doing) a .1) (s .workers) (R .within .workers);
       queued = R .within .pools;
+      times =
+          All-from (λ x. TimesFit s (about (x .doing) .hand)) startWorker (s .workers)
+          (λ w b. times-fit (R .inv) w (workerAt s w .announced) (workerAt s w .doing)
+          (R .inv .workers w (omega (arith, b, R .inv .workersLength)) .doing));
+      marks = (R .inv .marksLength, λ m b. ⊎-elim (λ u. inl (u .0)) (λ u. inr (u .0)) (R .inv .marks m b));
       total = total (R .inv);
       pools = omega (arith, total (R .inv), pools-few (s .site .B) (s .queue) (R .within .pools));
       rows = (R .inv .rowsFit, omega (arith, few-rows (s .site .V') 0 0 (s .site .rows) (R .inv .rowsFit) (omega arith) (omega arith)));

@@ -62,7 +62,7 @@ module _ (now : ℕ) (s : Store) (olds : List (List ℕ)) (h : List Call) (o : L
         kept =
             none-more o [] refl
             (begin-kept now s olds h o p I w (Tests.ltb-true w (s .site .P) (t .worker)) c (idle-is (workerAt s w .doing) (t .idle))
-            (t .register) (t .group) (t .opens) (t .time));
+            (t .named) (t .group) (t .opens) (t .time));
         safe = λ i z. absurd (subst NotFreed z tt);
         frees = λ i z. absurd (subst NotFreed z tt);
         stays = λ i z. inl z;

@@ -1,22 +1,23 @@
 -- Demand 1 of the definitions: by cases on what a record reads as and on the worker's place.
-use mathlib.Core.Path.{_≡_, refl}
+use mathlib.Core.Path.{_≡_, refl, subst}
 use mathlib.Core.Bool.{Bool, true, false, cond, not, _&&_}
 use mathlib.Core.List.{List, [], _∷_, _++_}
 use Prim.Native.Nat.{ℕ, _<_}
 use native.Mathlib.Omega.{arith}
 use lib.Dec.{ltb, leb, eqb}
 use lib.ListN.{length, getD}
-use Rattle.model.specs.Store.{lastClock, Reading, Slot, Range, OpenAnnounce, OpenPass, CloseWithdraw, Doing, Idle, PutPublish, PutStamp, PutHandIn, FlushTake, FlushRead, FlushFree, OnTime, ReadEnter, ReadStand, GetShow, Store, Hub, blank, up, workerAt, slotAt, holders, rangeOf, withWorker, place}
+use Rattle.model.specs.Store.{lastClock, Reading, Slot, Range, OpenAnnounce, OpenPass, CloseWithdraw, MarkKeep, MarkRelease, Doing, Idle, PutPublish, PutStamp, PutHandIn, FlushTake, FlushRead, FlushFree, OnTime, ReadEnter, ReadStand, GetShow, Store, Hub, blank, up, workerAt, slotAt, rangeOf, withWorker, place}
+use Rattle.model.specs.Marks.{MarkNeed, EmptyMark, UnreadMark, markRefusal, needFor, timeFor}
 use Rattle.model.specs.Rules.{Rules}
 use Rattle.model.specs.Answer.{Going, Done, No, Stepped, Applied}
-use Rattle.model.specs.Steps.{putPublish, putStamp, putHandIn, flushTake, flushSplit, flushRead, flushFree, openAnnounce, openPass, answerFor, readEnter, readStand, getShow, closeWithdraw, timeStep, stepAt}
+use Rattle.model.specs.Steps.{putPublish, putStamp, putHandIn, flushTake, flushSplit, flushRead, flushFree, openAnnounce, openPass, answerFor, stoppedBy, readEnter, readStand, getShow, closeWithdraw, markKeep, markRelease, timeStep, stepAt}
 use Rattle.model.specs.Record.{Operation, Sizes, SetUp, Begin, Step, Decoded, Asks, Refuses, decode, commandOf, unusedZero, listFits}
 use Rattle.model.specs.Apply.{inRanges, setUp, isIdle, begin, step, takesStep, obey, applyDecoded, apply}
 use Rattle.model.specs.Demand.{occurrences}
 use Rattle.model.specs.Refusals.{onReading, atStep, idled, Refused, EndsWell, Demand1}
 use Rattle.model.proofs.Basic.{cond-both}
-use Rattle.model.proofs.Begin.{begin-by}
-use Rattle.model.proofs.Found.{found-by}
+use Rattle.model.proofs.Begin.{OfMarks, of-marks, begin-by}
+use Rattle.model.proofs.Found.{found-by, stopped-by}
 
 -- a refusal on reading
 on-reading : (h : Hub) (d : Decoded) (k : ℕ) → takesStep h d ≡ false → 0 < occurrences k onReading → Refused h d k h
@@ -59,24 +60,30 @@ module _ (s : Store) (w : ℕ) (wb : ltb w (s .site .P) ≡ true) where
   free-well [] = tt
   free-well (ρ ∷ m) = tt
 
+  mark-well : (y : MarkNeed) (next : Stepped) → takesStep (up s) (Asks (Step w)) ≡ true → Well next → Well (stoppedBy (markRefusal s y) s w next)
+  mark-well y next e a =
+      stopped-by Well (markRefusal s y) s w next (λ k u. at-step k e (subst OfMarks u (of-marks s y) .1)) (λ u. a)
+
   step-well : (d : Doing) → workerAt s w .doing ≡ d → Well (stepAt s w d)
-  unfolding stepAt timeStep putStamp flushTake flushRead flushSplit openAnnounce openPass readEnter readStand getShow closeWithdraw answerFor occurrences
+  unfolding stepAt timeStep putStamp flushTake flushRead flushSplit openAnnounce openPass readEnter readStand getShow closeWithdraw markKeep markRelease answerFor occurrences
   step-well Idle e = on-reading (up s) (Asks (Step w)) 11 (takes Idle e) (omega arith)
   step-well (PutPublish r x) e = put-well r x (takes (PutPublish r x) e) (s .free)
   step-well (PutStamp r c) e = tt
   step-well (PutHandIn r c) e = hand-well c
   step-well FlushTake e = tt
-  step-well (FlushRead m ts) e = cond-both Well (ltb (length ts) (holders s)) _ _ (λ u. tt) (λ u. tt)
+  step-well (FlushRead m ts) e = cond-both Well (leb (length ts) (s .site .P)) _ _ (λ u. tt) (λ u. tt)
   step-well (FlushFree m) e = free-well m
   step-well (OnTime OpenAnnounce) e =
       cond-both Well (eqb (s .clock) lastClock) _ _ (λ u. at-step 15 (takes (OnTime OpenAnnounce) e) (omega arith)) (λ u. tt)
   step-well (OnTime OpenPass) e = tt
-  step-well (ReadEnter g) e = tt
+  step-well (ReadEnter g) e = mark-well (needFor (g .purpose)) _ (takes (ReadEnter g) e) tt
   step-well (ReadStand g c) e =
-      cond-both Well (leb (slotAt s c .low) (workerAt s w .announced)) _ _
+      cond-both Well (leb (slotAt s c .low) (timeFor (s .marks) (workerAt s w .announced) (g .purpose))) _ _
       (λ u. found-by Well s w (g .purpose) (slotAt s c .value) (λ a T. rw (T .refusal) tt) (at-step 18 (takes (ReadStand g c) e) (omega arith)) (λ g′. tt))
       (λ u. tt)
   step-well (OnTime CloseWithdraw) e = tt
+  step-well (OnTime (MarkKeep m)) e = mark-well (EmptyMark m) _ (takes (OnTime (MarkKeep m)) e) tt
+  step-well (OnTime (MarkRelease m)) e = mark-well (UnreadMark m) _ (takes (OnTime (MarkRelease m)) e) tt
   step-well (GetShow r) e = tt
 
 ------------------------------------------------------------------------
@@ -105,7 +112,7 @@ decode-read : (b : List ℕ) → Read (decode b)
 unfolding decode occurrences
 decode-read b =
     cond-both Read (ltb (length b) 16) (Refuses 6) _ (λ e. refusal 6 (omega arith))
-    (λ e. cond-both Read (ltb 8 (getD b 0 0)) (Refuses 1) _ (λ f. refusal 1 (omega arith))
+    (λ e. cond-both Read (ltb 11 (getD b 0 0)) (Refuses 1) _ (λ f. refusal 1 (omega arith))
     (λ f. cond-both Read (unusedZero b (commandOf b (getD b 0 0))) (Asks (commandOf b (getD b 0 0))) (Refuses 2) (λ g. tt)
     (λ g. refusal 2 (omega arith))))
   where

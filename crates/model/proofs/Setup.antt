@@ -10,13 +10,13 @@ use lib.Dec.{ltb, leb, eqb}
 use lib.Seq.{length-take-le}
 use lib.ListN.{length, getD, take, replicate, length-replicate, getD-replicate}
 use borrow.Author.Tests as Tests
-use Rattle.model.specs.Store.{absent, lastClock, reading₀, Slot, startWorker, Hub, blank, up, upFrom}
+use Rattle.model.specs.Store.{absent, markCount, lastClock, reading₀, Slot, startWorker, Hub, blank, up, upFrom}
 use Rattle.model.specs.Rules.{Rules}
 use Rattle.model.specs.Answer.{Ok, Applied}
 use Rattle.model.specs.Totals.{follow}
 use Rattle.model.specs.Record.{Sizes, SetUp, Begin, Step, Decoded, Asks, Refuses, decode, rowsOf, listFits}
 use Rattle.model.specs.Apply.{refuse, inRanges, firstSlots, fresh, setUp, obey, applyDecoded, apply}
-use Rattle.model.specs.Demand.{plain₀, occurrences, Ordered, RegistersAgree}
+use Rattle.model.specs.Demand.{plain₀, occurrences, Ordered, ByEnds, RegistersAgree}
 use Rattle.model.specs.Reached.{sumBy}
 use Rattle.model.proofs.Basic.{hit-eq, hit-other, lt-cases, eq-cases, cond-both, and-both}
 use Rattle.model.proofs.Linear.{Lin, after}
@@ -108,6 +108,7 @@ module _ (size : ℕ) (z : Sizes) (rows : List ℕ) (row : List Slot) (rf : foll
         newestLength = up-length 0 v;
         slotsLength = first-length v (take n row) ∙ length-take-le n row long;
         oldsLength = length-replicate v [];
+        marksLength = refl;
         slotsFew = omega arith;
         clockFits = c<;
         freeAlone = λ i z. alone i z (lt-cases i v) (lt-cases i n);
@@ -130,6 +131,7 @@ module _ (size : ℕ) (z : Sizes) (rows : List ℕ) (row : List Slot) (rf : foll
               current = λ i z. absurd
                   (not-suc-le-zero z);
             });
+        marks = λ m b. inl (getD-replicate markCount m absent absent b, refl);
         stamper =
             λ r b z. absurd (omega (
               arith,
@@ -202,9 +204,11 @@ module _ (size : ℕ) (z : Sizes) (rows : List ℕ) (row : List Slot) (rf : foll
                   stands = λ i z. absurd
                       (not-suc-le-zero z);
                   ordered = unfold Ordered in tt;
+                  byEnds = unfold ByEnds in tt;
                   registersAgree = unfold RegistersAgree in tt;
                 };
             early = λ i z. absurd (not-suc-le-zero z);
+            past = λ i z. absurd (not-suc-le-zero z);
             come = unfold after in refl;
           }
 

@@ -8,19 +8,19 @@ use native.Mathlib.Omega.{arith}
 use lib.Dec.{eqb}
 use lib.ListN.{length}
 use borrow.Author.Tests as Tests
-use Rattle.model.specs.Store.{absent, Reading, Slot, Range, Doing, PutStamp, startWorker, Store, workerAt, newestOf, withSlots}
+use Rattle.model.specs.Store.{absent, markCount, Reading, Slot, Range, Doing, PutStamp, startWorker, Store, workerAt, newestOf, markAt, withSlots}
 use Rattle.model.specs.Versions.{stampSlots, stamp}
 use Rattle.model.specs.Record.{Operation, Put}
-use Rattle.model.specs.Demand.{Call, Plain, update, feed, runningOf, changeEffects, occurrences, callAt}
+use Rattle.model.specs.Demand.{Call, Plain, update, feed, runningOf, changeEffects, atEnd, occurrences, callAt}
 use Rattle.model.proofs.Basic.{hit, hit-same, hit-eq, hit-other, eq-cases, All-map, All-get, All-occurrences, occurrences-snoc}
 use Rattle.model.proofs.Effect.{running-is, change-none, below-one, takes, takes-same, takes-self}
 use Rattle.model.proofs.Linear.{Lin, lin-effect}
 use Rattle.model.proofs.Slots.{nth, stamp-not, stamp-length, stamp-value, stamp-older, stamp-newer, stamp-low-other, stamp-low-own, stamp-high-other, stamp-high-own}
 use Rattle.model.proofs.Chain.{Linked-same, Sees-mono, On-mono, Fine, Past, Next, headOr}
 use Rattle.model.proofs.Count.{cnt, sumBy-two}
-use Rattle.model.proofs.Invariant.{Ctx, ctx, top, old, chain, inDoing, pendW, Good, PlaceHolds, Running, Current, Works, Inv}
+use Rattle.model.proofs.Invariant.{Ctx, ctx, top, old, chain, inDoing, pendW, Good, MarkHolds, PlaceHolds, Running, Current, Works, Inv}
 use Rattle.model.proofs.Apart.{below≤1, chain-once, chain-in, chain-apart}
-use Rattle.model.proofs.Transport.{Moves, doing-map, fits-map, current-map, Covers, Fine-same}
+use Rattle.model.proofs.Transport.{stays, Moves, same-copy, doing-map, fits-map, current-map, Covers, Fine-same}
 
 pub put-at-same {ℓ} : {A : Type ℓ} (f : ℕ → A) (i : ℕ) (y : A) → update f i y i ≡ y
 put-at-same f i y = rw (Tests.eq-eqb i i refl)
@@ -107,7 +107,7 @@ module _ (now : ℕ) (s : Store) (olds : List (List ℕ)) (h : List Call) (o : L
     o′ = o ++ (k ∷ [])
 
     abbrev p′ : Plain
-    p′ = record { registers = update (p .registers) r y; copy = p .copy }
+    p′ = record { registers = update (p .registers) r y; copy = p .copy; kept = p .kept }
 
     next : Next sl ck (p .registers r) (old x r)
     next = ⊎-elim (λ u. absurd (omega (arith, u .0, e, I .clockFits))) (λ u. u .1) (I .stamps r b .1)
@@ -170,10 +170,10 @@ module _ (now : ℕ) (s : Store) (olds : List (List ℕ)) (h : List Call) (o : L
     )
 
     lin : Lin (s .site .rows) now h o′ p′
-    unfolding feed
+    unfolding feed atEnd
     lin =
         subst (λ (q : Plain). Lin (s .site .rows) now h o′ q) (ap (λ (q : Operation). feed p (callAt h k .worker) q) kCall)
-        (lin-effect (I .linear) k (kOpen .within) (kOpen .unfinished) kNot)
+        (lin-effect (I .linear) k (kOpen .within) (kOpen .unfinished) kNot (ap atEnd kCall))
 
     fine-own : Fine sl′ ck (p′ .registers r) (chain x r)
     unfolding occurrences
@@ -213,10 +213,11 @@ module _ (now : ℕ) (s : Store) (olds : List (List ℕ)) (h : List Call) (o : L
           nhd = refl;
           sameRows = refl;
           good = λ ρ z. good ρ;
-          times′ = λ v z. inl refl;
+          times′ = λ v z. stays x x′ v refl;
           mem = λ q i z u v. v;
           highs = λ i z. high≤ i;
-          on = λ g i a z u v. On-mono sl sl′ t i a (chain x (g .register)) (λ j _. mono t u j);
+          source = λ g i e. refl;
+          on = λ g i y a z u v. On-mono sl sl′ a i y (chain x (g .register)) (λ j _. mono a u j);
         }
 
     -- no other put covers c
@@ -252,7 +253,8 @@ module _ (now : ℕ) (s : Store) (olds : List (List ℕ)) (h : List Call) (o : L
                     (λ j _. mono (workerAt s v .announced) z j) (q .2 i d),
               );
           doing =
-              doing-map x x′ p p′ v (workerAt s v .announced) refl (workerAt s v .doing) (moves (workerAt s v .announced) (workerAt s v .doing))
+              doing-map x x′ p p′ v (workerAt s v .announced) refl (workerAt s v .doing)
+              (λ g i e. same-copy p p′ v refl (λ m. refl) (g .purpose)) (moves (workerAt s v .announced) (workerAt s v .doing))
               (Z .doing);
           current =
               ⊎-elim (λ u. subst (λ (i : ℕ). Current x′ h o′ i (workerAt s i .announced) (workerAt s i .doing)) (sym (u .0)) own) other
@@ -282,6 +284,12 @@ module _ (now : ℕ) (s : Store) (olds : List (List ℕ)) (h : List Call) (o : L
                   (workerAt s v .doing) (covers v vb (u .0)) f,
             ))
             (Z .current)
+
+    marks : (m : ℕ) → m < markCount → MarkHolds x′ p′ m
+    marks m z =
+        ⊎-elim inl
+        (λ u. inr (u .0, u .1, u .2, λ i d. Sees-mono sl sl′ (markAt s m) (u .1 i) (chain x i) (λ j _. mono (markAt s m) (u .0) j) (u .3 i d)))
+        (I .marks m z)
 
     owner : (q : ℕ) → q < s .site .V' → nth sl′ (newestOf s q) .low ≡ absent
         → (v : ℕ) × (v < s .site .P) × (i : ℕ) × (workerAt s v .doing ≡ PutStamp q i) × (nth sl′ i .high ≡ absent)
@@ -329,6 +337,7 @@ module _ (now : ℕ) (s : Store) (olds : List (List ℕ)) (h : List Call) (o : L
                 newestLength = I .newestLength;
                 slotsLength = stamp-length sl n ck ∙ I .slotsLength;
                 oldsLength = I .oldsLength;
+                marksLength = I .marksLength;
                 slotsFew = I .slotsFew;
                 clockFits = I .clockFits;
                 freeAlone = λ i z. (stamp-older sl n ck i ∙ I .freeAlone i z .0, stamp-newer sl n ck i ∙ I .freeAlone i z .1);
@@ -338,6 +347,7 @@ module _ (now : ℕ) (s : Store) (olds : List (List ℕ)) (h : List Call) (o : L
                 stamps = fine;
                 queue = All-map (λ l. All-map good l) (s .queue) (I .queue);
                 workers = works;
+                marks = marks;
                 stamper = owner;
                 outside = I .outside;
                 linear = lin;

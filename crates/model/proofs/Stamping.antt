@@ -3,11 +3,12 @@ use mathlib.Core.Path.{_≡_, refl, sym, ap, _∙_, subst}
 use mathlib.Core.Bool.{cond}
 use mathlib.Core.Logic.{_≢_, inl, ⊎-elim}
 use mathlib.Core.List.{List, [], _∷_, _++_, map, append-assoc}
-use mathlib.Core.Option.{some}
+use mathlib.Core.Option.{none, some}
 use Prim.Native.Nat.{ℕ, _≤_, _<_}
 use native.Mathlib.Omega.{arith}
 use lib.Dec.{eqb}
-use Rattle.model.specs.Store.{absent, Reading, Idle, PutStamp, PutHandIn, Goal, ReadEnter, ReadStand, GetShow, Store, workerAt, slotAt, newestOf, place}
+use Rattle.model.specs.Store.{absent, Reading, Purpose, Single, Marked, Totaling, Idle, PutStamp, PutHandIn, Goal, ReadEnter, ReadStand, GetShow, Store, workerAt, slotAt, newestOf, place}
+use Rattle.model.specs.Marks.{markRefusal, needFor}
 use Rattle.model.specs.Versions.{stamp}
 use Rattle.model.specs.Steps.{answerFor}
 use Rattle.model.specs.Record.{Operation}
@@ -17,7 +18,8 @@ use Rattle.model.proofs.Effect.{own-is, change-none}
 use Rattle.model.proofs.Found.{answerFor-tells}
 use Rattle.model.proofs.Slots.{nth, stamp-value}
 use Rattle.model.proofs.Chain.{Past}
-use Rattle.model.proofs.Invariant.{ctx, old, Snap, PlaceHolds, Inv}
+use Rattle.model.proofs.Invariant.{ctx, old, PlaceHolds, Inv}
+use Rattle.model.proofs.Marking.{Source, source}
 use Rattle.model.proofs.Stamp.{Stamped, stamp-inv}
 use Rattle.model.proofs.History.{hist-skip, hist-show, end-shut}
 use Rattle.model.proofs.Places.{Kept, none-more, one-more, place-inv, doing-is, cur-is, calm, fine-high, Looks, looks-get, shown-kept}
@@ -30,7 +32,7 @@ cover-on now s olds h o p I w wb r c e hi =
     let a = cur-is now s olds h o p I w wb (PutStamp r c) e in
     place-inv now s olds h o p I w wb (PutStamp r c) (PutHandIn r c) e (λ i. refl)
     (λ q i z y. let j : i ≡ c = cc in omega (arith, hi, I .clockFits, y, ap (λ (k : ℕ). nth (s .slots) k .high) j))
-    h o p (hist-skip now w h o p (I .linear)) refl
+    h o p (hist-skip now w h o p (I .linear)) refl (λ m. refl)
     (d .0, d .1, d .2, hi)
     (a .0, a .1, ((r, a .2 .0, a .2 .1), ⊎-elim (λ u. absurd (omega (arith, u .0, hi, I .clockFits))) (λ u. u .1) (a .2 .2)))
 
@@ -61,16 +63,16 @@ module _ (now : ℕ) (s : Store) (olds : List (List ℕ)) (h : List Call) (o : L
           (cover-on now s olds h o p I w wb r c e (fine-high (s .slots) (s .clock) (p .registers r) (newestOf s r) c (old (ctx s olds) r)
           (I .stamps r (d .0)) (d .2) n))
 
-  pub enter-kept : (g : Goal) → workerAt s w .doing ≡ ReadEnter g
+  pub enter-kept : (g : Goal) → workerAt s w .doing ≡ ReadEnter g → markRefusal s (needFor (g .purpose)) ≡ none
       → Kept now (place (stamp s (g .register)) w (ReadStand g (newestOf s (g .register)))) h (o ++ changeEffects h s (stamp s (g .register)))
   unfolding stamp
-  enter-kept g e =
+  enter-kept g e q =
       let a = cur-is now (stamp s r) olds h (T .o) (T .p) (T .inv) w wb (ReadEnter g) e in
       subst (Kept now (place (stamp s r) w (ReadStand g (newestOf s r))) h) (T .grown)
       (place-inv now (stamp s r) olds h (T .o) (T .p) (T .inv) w wb (ReadEnter g) (ReadStand g (newestOf s r)) e (λ i. refl)
       (calm now (stamp s r) olds h (T .o) (T .p) (T .inv) w wb (ReadEnter g) tt e)
-      h (T .o) (T .p) (hist-skip now w h (T .o) (T .p) (T .inv .linear)) refl
-      (d .0, d .1, (S .0, S .1, inl (refl, S .2 r (d .0))), D .2)
+      h (T .o) (T .p) (hist-skip now w h (T .o) (T .p) (T .inv .linear)) refl (λ m. refl)
+      (d .0, d .1, (S .0, S .1, S .2, inl (refl, S .3 r (d .0))), D .2)
       (a .0, a .1, a .2))
     where
       r : ℕ
@@ -85,8 +87,14 @@ module _ (now : ℕ) (s : Store) (olds : List (List ℕ)) (h : List Call) (o : L
       D : PlaceHolds (ctx (stamp s r) olds) (T .p) w (workerAt s w .announced) (ReadEnter g)
       D = doing-is now (stamp s r) olds h (T .o) (T .p) (T .inv) w wb (ReadEnter g) e
 
-      S : Snap (ctx (stamp s r) olds) (T .p) w (workerAt s w .announced)
-      S = T .inv .workers w wb .snapshot (d .1)
+      -- stamping moves no mark
+      same-refusal : (y : Purpose) → markRefusal (stamp s r) (needFor y) ≡ markRefusal s (needFor y)
+      same-refusal Single = unfold markRefusal in refl
+      same-refusal (Marked m) = unfold markRefusal in refl
+      same-refusal (Totaling j i k) = unfold markRefusal in refl
+
+      S : Source now (stamp s r) olds h (T .o) (T .p) (T .inv) w wb (g .purpose)
+      S = source now (stamp s r) olds h (T .o) (T .p) (T .inv) w wb (g .purpose) (d .1) (same-refusal (g .purpose) ∙ q)
 
   pub show-kept : (r : ℕ) → workerAt s w .doing ≡ GetShow r
       → Kept now (place (stamp s r) w Idle) (map (endFor now w (answerFor (slotAt s (newestOf s r) .value))) h)

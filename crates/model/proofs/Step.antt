@@ -10,23 +10,26 @@ use lib.Dec.{ltb, leb, eqb}
 use lib.ListN.{length}
 use lib.Seq.{getD-set-same}
 use borrow.Author.Tests as Tests
-use Rattle.model.specs.Store.{absent, Reading, Slot, Range, OpenAnnounce, OpenPass, CloseWithdraw, Purpose, Single, Totaling, Goal, Doing, Idle, PutPublish, PutStamp, PutHandIn, FlushTake, FlushRead, FlushFree, OnTime, ReadEnter, ReadStand, GetShow, Store, workerAt, slotAt, newestOf, holders, rangeOf, withWorker, place, up}
+use Rattle.model.specs.Store.{absent, Reading, Slot, Range, OpenAnnounce, OpenPass, CloseWithdraw, MarkKeep, MarkRelease, Purpose, Single, Marked, Totaling, Goal, Doing, Idle, PutPublish, PutStamp, PutHandIn, FlushTake, FlushRead, FlushFree, OnTime, ReadEnter, ReadStand, GetShow, Store, workerAt, slotAt, newestOf, held, rangeOf, withWorker, place, up}
+use Rattle.model.specs.Marks.{timeFor}
 use Rattle.model.specs.Totals.{goesOn}
 use Rattle.model.specs.Rules.{twelveDigits}
 use Rattle.model.specs.Answer.{Answer, Going, Freed, Done, No, Stepped, said}
 use Rattle.model.specs.Versions.{stamp}
-use Rattle.model.specs.Steps.{putPublish, putStamp, putHandIn, flushTake, flushSplit, flushRead, flushFree, openAnnounce, openPass, answerFor, totalFound, found, readEnter, readStand, getShow, closeWithdraw, timeStep, stepAt}
+use Rattle.model.specs.Steps.{putPublish, putStamp, putHandIn, flushTake, flushSplit, flushRead, flushFree, openAnnounce, openPass, answerFor, totalFound, found, readEnter, readStand, getShow, closeWithdraw, markKeep, markRelease, timeStep, stepAt}
 use Rattle.model.specs.Demand.{Call, endFor, Plain, changeEffects, endEffects, occurrences, FreesNothingNeeded, TookIn}
 use Rattle.model.proofs.Basic.{hit-same, hit-other, eq-cases, cond-both}
 use Rattle.model.proofs.Slots.{nth, link-new, unlink-part}
 use Rattle.model.proofs.Effect.{change-none, change-same}
-use Rattle.model.proofs.Found.{Tells, answerFor-tells, signed-tells}
+use Rattle.model.proofs.Found.{Tells, answerFor-tells, signed-tells, stopped-by}
 use Rattle.model.proofs.Linear.{lin-skip}
-use Rattle.model.proofs.Invariant.{Inv, inDoing, NoneRunning}
+use Rattle.model.proofs.Invariant.{ctx, Settled, Running, Inv, inDoing, NoneRunning}
 use Rattle.model.proofs.History.{ended-none}
 use Rattle.model.proofs.Apart.{below≤1, free-in}
 use Rattle.model.proofs.Stamp.{Stamped, stamp-inv}
-use Rattle.model.proofs.Places.{Kept, none-more, doing-is, cur-is, refuse-put, refuse-open, flush-done, hand-done, hand-full, take-kept, ask-kept, split-kept, announce-kept, withdraw-kept, found-kept, over-kept, total-kept, next-kept, on-kept}
+use Rattle.model.proofs.Places.{Kept, none-more, doing-is, cur-is, Plainly, refuse-kept, refuse-put, refuse-open, flush-done, hand-done, hand-full, take-kept, ask-kept, split-kept, announce-kept, withdraw-kept, found-kept, found-marked, over-kept, total-kept, next-kept, on-kept}
+use Rattle.model.proofs.Transport.{sourced-settled}
+use Rattle.model.proofs.Marking.{keep-kept, release-kept}
 use Rattle.model.proofs.Stamping.{cover-kept, enter-kept, show-kept}
 use Rattle.model.proofs.Link.{link-kept, linked-store, highs, work-f}
 use Rattle.model.proofs.Unlink.{unlink-kept, freed-store, not-needed, c-pend}
@@ -122,6 +125,7 @@ inv-skip now s olds h o p I =
             newestLength = I .newestLength;
             slotsLength = I .slotsLength;
             oldsLength = I .oldsLength;
+            marksLength = I .marksLength;
             slotsFew = I .slotsFew;
             clockFits = I .clockFits;
             freeAlone = I .freeAlone;
@@ -131,6 +135,7 @@ inv-skip now s olds h o p I =
             stamps = I .stamps;
             queue = I .queue;
             workers = I .workers;
+            marks = I .marks;
             stamper = I .stamper;
             outside = I .outside;
             linear = lin-skip (I .linear);
@@ -235,8 +240,8 @@ module _ (now : ℕ) (s : Store) (olds : List (List ℕ)) (h : List Call) (o : L
         safe = λ c z v vb a b d.
             let i : c ≡ ρ .slot = cc in
             not-needed now s olds h o p I w wb ρ l e v vb a
-            (subst (λ (k : ℕ). slotAt s k .low ≤ workerAt s v .announced) i b)
-            (subst (λ (k : ℕ). workerAt s v .announced < slotAt s k .high) i d);
+            (subst (λ (k : ℕ). slotAt s k .low ≤ held s v) i b)
+            (subst (λ (k : ℕ). held s v < slotAt s k .high) i d);
         frees = λ c z.
             let i : ρ .slot ≡ c = cc in
             subst (λ (k : ℕ). (occurrences k (s .free) ≡ 0) × (0 < occurrences k (ρ .slot ∷ s .free))) i (
@@ -246,10 +251,11 @@ module _ (now : ℕ) (s : Store) (olds : List (List ℕ)) (h : List Call) (o : L
         stays = λ c z. inl (omega (arith, z));
       }
 
-  found-after : (g : Goal) (c : ℕ) → workerAt s w .doing ≡ ReadStand g c → slotAt s c .low ≤ workerAt s w .announced
+  found-after : (g : Goal) (c : ℕ) → workerAt s w .doing ≡ ReadStand g c → slotAt s c .low ≤ timeFor (s .marks) (workerAt s w .announced) (g .purpose)
       → (y : Purpose) → g .purpose ≡ y → After now s w h o (found s w y (slotAt s c .value))
   unfolding found totalFound
   found-after g c e z Single q = shows-only s _ (answerFor-tells _) (found-kept now s olds h o p I w wb g c e z q)
+  found-after g c e z (Marked m) q = shows-only s _ (answerFor-tells _) (found-marked now s olds h o p I w wb g c e z m q)
   found-after g c e z (Totaling j i y) q =
       cond-both (After now s w h o) (leb (slotAt s c .value .count) twelveDigits) _ _
       (λ few. cond-both (After now s w h o) (goesOn (s .site .rows) j i) _ _
@@ -258,8 +264,14 @@ module _ (now : ℕ) (s : Store) (olds : List (List ℕ)) (h : List Call) (o : L
       (λ n. shows-only s _ (signed-tells _) (total-kept now s olds h o p I w wb g c e j i y q z n)))
       (λ many. plain s _ (No 18) refl refl (own-refused h w 18) (over-kept now s olds h o p I w wb g c e j i y q z) refl tt)
 
+  -- an operation on a mark is refused
+  stopped : (k : ℕ) (d : Doing) → workerAt s w .doing ≡ d → Plainly now s olds h o p I w wb d → ((c : ℕ) → inDoing c d ≡ 0)
+      → Settled (ctx s olds) (workerAt s w .announced) → ((j : ℕ) × Running h w j × (occurrences j o ≡ 0))
+      → After now s w h o (record { store = place s w Idle; answer = No k })
+  stopped k d e pl n st a = plain s _ (No k) refl refl (own-refused h w k) (refuse-kept now s olds h o p I w wb k d e pl n st a) refl tt
+
   pub step-after : (d : Doing) → workerAt s w .doing ≡ d → After now s w h o (stepAt s w d)
-  unfolding stepAt timeStep putStamp flushTake flushRead flushSplit openAnnounce openPass readEnter readStand getShow closeWithdraw stamp
+  unfolding stepAt timeStep putStamp flushTake flushRead flushSplit openAnnounce openPass readEnter readStand getShow closeWithdraw markKeep markRelease stamp
   step-after Idle e =
       plain s s (No 11) refl refl (own-refused h w 11) (no-step now s olds h o p I w 11 (cur-is now s olds h o p I w wb Idle e)) refl tt
   step-after (PutPublish r y) e = put-after r y e (s .free) refl
@@ -268,21 +280,35 @@ module _ (now : ℕ) (s : Store) (olds : List (List ℕ)) (h : List Call) (o : L
   step-after (PutHandIn r c) e = hand-after r c e
   step-after FlushTake e = plain s _ Going refl refl (own-going h w) (take-kept now s olds h o p I w wb e) refl tt
   step-after (FlushRead m ts) e =
-      cond-both (After now s w h o) (ltb (length ts) (holders s)) _ _
-      (λ u. plain s _ Going refl refl (own-going h w) (ask-kept now s olds h o p I w wb m ts e (Tests.ltb-true (length ts) (holders s) u)) refl tt)
+      cond-both (After now s w h o) (leb (length ts) (s .site .P)) _ _
+      (λ u. plain s _ Going refl refl (own-going h w) (ask-kept now s olds h o p I w wb m ts e (Tests.leb-true (length ts) (s .site .P) u)) refl tt)
       (λ u. plain s _ Going refl refl (own-going h w) (split-kept now s olds h o p I w wb m ts e (s .site .B)
-      (Tests.ltb-false (length ts) (holders s) u)) refl tt)
+      (Tests.leb-false (length ts) (s .site .P) u)) refl tt)
   step-after (FlushFree m) e = give-after m e
   step-after (OnTime OpenAnnounce) e =
       cond-both (After now s w h o) (eqb (s .clock) 4294967295) _ _
       (λ u. plain s _ (No 15) refl refl (own-refused h w 15) (refuse-open now s olds h o p I w wb e) refl tt)
       (λ u. plain s _ Going refl refl (own-going h w) (announce-kept now s olds h o p I w wb e (Tests.eqb-false (s .clock) 4294967295 u)) refl tt)
   step-after (OnTime OpenPass) e = quiet (pass-kept now s olds h o p I w wb e) refl tt
-  step-after (ReadEnter g) e = spreads s _ Going (own-going h w) (enter-kept now s olds h o p I w wb g e) refl tt
+  step-after (ReadEnter g) e =
+      stopped-by (After now s w h o) _ s w _
+      (λ k u. stopped k (ReadEnter g) e tt (λ i. refl) (sourced-settled (ctx s olds) (ctx s olds) _ (g .purpose) (doing-is now s olds h o p I w wb (ReadEnter g) e .1))
+      (let a = cur-is now s olds h o p I w wb (ReadEnter g) e in (a .0, a .1, a .2 .1)))
+      (λ u. spreads s _ Going (own-going h w) (enter-kept now s olds h o p I w wb g e u) refl tt)
   step-after (ReadStand g c) e =
-      cond-both (After now s w h o) (leb (slotAt s c .low) (workerAt s w .announced)) _ _
-      (λ u. found-after g c e (Tests.leb-true (slotAt s c .low) (workerAt s w .announced) u) (g .purpose) refl)
-      (λ u. plain s _ Going refl refl (own-going h w) (on-kept now s olds h o p I w wb g c e
-      (Tests.leb-false (slotAt s c .low) (workerAt s w .announced) u)) refl tt)
+      let a = timeFor (s .marks) (workerAt s w .announced) (g .purpose) in
+      cond-both (After now s w h o) (leb (slotAt s c .low) a) _ _
+      (λ u. found-after g c e (Tests.leb-true (slotAt s c .low) a u) (g .purpose) refl)
+      (λ u. plain s _ Going refl refl (own-going h w) (on-kept now s olds h o p I w wb g c e (Tests.leb-false (slotAt s c .low) a u)) refl tt)
   step-after (OnTime CloseWithdraw) e = ended s _ Done refl refl (withdraw-kept now s olds h o p I w wb e) refl tt
+  step-after (OnTime (MarkKeep m)) e =
+      let d = doing-is now s olds h o p I w wb (OnTime (MarkKeep m)) e in
+      let a = cur-is now s olds h o p I w wb (OnTime (MarkKeep m)) e in
+      stopped-by (After now s w h o) _ s w _ (λ k u. stopped k (OnTime (MarkKeep m)) e tt (λ i. refl) (inr (d .1)) (a .0, a .1, a .2 .1))
+      (λ u. ended s _ Done refl refl (keep-kept now s olds h o p I w wb m e u) refl tt)
+  step-after (OnTime (MarkRelease m)) e =
+      let d = doing-is now s olds h o p I w wb (OnTime (MarkRelease m)) e in
+      let a = cur-is now s olds h o p I w wb (OnTime (MarkRelease m)) e in
+      stopped-by (After now s w h o) _ s w _ (λ k u. stopped k (OnTime (MarkRelease m)) e tt (λ i. refl) (d .1) (a .0, a .1, a .2 .1))
+      (λ u. ended s _ Done refl refl (release-kept now s olds h o p I w wb m e u) refl tt)
   step-after (GetShow r) e = shows-it s _ (answerFor-tells _) (place (stamp s r) w Idle) (show-kept now s olds h o p I w wb r e) refl

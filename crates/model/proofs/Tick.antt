@@ -9,7 +9,7 @@ use native.Mathlib.Omega.{arith}
 use lib.Dec.{ltb, eqb}
 use lib.ListN.{getD}
 use borrow.Author.Tests as Tests
-use Rattle.model.specs.Store.{absent, Reading, Slot, Range, OpenAnnounce, OpenPass, CloseWithdraw, Doing, Idle, PutPublish, PutStamp, PutHandIn, FlushTake, FlushRead, FlushFree, OnTime, ReadEnter, ReadStand, GetShow, Store, workerAt, slotAt, withClock, place}
+use Rattle.model.specs.Store.{absent, Reading, Slot, Range, markCount, OpenAnnounce, OpenPass, CloseWithdraw, MarkKeep, MarkRelease, Doing, Idle, PutPublish, PutStamp, PutHandIn, FlushTake, FlushRead, FlushFree, OnTime, ReadEnter, ReadStand, GetShow, Store, workerAt, slotAt, withClock, place}
 use Rattle.model.specs.About.{Effect, NoEffect, ByStamp, ByClock, about}
 use Rattle.model.specs.Answer.{At}
 use Rattle.model.specs.Record.{Operation, Open}
@@ -21,7 +21,7 @@ use Rattle.model.proofs.Slots.{nth}
 use Rattle.model.proofs.Chain.{Sees, Fine, Fine-sees, Past, Next}
 use Rattle.model.proofs.View.{ByClockOf, clock-is}
 use Rattle.model.proofs.Invariant.{Ctx, ctx, top, old, chain, Good, Settled, Snap, PlaceHolds, Running, Fits, Current, Works, Inv}
-use Rattle.model.proofs.Transport.{Moves, doing-map, fits-on, current-map}
+use Rattle.model.proofs.Transport.{stays, Moves, same-copy, sourced-settled, doing-map, fits-on, current-map}
 use Rattle.model.proofs.Stamp.{put-at-other}
 use Rattle.model.proofs.History.{hist-end, end-shut}
 use Rattle.model.proofs.Places.{Kept, none-more, place-inv, doing-is, cur-is, calm}
@@ -44,8 +44,10 @@ at-clock x p w t d b e = go d
     go (OnTime OpenAnnounce) a = absurd (omega (arith, b, e, a))
     go (OnTime OpenPass) a = refl
     go (OnTime CloseWithdraw) a = absurd (omega (arith, e, a))
-    go (ReadEnter g) a = absurd (omega (arith, e, a .1))
-    go (ReadStand g c) a = absurd (omega (arith, e, a .1))
+    go (OnTime (MarkKeep m)) a = absurd (omega (arith, e, a .1))
+    go (OnTime (MarkRelease m)) a = not-settled (a .1)
+    go (ReadEnter g) a = not-settled (sourced-settled x x t (g .purpose) (a .1))
+    go (ReadStand g c) a = not-settled (sourced-settled x x t (g .purpose) (a .1))
     go (GetShow r) a = not-settled (a .1)
 
 Fine-tick : (s : List Slot) (t : ℕ) (x x′ : Reading) (l : List ℕ) → x′ ≡ x → Fine s t x l → Fine s (t + 1) x′ l
@@ -125,6 +127,7 @@ module _ (now : ℕ) (s : Store) (olds : List (List ℕ)) (h : List Call) (o : L
     pub p′ : Plain
     pub linear : Lin (s .site .rows) now h o′ p′
     pub registers : (r : ℕ) → p′ .registers r ≡ p .registers r
+    pub kept : (m : ℕ) → p′ .kept m ≡ p .kept m
     pub did : (v : ℕ) → v < s .site .P → v < m → Ready v
         → ((f : ℕ → Reading) × (p′ .copy v ≡ some f) × ((r : ℕ) → f r ≡ p .registers r)) × ((k : ℕ) → Running h v k → occurrences k o′ ≡ 1)
     pub same : (v : ℕ) → v < s .site .P → (m ≤ v) ⊎ (Ready v → ⊥)
@@ -139,6 +142,7 @@ module _ (now : ℕ) (s : Store) (olds : List (List ℕ)) (h : List Call) (o : L
         p′ = p;
         linear = I .linear;
         registers = λ r. refl;
+        kept = λ m. refl;
         did = λ v vb z. absurd (omega (arith, z));
         same = λ v vb z. (refl, λ k K. refl);
       }
@@ -154,6 +158,7 @@ module _ (now : ℕ) (s : Store) (olds : List (List ℕ)) (h : List Call) (o : L
             p′ = T .p′;
             linear = T .linear;
             registers = T .registers;
+            kept = T .kept;
             did =
                 λ v vb z g. T .did v vb (⊎-elim (λ u. u .0) (λ u. absurd (n (subst Ready (let i : v ≡ m = omega (arith, z, u .0) in i) g)))
                 (lt-cases v m)) g;
@@ -173,8 +178,9 @@ module _ (now : ℕ) (s : Store) (olds : List (List ℕ)) (h : List Call) (o : L
             p′ = p⁺;
             linear =
                 subst (λ (q : Plain). Lin (s .site .rows) now h o⁺ q) (ap (λ (i : ℕ). feed (T .p′) i (callAt h k .operation)) (K .own) ∙ ap (feed (T .p′) m) (F .0))
-                (lin-effect (T .linear) k (K .within) (K .unfinished) k-not);
+                (lin-effect (T .linear) k (K .within) (K .unfinished) k-not (not-at-end (F .0)));
             registers = λ r. regs⁺ (T .p′) r ∙ T .registers r;
+            kept = λ i. kept⁺ (T .p′) i ∙ T .kept i;
             did = λ v vb z y.
                 ⊎-elim
                 (λ u. subst (λ (i : ℕ). ((f : ℕ → Reading) × (p⁺ .copy i ≡ some f) × ((r : ℕ) → f r ≡ p .registers r))
@@ -219,11 +225,17 @@ module _ (now : ℕ) (s : Store) (olds : List (List ℕ)) (h : List Call) (o : L
           regs⁺ : (q : Plain) (r : ℕ) → feed q m Open .registers r ≡ q .registers r
           regs⁺ q r = unfold feed in refl
 
+          kept⁺ : (q : Plain) (i : ℕ) → feed q m Open .kept i ≡ q .kept i
+          kept⁺ q i = unfold feed in refl
+
           own⁺ : (q : Plain) → feed q m Open .copy m ≡ some (q .registers)
           own⁺ q = unfold feed in (rw (Tests.eq-eqb m m refl))
 
           other⁺ : (q : Plain) (v : ℕ) → v ≢ m → feed q m Open .copy v ≡ q .copy v
           other⁺ q v n = unfold feed in (put-at-other (q .copy) m (some (q .registers)) v n)
+
+          not-at-end : {c : Operation} → c ≡ Open → atEnd c ≡ false
+          not-at-end e = unfold atEnd in (ap atEnd e)
 
           far : (v : ℕ) → v ≢ m → (j : ℕ) → Running h v j → k ≢ j
           far v n j J i = n (sym (J .own) ∙ ap (λ (q : ℕ). callAt h q .worker) (sym i) ∙ K .own)
@@ -239,6 +251,7 @@ module _ (now : ℕ) (s : Store) (olds : List (List ℕ)) (h : List Call) (o : L
       newestLength = I .newestLength;
       slotsLength = I .slotsLength;
       oldsLength = I .oldsLength;
+      marksLength = I .marksLength;
       slotsFew = I .slotsFew;
       clockFits = omega (arith, b);
       freeAlone = I .freeAlone;
@@ -248,6 +261,7 @@ module _ (now : ℕ) (s : Store) (olds : List (List ℕ)) (h : List Call) (o : L
       stamps = λ r z. Fine-tick (s .slots) (s .clock) (p .registers r) (T .p′ .registers r) (chain x r) (T .registers r) (I .stamps r z);
       queue = All-map (λ m. All-map good m) (s .queue) (I .queue);
       workers = works;
+      marks = λ m z. ⊎-elim (λ u. inl (u .0, T .kept m ∙ u .1)) (λ u. inr (omega (arith, u .0), u .1, T .kept m ∙ u .2, u .3)) (I .marks m z);
       stamper = I .stamper;
       outside = I .outside;
       linear = T .linear;
@@ -273,7 +287,8 @@ module _ (now : ℕ) (s : Store) (olds : List (List ℕ)) (h : List Call) (o : L
             snapshot = λ z. ⊎-elim (old z) (new z) (lt-cases t (s .clock));
             doing =
                 ⊎-elim (λ g. subst (PlaceHolds x′ (T .p′) v t) (sym (g .0)) (omega (arith, g .1), subst (PlaceHolds x p v t) (g .0) (Z .doing) .1))
-                (λ n. doing-map x x′ p (T .p′) v t (T .same v vb (inr n) .0) (workerAt s v .doing) moves (Z .doing)) (ready v);
+                (λ n. doing-map x x′ p (T .p′) v t (T .same v vb (inr n) .0) (workerAt s v .doing)
+                (λ g c e. same-copy p (T .p′) v (T .same v vb (inr n) .0) (T .kept) (g .purpose)) moves (Z .doing)) (ready v);
             current = ⊎-elim effect rest (ready v);
           }
         where
@@ -306,10 +321,11 @@ module _ (now : ℕ) (s : Store) (olds : List (List ℕ)) (h : List Call) (o : L
                 nhd = refl;
                 sameRows = refl;
                 good = λ ρ z. good ρ;
-                times′ = λ i z. inl refl;
+                times′ = λ i z. stays x x′ i refl;
                 mem = λ q c z u k. k;
                 highs = λ c z k. omega (arith, k);
-                on = λ q c a z u k g. g;
+                source = λ g c e. refl;
+                on = λ q c y a z u k g. g;
               }
 
           effect : Ready v → Current x′ h (T .o′) v t (workerAt s v .doing)
@@ -339,7 +355,7 @@ done-kept now s olds h o p I w wb e b =
     (hist-end now w h o p (I .linear) (At (workerAt s w .announced)) (a .0) (a .1)
     (⊎-elim (λ u. absurd (omega (arith, u .0, b))) (λ u. u .1) (a .2 .1))
     (λ q. subst (λ (c : Operation). Agrees c (FinishedAt now (At (workerAt s w .announced))) q) (sym (a .2 .0)) tt))
-    refl (inr b) (end-shut now w h o p (I .linear) (At (workerAt s w .announced)) (a .0) (a .1)))
+    refl (λ m. refl) (inr b) (end-shut now w h o p (I .linear) (At (workerAt s w .announced)) (a .0) (a .1)))
 
 pub pass-kept : (now : ℕ) (s : Store) (olds : List (List ℕ)) (h : List Call) (o : List ℕ) (p : Plain) → Inv now s olds h o p → (w : ℕ)
     → w < s .site .P

@@ -9,7 +9,7 @@ use lib.Dec.{eqb}
 use lib.ListN.{length, set, length-set, length-map}
 use lib.Seq.{getD-set-same, getD-set-other}
 use borrow.Author.Tests as Tests
-use Rattle.model.specs.Store.{absent, Reading, Slot, Range, Goal, Doing, PutStamp, FlushFree, ReadStand, Worker, startWorker, Store, workerAt, holders, held, withDoing, withSlots, withFree, withWorkers}
+use Rattle.model.specs.Store.{absent, markCount, Reading, Slot, Range, Purpose, Single, Marked, Totaling, Goal, Doing, PutStamp, FlushFree, ReadStand, Worker, startWorker, Store, workerAt, markAt, holders, held, withDoing, withSlots, withFree, withWorkers}
 use Rattle.model.specs.About.{Stance, Nowhere, StandsOn, about}
 use Rattle.model.specs.Versions.{unlinkSlots}
 use Rattle.model.specs.Steps.{moveOff, workerOff}
@@ -20,9 +20,9 @@ use Rattle.model.proofs.Slots.{nth, unlink-length, unlink-own, unlink-p
 use Rattle.model.proofs.Chain.{Linked, Linked-same, Linked-unlink, neighbours, remove, remove-own, remove-other, remove-times, Sees, Sees-mono, Sees-remove, On, On-mono, On-remove, On-moves, Fine, Past, Next}
 use Rattle.model.proofs.Count.{cnt, sumBy-set, sumBy-one, sumBy-two, sumBy-map}
 use Rattle.model.proofs.View.{off-cases, off-keeps}
-use Rattle.model.proofs.Invariant.{Ctx, ctx, top, old, chain, inDoing, pendW, pend, Good, Spared, PlaceHolds, Current, Works, Inv}
+use Rattle.model.proofs.Invariant.{Ctx, ctx, top, old, chain, inDoing, pendW, pend, Good, Spared, timeIn, Sourced, PlaceHolds, Current, Works, Inv, held-worker, held-mark, held-same}
 use Rattle.model.proofs.Apart.{below≤1, chain-once, chain-in, chain-apart, free-in, pend-chain, pend-top}
-use Rattle.model.proofs.Transport.{Moves, doing-map, fits-map, current-map, Fine-same, spared}
+use Rattle.model.proofs.Transport.{stays, Moves, doing-map, fits-map, current-map, Fine-same, spared}
 use Rattle.model.proofs.Places.{Kept, doing-is, cur-is}
 
 All-remove : (P : ℕ → Type 0) (c : ℕ) (l : List ℕ) → All P l → All P (remove c l)
@@ -65,7 +65,7 @@ unfolding moveOff
 doing-off c q x x′ p w t d m s a =
     ⊎-elim
     (λ u. subst (λ y. PlaceHolds x′ p w t (moveOff c q y)) (sym (u .2)) (s (u .0) (u .1) (u .2) (subst (PlaceHolds x p w t) (u .2) a)))
-    (λ u. subst (PlaceHolds x′ p w t) (sym (u .1 c q)) (doing-map x x′ p p w t refl d (m (subst IsNowhere (sym (u .0)) tt)) a))
+    (λ u. subst (PlaceHolds x′ p w t) (sym (u .1 c q)) (doing-map x x′ p p w t refl d (λ g i z. refl) (m (subst IsNowhere (sym (u .0)) tt)) a))
     (off-cases d)
 
 module _ (now : ℕ) (s : Store) (olds : List (List ℕ)) (h : List Call) (o : List ℕ) (p : Plain) (I : Inv now s olds h o p) (w : ℕ)
@@ -102,6 +102,24 @@ module _ (now : ℕ) (s : Store) (olds : List (List ℕ)) (h : List Call) (o : L
   -- no time held needs the version in the slot
   pub not-needed : (v : ℕ) → v < holders s → held s v < absent → nth sl c .low ≤ held s v → held s v < nth sl c .high → ⊥
   not-needed v vb a b d = d₀ .2 .0 v vb a (omega (arith, b, d₀ .1 .0 .0)) (omega (arith, d, d₀ .1 .0 .1))
+
+  not-needed-by : (v : ℕ) → v < s .site .P → workerAt s v .announced < absent
+      → nth sl c .low ≤ workerAt s v .announced → workerAt s v .announced < nth sl c .high → ⊥
+  not-needed-by v vb a b d =
+      let i = held-worker s v vb in not-needed v (omega (arith, vb)) (omega (arith, i, a)) (omega (arith, i, b)) (omega (arith, i, d))
+
+  not-needed-mark : (m : ℕ) → m < markCount → markAt s m < absent → nth sl c .low ≤ markAt s m → markAt s m < nth sl c .high → ⊥
+  not-needed-mark m mb a b d =
+      let i = held-mark s m in
+      not-needed (s .site .P + m) (omega (arith, mb)) (omega (arith, i, a)) (omega (arith, i, b)) (omega (arith, i, d))
+
+  -- nor the time as of which a worker reads
+  not-needed-as : (v : ℕ) → v < s .site .P → (y : Purpose) → Sourced (s .clock) (workerAt s v .announced) y
+      → timeIn x (workerAt s v .announced) y < s .clock
+      → nth sl c .low ≤ timeIn x (workerAt s v .announced) y → timeIn x (workerAt s v .announced) y < nth sl c .high → ⊥
+  not-needed-as v vb Single a z = not-needed-by v vb (omega (arith, z, I .clockFits))
+  not-needed-as v vb (Marked m) a z = not-needed-mark m (a .0) (omega (arith, z, I .clockFits))
+  not-needed-as v vb (Totaling g i y) a z = not-needed-by v vb (omega (arith, z, I .clockFits))
 
   pub c-pend : 0 < pend c (s .workers) (s .queue)
   unfolding cnt
@@ -244,14 +262,15 @@ module _ (now : ℕ) (s : Store) (olds : List (List ℕ)) (h : List Call) (o : L
         getD-map (workerOff c oc) (set (s .workers) w y⁺) v startWorker startWorker (omega (arith, len⁺))
         ∙ ap (workerOff c oc) (getD-set-other (s .workers) w v y⁺ startWorker z)
 
-    still : (v : ℕ) → v < s .site .P → x′ .held v ≡ x .held v
+    still : (v : ℕ) → x′ .held v ≡ x .held v
     unfolding workerOff
-    still v vb =
-        ⊎-elim
+    still v =
+        held-same s freed-store refl refl v
+        (λ vb. ⊎-elim
         (λ u. ap (λ (i : ℕ). workerAt freed-store i .announced) (u .0) ∙ ap (λ (z : Worker). z .announced) at-own
         ∙ ap (λ (i : ℕ). workerAt s i .announced) (sym (u .0)))
         (λ u. ap (λ (z : Worker). z .announced) (at-other v vb (u .0)))
-        (eq-cases v w)
+        (eq-cases v w))
 
     other : (v : ℕ) → v < s .site .P → v ≢ w → Works x′ h o p v (workerOff c oc (workerAt s v))
     unfolding workerOff
@@ -263,7 +282,7 @@ module _ (now : ℕ) (s : Store) (olds : List (List ℕ)) (h : List Call) (o : L
               λ z. let a = Z .snapshot z in (
                 a .0,
                 a .1,
-                λ q d. sees (workerAt s v .announced) (not-needed v vb (omega (arith, z, I .clockFits)))
+                λ q d. sees (workerAt s v .announced) (not-needed-by v vb (omega (arith, z, I .clockFits)))
                     (a .0 q) q (a .2 q d),
               );
           doing = doing-off c oc x x′ p v (workerAt s v .announced) (workerAt s v .doing) moves stand (Z .doing);
@@ -302,7 +321,7 @@ module _ (now : ℕ) (s : Store) (olds : List (List ℕ)) (h : List Call) (o : L
               nhd = refl;
               sameRows = refl;
               good = λ σ z. good σ;
-              times′ = λ i z. inl (still i z);
+              times′ = λ i z. stays x x′ i (still i);
               mem = λ q i z u k.
                   ⊎-elim
                   (λ g. subst (λ (j : ℕ). 0 < occurrences i (old x′ j)) (sym (g .0))
@@ -316,7 +335,8 @@ module _ (now : ℕ) (s : Store) (olds : List (List ℕ)) (h : List Call) (o : L
                   (λ g. subst (λ (m : List ℕ). 0 < occurrences i m) (sym (old-other q (g .0))) k)
                   (eq-cases q r);
               highs = λ i z k. omega (arith, k, highs i);
-              on = λ g i a z u k y. absurd (subst (λ d. IsNowhere (about d .stance)) k ns);
+              source = λ g i e. refl;
+              on = λ g i a z u y k f. absurd (subst (λ d. IsNowhere (about d .stance)) k ns);
             }
 
         stand : (g : Goal) (i : ℕ) → workerAt s v .doing ≡ ReadStand g i → PlaceHolds x p v (workerAt s v .announced) (ReadStand g i)
@@ -326,7 +346,12 @@ module _ (now : ℕ) (s : Store) (olds : List (List ℕ)) (h : List Call) (o : L
             let f = a .2 in (
               a .0,
               a .1,
-              (f .0, f .1, ons (workerAt s v .announced) (not-needed v vb (omega (arith, a .1, I .clockFits))) (f .0 q) q (a .0) i (f .2)),
+              (
+                f .0,
+                f .1,
+                f .2,
+                ons (timeIn x (workerAt s v .announced) (g .purpose)) (not-needed-as v vb (g .purpose) (a .1) (f .0)) (f .1 q) q (a .0) i (f .3),
+              ),
               a .3,
             )
 
@@ -339,7 +364,7 @@ module _ (now : ℕ) (s : Store) (olds : List (List ℕ)) (h : List Call) (o : L
               λ z. let a = Z .snapshot z in (
                 a .0,
                 a .1,
-                λ q d. sees (workerAt s w .announced) (not-needed w wb (omega (arith, z, I .clockFits)))
+                λ q d. sees (workerAt s w .announced) (not-needed-by w wb (omega (arith, z, I .clockFits)))
                     (a .0 q) q (a .2 q d),
               );
           doing = (d₀ .0, All-map good l (d₀ .1 .1), both l (d₀ .1 .1) (d₀ .2 .1));
@@ -351,7 +376,7 @@ module _ (now : ℕ) (s : Store) (olds : List (List ℕ)) (h : List Call) (o : L
 
         both : (m : List Range) → All (Good x) m → All (Spared x) m → All (Spared x′) m
         both [] g k = tt
-        both (σ ∷ m) g k = (spared x x′ σ refl (λ v z. inl (still v z)) (g .0 .2) (k .0), both m (g .1) (k .1))
+        both (σ ∷ m) g k = (spared x x′ σ refl (λ v z. stays x x′ v (still v)) (g .0 .2) (k .0), both m (g .1) (k .1))
 
     pends : (i : ℕ) → pend i (map (workerOff c oc) (set (s .workers) w y⁺)) (s .queue) + hit c i ≡ pend i (s .workers) (s .queue)
     unfolding cnt workerOff
@@ -396,6 +421,7 @@ module _ (now : ℕ) (s : Store) (olds : List (List ℕ)) (h : List Call) (o : L
                 newestLength = I .newestLength;
                 slotsLength = unlink-length sl c ∙ I .slotsLength;
                 oldsLength = length-set olds r (remove c (old x r)) ∙ I .oldsLength;
+                marksLength = I .marksLength;
                 slotsFew = I .slotsFew;
                 clockFits = I .clockFits;
                 freeAlone = alone;
@@ -416,6 +442,14 @@ module _ (now : ℕ) (s : Store) (olds : List (List ℕ)) (h : List Call) (o : L
                     λ v vb. ⊎-elim (λ u. subst (λ (i : ℕ). Works x′ h o p i (workerAt freed-store i)) (sym (u .0))
                     (subst (Works x′ h o p w) (sym at-own) own)) (λ u. subst (Works x′ h o p v) (sym (at-other v vb (u .0))) (other v vb (u .0)))
                     (eq-cases v w);
+                marks =
+                    λ m z. ⊎-elim inl
+                    (λ u. inr (
+                      u .0,
+                      u .1,
+                      u .2,
+                      λ q d. sees (markAt s m) (not-needed-mark m z (omega (arith, u .0, I .clockFits))) (u .1 q) q (u .3 q d),
+                    )) (I .marks m z);
                 stamper = λ q d z.
                     let a = I .stamper q d (sym (lows (top x q)) ∙ z) in (
                       a .0,

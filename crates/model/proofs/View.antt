@@ -4,9 +4,9 @@ use mathlib.Core.Bool.{true, false, true≢false}
 use mathlib.Core.Logic.{_⊎_, inl, inr, ⊎-elim}
 use mathlib.Core.List.{List}
 use Prim.Native.Nat.{ℕ}
-use Rattle.model.specs.Store.{OpenAnnounce, OpenPass, CloseWithdraw, Goal, Doing, Idle, PutPublish, PutStamp, PutHandIn, FlushTake, FlushRead, FlushFree, OnTime, ReadEnter, ReadStand, GetShow}
+use Rattle.model.specs.Store.{OpenAnnounce, OpenPass, CloseWithdraw, MarkKeep, MarkRelease, Goal, Doing, Idle, PutPublish, PutStamp, PutHandIn, FlushTake, FlushRead, FlushFree, OnTime, ReadEnter, ReadStand, GetShow}
 use Rattle.model.specs.Steps.{moveOff}
-use Rattle.model.specs.Record.{Operation, Put, Open, Read, Close, Get, Collect, Total}
+use Rattle.model.specs.Record.{Operation, Put, Open, Read, Close, Get, Collect, Total, Mark, Release, MarkedRead}
 use Rattle.model.specs.Apply.{terms}
 use Rattle.model.specs.About.{Empty, Nowhere, Effect, NoEffect, ByStamp, ByClock, about}
 
@@ -28,6 +28,8 @@ view (FlushFree m) = Elsewhere refl refl refl
 view (OnTime OpenAnnounce) = Elsewhere refl refl refl
 view (OnTime OpenPass) = AtPass refl
 view (OnTime CloseWithdraw) = Elsewhere refl refl refl
+view (OnTime (MarkKeep m)) = Elsewhere refl refl refl
+view (OnTime (MarkRelease m)) = Elsewhere refl refl refl
 view (ReadEnter g) = Elsewhere refl refl refl
 view (ReadStand g c) = AtStand g c refl
 view (GetShow r) = Elsewhere refl refl refl
@@ -96,6 +98,9 @@ first-hand rows Close = refl
 first-hand rows (Get r) = refl
 first-hand rows Collect = refl
 first-hand rows (Total g) = refl
+first-hand rows (Mark m) = refl
+first-hand rows (Release m) = refl
+first-hand rows (MarkedRead r m) = refl
 
 ------------------------------------------------------------------------
 -- A version is freed: a read that stands on it moves, no other place changes

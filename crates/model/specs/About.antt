@@ -2,7 +2,7 @@
 use mathlib.Core.Bool.{Bool, true, false}
 use mathlib.Core.List.{List}
 use Prim.Native.Nat.{ℕ}
-use Rattle.model.specs.Store.{Range, TimeStep, OpenAnnounce, OpenPass, CloseWithdraw, Purpose, Single, Goal, Doing, Idle, PutPublish, PutStamp, PutHandIn, FlushTake, FlushRead, FlushFree, OnTime, ReadEnter, ReadStand, GetShow}
+use Rattle.model.specs.Store.{Range, TimeStep, OpenAnnounce, OpenPass, CloseWithdraw, MarkKeep, MarkRelease, Purpose, Single, Marked, Totaling, Goal, Doing, Idle, PutPublish, PutStamp, PutHandIn, FlushTake, FlushRead, FlushFree, OnTime, ReadEnter, ReadStand, GetShow}
 
 -- the versions that a place has in hand: none, the one in the slot that a put covers, a merged list
 -- with the times read so far, or the needless ranges not yet freed
@@ -41,6 +41,8 @@ abbrev pub timeEffect : TimeStep → Effect
 timeEffect OpenAnnounce = NoEffect
 timeEffect OpenPass = ByClock
 timeEffect CloseWithdraw = NoEffect
+timeEffect (MarkKeep m) = NoEffect
+timeEffect (MarkRelease m) = NoEffect
 
 abbrev pub about : Doing → Facts
 about Idle = record { idle = true; hand = Empty; stance = Nowhere; effect = NoEffect; purpose = Single }

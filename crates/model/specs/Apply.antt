@@ -1,19 +1,20 @@
 -- One record applied to the hub: setup (H2), the begin of an operation (H4), a step, and the refusals in their order (H7.1): 6, 1, 2, 8 or 9,
--- 5, 3, 4 or 17, 16, then 10 or 11, then 12 or 13.
+-- 5, 3, 4 or 17, 16, then 10 or 11, then 12, 13, 19, 20 or 21.
 use mathlib.Core.Bool.{Bool, true, false, cond, not, _&&_}
 use mathlib.Core.List.{List, [], _∷_}
 use mathlib.Core.Option.{Option, none, some}
 use Prim.Native.Nat.{ℕ, zero, suc, _-_}
 use lib.Dec.{ltb, leb}
 use lib.ListN.{length, take, replicate}
-use Rattle.model.specs.Store.{absent, lastClock, reading₀, Slot, OpenAnnounce, CloseWithdraw, Single, Doing, PutPublish, FlushTake, OnTime, ReadEnter, GetShow, startWorker, Store, Hub, blank, up, upFrom, workerAt, place}
+use Rattle.model.specs.Store.{absent, lastClock, reading₀, Slot, markCount, OpenAnnounce, CloseWithdraw, MarkKeep, MarkRelease, Single, Marked, Doing, PutPublish, FlushTake, OnTime, ReadEnter, GetShow, startWorker, Store, Hub, blank, up, upFrom, workerAt, place}
 use Rattle.model.specs.About.{about}
+use Rattle.model.specs.Marks.{MarkNeed, NoMark, EmptyMark, HeldMark, UnreadMark, markOf, markRefusal}
 use Rattle.model.specs.Rules.{Rules, Ruled}
 use Rattle.model.specs.Totals.{sum₀, firstOf}
 use Rattle.model.specs.Answer.{Answer, Ok, No, Applied}
 use Rattle.model.specs.Versions.{alone}
 use Rattle.model.specs.Steps.{goalAt, stepAt}
-use Rattle.model.specs.Record.{Operation, Put, Open, Read, Close, Get, Collect, Total, Sizes, Command, SetUp, Begin, Step, Decoded, Asks, Refuses, decode, rowsOf, listFits}
+use Rattle.model.specs.Record.{Operation, Put, Open, Read, Close, Get, Collect, Total, Mark, Release, MarkedRead, Sizes, Command, SetUp, Begin, Step, Decoded, Asks, Refuses, decode, rowsOf, listFits}
 
 -- H7.4: a refusal on reading changes nothing
 abbrev pub refuse : Hub → ℕ → Applied
@@ -42,9 +43,9 @@ firstSlots zero (z ∷ l) = alone z ∷ firstSlots zero l
 firstSlots (suc v) (z ∷ l) =
     record { value = reading₀; low = 0; high = absent; older = absent; newer = absent } ∷ firstSlots v l
 
--- H2.5 to H2.11: what a setup makes: P workers at their start, an empty queue, register r in slot r, the slots from V on free, upwards. The batch
--- size is b, and the rows of the list of totals are kept (H12.3). The row beyond N is not in the store; that it keeps its contents (H2.13) is
--- said where memory is lent.
+-- H2.5 to H2.11: what a setup makes: P workers at their start, an empty queue, register r in slot r, the slots from V on free, upwards, and
+-- empty marks (H13.1). The batch size is b, and the rows of the list of totals are kept (H12.3). The row beyond N is not in the store; that it
+-- keeps its contents (H2.13) is said where memory is lent.
 unfoldable pub fresh : ℕ → Sizes → List ℕ → List Slot → Store
 fresh b z rows row =
     record {
@@ -55,6 +56,7 @@ fresh b z rows row =
       free = upFrom (z .V') (z .N - z .V');
       queue = [];
       workers = replicate (z .P) startWorker;
+      marks = replicate markCount absent;
     }
 
 -- H7.6: 9 where the hub is set up. H2.2, H2.3, H12.2: 5 outside the ranges, where the row has fewer than N slots, or where the list of totals is
@@ -75,27 +77,32 @@ pub data TimeNeed : Type 0 where
   OwnTime : TimeNeed
 
 -- The terms on which an operation begins: the register that it names, if any, the group, if any, the value that it puts, if any, what it asks of
--- the announced time, and its first place.
+-- the announced time and of a mark, and its first place.
 pub record Terms : Type 0 where
   pub register : Option ℕ
   pub group : Option ℕ
   pub value : Option ℕ
   pub time : TimeNeed
+  pub mark : MarkNeed
   pub first : Doing
 
--- an operation that names no register, no group and no value
+-- an operation that names no register, no group, no value and no mark
 abbrev pub bare : TimeNeed → Doing → Terms
-bare t d = record { register = none; group = none; value = none; time = t; first = d }
+bare t d = record { register = none; group = none; value = none; time = t; mark = NoMark; first = d }
 
--- and one that names a register alone
+-- one that names a register alone
 abbrev pub onRegister : ℕ → TimeNeed → Doing → Terms
-onRegister r t d = record { register = some r; group = none; value = none; time = t; first = d }
+onRegister r t d = record { register = some r; group = none; value = none; time = t; mark = NoMark; first = d }
+
+-- and one that names a mark alone
+abbrev pub onMark : MarkNeed → TimeNeed → Doing → Terms
+onMark m t d = record { register = none; group = none; value = none; time = t; mark = m; first = d }
 
 -- H4.1: an operation is taken apart here, with the rows of the list of totals. H5.31: a collect begins with flush (1). H12.5: a total begins with
 -- the first row of its group.
 abbrev pub terms : List ℕ → Operation → Terms
 terms rows (Put r x) =
-    record { register = some r; group = none; value = some (x .count); time = AnyTime; first = PutPublish r x }
+    record { register = some r; group = none; value = some (x .count); time = AnyTime; mark = NoMark; first = PutPublish r x }
 terms rows Open = bare NoTime (OnTime OpenAnnounce)
 terms rows (Read r) = onRegister r OwnTime (ReadEnter (record { register = r; purpose = Single }))
 terms rows Close = bare OwnTime (OnTime CloseWithdraw)
@@ -107,13 +114,25 @@ terms rows (Total g) =
       group = some g;
       value = none;
       time = OwnTime;
+      mark = NoMark;
       first = ReadEnter (goalAt rows g (firstOf g rows) sum₀);
     }
+terms rows (Mark m) = onMark (EmptyMark m) OwnTime (OnTime (MarkKeep m))
+terms rows (Release m) = onMark (UnreadMark m) AnyTime (OnTime (MarkRelease m))
+terms rows (MarkedRead r m) =
+    record {
+      register = some r;
+      group = none;
+      value = none;
+      time = AnyTime;
+      mark = HeldMark m;
+      first = ReadEnter (record { register = r; purpose = Marked m });
+    }
 
--- 4: the register, if there is one, is below v
-abbrev pub registerBelow : ℕ → Option ℕ → Bool
-registerBelow v none = true
-registerBelow v (some r) = ltb r v
+-- 4: the register, or the mark, if there is one, is below v
+abbrev pub namedBelow : ℕ → Option ℕ → Bool
+namedBelow v none = true
+namedBelow v (some r) = ltb r v
 
 -- 17: the group, if there is one, has a row in the list
 abbrev pub groupThere : List ℕ → Option ℕ → Bool
@@ -132,7 +151,7 @@ mayOpen AnyTime has = true
 mayOpen NoTime has = not has
 mayOpen OwnTime has = true
 
--- 13: only a read, a total and a close ask that a time is announced
+-- 13: only a read, a total, a mark and a close ask that a time is announced
 abbrev pub mayUseTime : TimeNeed → Bool → Bool
 mayUseTime AnyTime has = true
 mayUseTime NoTime has = true
@@ -142,19 +161,25 @@ mayUseTime OwnTime has = has
 abbrev pub isIdle : Doing → Bool
 isIdle d = about d .idle
 
--- H7.1: 3 worker not below P; 4; 17; 16; 10; 12; 13; else begun (H4.1)
+-- 19, 20, 21: refused where there is such a refusal, else what follows
+unfoldable pub refusedBy : Option ℕ → Hub → Applied → Applied
+refusedBy none h next = next
+refusedBy (some k) h next = refuse h k
+
+-- H7.1: 3 worker not below P; 4; 17; 16; 10; 12; 13; 19, 20 or 21; else begun (H4.1)
 unfoldable pub begin : Rules → Store → ℕ → Operation → Applied
 begin rules s w o =
     let has = ltb (workerAt s w .announced) absent in
     let x = terms (s .site .rows) o in
     let begun : Applied = record { hub = up (place s w (x .first)); answer = Ok } in
     unless (ltb w (s .site .P)) (up s) 3
-    (unless (registerBelow (s .site .V') (x .register)) (up s) 4
+    (unless (namedBelow (s .site .V') (x .register) && namedBelow markCount (markOf (x .mark))) (up s) 4
     (unless (groupThere (s .site .rows) (x .group)) (up s) 17
     (unless (valueWithin (rules .limit) (x .value)) (up s) 16
     (unless (isIdle (workerAt s w .doing)) (up s) 10
     (unless (mayOpen (x .time) has) (up s) 12
-    (unless (mayUseTime (x .time) has) (up s) 13 begun))))))
+    (unless (mayUseTime (x .time) has) (up s) 13
+    (refusedBy (markRefusal s (x .mark)) (up s) begun)))))))
 
 ------------------------------------------------------------------------
 -- A step
@@ -166,7 +191,7 @@ step s w =
     unless (ltb w (s .site .P)) (up s) 3 (record { hub = up (x .store); answer = x .answer })
 
 -- H6.10: a step is taken: the hub is set up, and the record is a step of a worker below P that is not idle. H6.9: so a record that is refused
--- on reading takes none, and a step that meets 14, 15 or 18 is taken.
+-- on reading takes none, and a step that meets 14, 15, 18, 19, 20 or 21 is taken.
 unfoldable pub takesStep : Hub → Decoded → Bool
 takesStep (blank row) d = false
 takesStep (up s) (Asks (SetUp z)) = false

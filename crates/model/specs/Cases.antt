@@ -5,13 +5,13 @@ use mathlib.Core.List.{List, [], _∷_, _++_, map}
 use Prim.Native.Nat.{ℕ}
 use lib.ListN.{length, replicate, getD, set}
 use Rattle.model.specs.Totals.{groupOf, signOf, registerOf}
-use Rattle.model.specs.Store.{absent, Range, Slot, slot₀, FlushRead, startWorker, Store, Hub, blank, up}
+use Rattle.model.specs.Store.{absent, markCount, Range, Slot, slot₀, FlushRead, startWorker, Store, Hub, blank, up}
 use Rattle.model.specs.Batch.{batchOf}
 use Rattle.model.specs.Rules.{document01, inForce, Ruled, under}
 use Rattle.model.specs.Answer.{Answer, Ok, Going, At, Value, No}
 use Rattle.model.specs.Ranges.{needed, merge}
 use Rattle.model.specs.Steps.{flushSplit}
-use Rattle.model.specs.Record.{Put, Open, Read, Close, Get, Collect, Total, Command, SetUp, Begin, Step, Asks, Refuses, decode, rowsOf}
+use Rattle.model.specs.Record.{Put, Open, Read, Close, Get, Collect, Total, Mark, Release, MarkedRead, Command, SetUp, Begin, Step, Asks, Refuses, decode, rowsOf}
 use Rattle.model.specs.Apply.{hubAfter, answersTo}
 use Rattle.model.specs.Row.{bytesOf}
 use Rattle.model.specs.Log.{text, logOf}
@@ -29,6 +29,9 @@ recordOf (Begin w Close) = 4 ∷ w ∷ replicate 14 0
 recordOf (Begin w (Get r)) = 5 ∷ w ∷ bytesOf 2 r ++ replicate 12 0
 recordOf (Begin w Collect) = 6 ∷ w ∷ replicate 14 0
 recordOf (Begin w (Total g)) = 8 ∷ w ∷ bytesOf 2 g ++ replicate 12 0
+recordOf (Begin w (Mark m)) = 9 ∷ w ∷ bytesOf 2 m ++ replicate 12 0
+recordOf (Begin w (Release m)) = 10 ∷ w ∷ bytesOf 2 m ++ replicate 12 0
+recordOf (Begin w (MarkedRead r m)) = 11 ∷ w ∷ bytesOf 2 r ++ bytesOf 1 m ++ replicate 11 0
 recordOf (Step w) = 7 ∷ w ∷ replicate 14 0
 
 -- a command's record, handed in under the rules of docs/HUB.md and without a list
@@ -91,6 +94,7 @@ splitting =
           record { doing = FlushRead [] []; announced = absent; pool = range 8 0 3 ∷ [] }
           ∷ record { doing = startWorker .doing; announced = 1; pool = [] }
           ∷ [];
+      marks = replicate markCount absent;
     }
 
 -- the lengths of the pools on its queue after worker 0 split so many ranges that the time 1 needs; its local pool is in the last
@@ -149,6 +153,9 @@ pub record Layout : Type 0 where
   pub read-bytes : decode (3 ∷ 2 ∷ 3 ∷ 4 ∷ replicate 12 0) ≡ Asks (Begin 2 (Read 1027))
   pub get-bytes : decode (5 ∷ 2 ∷ 3 ∷ 4 ∷ replicate 12 0) ≡ Asks (Begin 2 (Get 1027))
   pub total-bytes : decode (8 ∷ 2 ∷ 3 ∷ 4 ∷ replicate 12 0) ≡ Asks (Begin 2 (Total 1027))
+  pub mark-bytes : decode (9 ∷ 2 ∷ 3 ∷ 4 ∷ replicate 12 0) ≡ Asks (Begin 2 (Mark 1027))
+  pub release-bytes : decode (10 ∷ 2 ∷ 3 ∷ 4 ∷ replicate 12 0) ≡ Asks (Begin 2 (Release 1027))
+  pub marked-bytes : decode (11 ∷ 2 ∷ 3 ∷ 4 ∷ 5 ∷ replicate 11 0) ≡ Asks (Begin 2 (MarkedRead 1027 5))
   -- a row of the list: group 1, minus, register 770
   pub row-bytes : rowsOf (0 ∷ 0 ∷ 5 ∷ 0 ∷ 1 ∷ 1 ∷ 2 ∷ 3 ∷ []) ≡ 327680 ∷ 50462977 ∷ []
   pub row-parts : (groupOf 50462977 ≡ 1) × (signOf 50462977 ≡ 1) × (registerOf 50462977 ≡ 770)
@@ -156,24 +163,24 @@ pub record Layout : Type 0 where
       ≡ Asks (SetUp (record { P = 1; V' = 770; N = 1284; clock = 151521030 }))
   -- the first and the last byte that an operation does not use
   pub first-unused : map decode (flagged 0 6 ∷ flagged 1 4 ∷ flagged 2 2 ∷ flagged 3 4 ∷ flagged 4 2 ∷ flagged 5 4 ∷ flagged 6 2 ∷ flagged 7 2
-      ∷ flagged 8 4 ∷ [])
-      ≡ replicate 9 (Refuses 2)
+      ∷ flagged 8 4 ∷ flagged 9 4 ∷ flagged 10 4 ∷ flagged 11 5 ∷ [])
+      ≡ replicate 12 (Refuses 2)
   pub last-unused : map decode (flagged 0 15 ∷ flagged 1 7 ∷ flagged 2 15 ∷ flagged 3 15 ∷ flagged 4 15 ∷ flagged 5 15 ∷ flagged 6 15 ∷ flagged 7 15
-      ∷ flagged 8 15 ∷ [])
-      ≡ replicate 9 (Refuses 2)
+      ∷ flagged 8 15 ∷ flagged 9 15 ∷ flagged 10 15 ∷ flagged 11 15 ∷ [])
+      ≡ replicate 12 (Refuses 2)
   pub setup-unused : map decode (flagged 0 7 ∷ flagged 0 12 ∷ []) ≡ replicate 2 (Refuses 2)
   -- 6 before 1 before 2; a seventeenth byte is not looked at
-  pub refusal-order : map decode ([] ∷ replicate 15 255 ∷ replicate 16 255 ∷ flagged 9 2 ∷ [])
+  pub refusal-order : map decode ([] ∷ replicate 15 255 ∷ replicate 16 255 ∷ flagged 12 2 ∷ [])
       ≡ Refuses 6 ∷ Refuses 6 ∷ Refuses 1 ∷ Refuses 1 ∷ []
   pub longer : decode (7 ∷ 3 ∷ replicate 14 0 ++ (9 ∷ [])) ≡ Asks (Step 3)
 
 ------------------------------------------------------------------------
 -- The log example
 
--- The script of samples/example.txt: a put meets 14, and a collect frees a slot.
+-- The script of samples/example.txt: a put meets 14, and a collect frees a slot. It is document 01's, with one more step record in each flush.
 abbrev pub exampleCommands : List Command
 exampleCommands =
-    (setup 1 1 2 1 ∷ put 0 0 7 ∷ replicate 7 (Step 0)) ++ (put 0 0 9 ∷ Step 0 ∷ Begin 0 Collect ∷ replicate 5 (Step 0))
+    (setup 1 1 2 1 ∷ put 0 0 7 ∷ replicate 8 (Step 0)) ++ (put 0 0 9 ∷ Step 0 ∷ Begin 0 Collect ∷ replicate 6 (Step 0))
 
 -- one list after the other
 unfoldable pub joined : List (List ℕ) → List ℕ
@@ -185,8 +192,8 @@ exampleFile = joined (map recordOf exampleCommands)
 
 abbrev pub exampleText : List ℕ
 exampleText =
-    text
-    "0 ok\n1 ok\n2 going\n3 going\n4 going\n5 going\n6 going\n7 going\n8 done\n9 ok\n10 no 14\n11 ok\n12 going\n13 going\n14 going\n15 freed 0\n16 done\n"
+    text "0 ok\n1 ok\n2 going\n3 going\n4 going\n5 going\n6 going\n7 going\n8 going\n9 done\n10 ok\n"
+    ++ text "11 no 14\n12 ok\n13 going\n14 going\n15 going\n16 going\n17 freed 0\n18 done\n"
 
 -- over a row of two slots, the least that its setup needs
 abbrev pub Example : Type 0

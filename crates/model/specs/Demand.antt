@@ -2,8 +2,8 @@
 --
 -- A list of records after an accepted setup gives events. From the records and the answers alone come the operations (calls) with
 -- their begins and ends. The order of the calls is a definition: the effects in the order in which they happen. The statement says that
--- it is an order between begins and ends, that plain registers fed in that order show what every finished get, read and total answered,
--- and that nothing needed is freed and nothing freed twice.
+-- it is an order between begins and ends, that plain registers fed in that order show what every finished get, read, marked read and total
+-- answered, and that nothing needed is freed and nothing freed twice.
 --
 -- What rests on reading by eye besides this file: the model's `decode` (which bytes are the worker, the register and the value); `apply`, from
 -- which lows, highs, announced times and the clock come; and where a store has its parts: `slotAt`, `workerAt`, `newestOf`, the head of `free`,
@@ -15,13 +15,13 @@ use mathlib.Core.Option.{Option, none, some}
 use Prim.Native.Nat.{ℕ, zero, suc, _+_, _≤_, _<_}
 use lib.Dec.{ltb, leb, eqb}
 use lib.ListN.{length, getD}
-use Rattle.model.specs.Store.{absent, Reading, Slot, Doing, PutPublish, Store, Hub, blank, up, workerAt, slotAt, newestOf}
+use Rattle.model.specs.Store.{absent, Reading, Slot, Doing, PutPublish, Store, Hub, blank, up, workerAt, slotAt, newestOf, holders, held}
 use Rattle.model.specs.About.{Effect, NoEffect, ByStamp, ByClock, about}
 use Rattle.model.specs.Rules.{Ruled}
 use Rattle.model.specs.Totals.{Sum, sum₀, registerOf, ofGroup, addRow}
-use Rattle.model.specs.Answer.{Answer, Ok, Going, Freed, said}
+use Rattle.model.specs.Answer.{Answer, Ok, Going, Freed, Done, said}
 use Rattle.model.specs.Steps.{answerFor, signed}
-use Rattle.model.specs.Record.{Operation, Put, Open, Read, Close, Get, Collect, Total, SetUp, Begin, Step, Decoded, Asks, Refuses, decode}
+use Rattle.model.specs.Record.{Operation, Put, Open, Read, Close, Get, Collect, Total, Mark, Release, MarkedRead, SetUp, Begin, Step, Decoded, Asks, Refuses, decode}
 use Rattle.model.specs.Apply.{takesStep, applyRuled}
 
 ------------------------------------------------------------------------
@@ -134,31 +134,42 @@ StepsTaken i (e ∷ es) h =
     StepTaken h (decode (e .bytes)) (e .before) × StepsTaken (i + 1) es (observe i (decode (e .bytes)) (e .answer) h)
 
 ------------------------------------------------------------------------
--- H6.16: plain registers, all 0 at first, and for each worker a copy of them or none, none at first. They are a function of the register's number
--- here; an operation that began names one below V.
+-- H6.16: plain registers, all 0 at first, for each worker a copy of them or none, none at first, and for each mark one or none, none at first
+-- (H13.9). They are a function of the register's number here; an operation that began names one below V.
 
 pub record Plain : Type 0 where
   pub registers : ℕ → Reading
   pub copy : ℕ → Option (ℕ → Reading)
+  pub kept : ℕ → Option (ℕ → Reading)
 
 abbrev pub plain₀ : Plain
-plain₀ = record { registers = λ r. record { count = 0 }; copy = λ w. none }
+plain₀ = record { registers = λ r. record { count = 0 }; copy = λ w. none; kept = λ m. none }
 
 -- f with x at i
 abbrev pub update {ℓ} : {A : Type ℓ} → (ℕ → A) → ℕ → A → ℕ → A
 update f i x j = cond (eqb j i) x (f j)
 
--- H6.17: a put sets its register, an open gives its worker a new copy, a close takes it away; the others change nothing.
+abbrev pub withCopies : Plain → (ℕ → Option (ℕ → Reading)) → Plain
+withCopies p f = record { registers = p .registers; copy = f; kept = p .kept }
+
+abbrev pub withKept : Plain → (ℕ → Option (ℕ → Reading)) → Plain
+withKept p f = record { registers = p .registers; copy = p .copy; kept = f }
+
+-- H6.17: a put sets its register, an open gives its worker a new copy, a close takes it away; H13.9: a mark keeps its worker's copy under the mark,
+-- a release drops it; the others change nothing.
 unfoldable pub feed : Plain → ℕ → Operation → Plain
-feed p w (Put r x) = record { registers = update (p .registers) r x; copy = p .copy }
-feed p w Open = record { registers = p .registers; copy = update (p .copy) w (some (p .registers)) }
+feed p w (Put r x) = record { registers = update (p .registers) r x; copy = p .copy; kept = p .kept }
+feed p w Open = withCopies p (update (p .copy) w (some (p .registers)))
 feed p w (Read r) = p
-feed p w Close = record { registers = p .registers; copy = update (p .copy) w none }
+feed p w Close = withCopies p (update (p .copy) w none)
 feed p w (Get r) = p
 feed p w Collect = p
 feed p w (Total g) = p
+feed p w (Mark m) = withKept p (update (p .kept) m (p .copy w))
+feed p w (Release m) = withKept p (update (p .kept) m none)
+feed p w (MarkedRead r m) = p
 
--- what is shown of a worker's copy; nothing without one
+-- what is shown of a copy; nothing without one
 unfoldable pub inCopy : Option (ℕ → Reading) → ((ℕ → Reading) → Answer) → Option Answer
 inCopy none q = none
 inCopy (some f) q = some (q f)
@@ -168,8 +179,14 @@ unfoldable pub sumOver : (ℕ → Reading) → List ℕ → Sum
 sumOver f [] = sum₀
 sumOver f (x ∷ l) = addRow (sumOver f l) x (f (registerOf x) .count)
 
+-- what shows that there is no copy
+unfoldable pub noCopy : Option (ℕ → Reading) → Answer → Option Answer
+noCopy none a = some a
+noCopy (some f) a = none
+
 -- H6.18: the answer that shows what is there, with the rows of the list of totals: of a get its register, of a read its register in its worker's
--- copy, or nothing without one. H12.10: of a total the sum of its group's rows over that copy.
+-- copy, or nothing without one. H12.10: of a total the sum of its group's rows over that copy. H13.9: of a marked read its register in the copy
+-- under its mark; of a mark `done` where there is no copy under it, of a release where there is one.
 unfoldable pub shows : List ℕ → Plain → ℕ → Operation → Option Answer
 shows rows p w (Put r x) = none
 shows rows p w Open = none
@@ -178,6 +195,9 @@ shows rows p w Close = none
 shows rows p w (Get r) = some (answerFor (p .registers r))
 shows rows p w Collect = none
 shows rows p w (Total g) = inCopy (p .copy w) (λ f. signed (sumOver f (ofGroup g rows)))
+shows rows p w (Mark m) = noCopy (p .kept m) Done
+shows rows p w (Release m) = inCopy (p .kept m) (λ f. Done)
+shows rows p w (MarkedRead r m) = inCopy (p .kept m) (λ f. answerFor (f r))
 
 ------------------------------------------------------------------------
 -- H6.13: the order, a list of indices in the history: the calls by their effects along the list of records.
@@ -232,6 +252,9 @@ atEnd Close = true
 atEnd (Get r) = true
 atEnd Collect = true
 atEnd (Total g) = true
+atEnd (Mark m) = true
+atEnd (Release m) = true
+atEnd (MarkedRead r m) = true
 
 -- the answer finishes an operation: it ends it and is no refusal
 abbrev pub isNone : Option ℕ → Bool
@@ -296,7 +319,27 @@ unfoldable pub Ordered : List Call → List ℕ → Type 0
 Ordered h [] = Unit {0}
 Ordered h (i ∷ o) = All (λ j. EndsBefore (callAt h i .begun) (callAt h j .ending) → ⊥) o × Ordered h o
 
--- H6.19: what a finished get, read or total answered is what is shown
+-- it was finished before record k
+abbrev pub FinishedBefore : ℕ → Ending → Type 0
+FinishedBefore k Unfinished = ⊥
+FinishedBefore k (RefusedAt i) = ⊥
+FinishedBefore k (FinishedAt i a) = i < k
+
+-- the first was finished, and later the second
+abbrev pub FinishedBy : Ending → Ending → Type 0
+FinishedBy e Unfinished = ⊥
+FinishedBy e (RefusedAt i) = ⊥
+FinishedBy e (FinishedAt i a) = FinishedBefore i e
+
+-- H6.13: those that take effect at their end stand in the order of their ends
+unfoldable pub ByEnds : List Call → List ℕ → Type 0
+ByEnds h [] = Unit {0}
+ByEnds h (i ∷ o) =
+    All (λ j. atEnd (callAt h i .operation) ≡ true → atEnd (callAt h j .operation) ≡ true
+    → FinishedBy (callAt h i .ending) (callAt h j .ending)) o
+    × ByEnds h o
+
+-- H6.19: what a finished operation answered is what is shown
 abbrev pub AnswersWith : Ending → Option Answer → Type 0
 AnswersWith Unfinished x = Unit {0}
 AnswersWith (RefusedAt i) x = Unit {0}
@@ -311,6 +354,9 @@ showing Close = false
 showing (Get r) = true
 showing Collect = false
 showing (Total g) = true
+showing (Mark m) = true
+showing (Release m) = true
+showing (MarkedRead r m) = true
 
 abbrev pub AgreesIf : Bool → Ending → Option Answer → Type 0
 AgreesIf true e s = AnswersWith e s
@@ -319,7 +365,7 @@ AgreesIf false e s = Unit {0}
 abbrev pub Agrees : Operation → Ending → Option Answer → Type 0
 Agrees c e s = AgreesIf (showing c) e s
 
--- H6.17, H6.19: from plain registers p on, the calls along o are fed one by one, and each get, read and total is shown what it answered
+-- H6.17, H6.19: from plain registers p on, the calls along o are fed one by one, and each one that shows something is shown what it answered
 unfoldable pub RegistersAgree : List ℕ → List Call → Plain → List ℕ → Type 0
 RegistersAgree rows h p [] = Unit {0}
 RegistersAgree rows h p (i ∷ o) =
@@ -334,20 +380,22 @@ pub record IsOrder (rows : List ℕ) (h : List Call) (o : List ℕ) : Type 0 whe
   pub stands : (i : ℕ) → i < length h → Stands (callAt h i .ending) (occurrences i o)
   -- each between its begin and its end,
   pub ordered : Ordered h o
+  -- at its end, but for puts and opens,
+  pub byEnds : ByEnds h o
   -- and plain registers show what was answered.
   pub registersAgree : RegistersAgree rows h plain₀ o
 
 ------------------------------------------------------------------------
 -- What is claimed of freeing
 
--- H6.21: where `freed S` is answered, no open snapshot's time needed the range of the version in S just before. H6.20: a snapshot is open while
--- its worker has an announced time.
+-- H6.21: where `freed S` is answered, no open snapshot's time, and no held mark's, needed the range of the version in S just before. H6.20: a
+-- snapshot is open while its worker has an announced time.
 abbrev pub FreesNothingNeeded : Hub → Answer → Type 0
 FreesNothingNeeded (blank row) a = Unit {0}
 FreesNothingNeeded (up s) a =
     (c : ℕ) → a ≡ Freed c
-    → (w : ℕ) → w < s .site .P → workerAt s w .announced < absent
-    → slotAt s c .low ≤ workerAt s w .announced → workerAt s w .announced < slotAt s c .high → ⊥
+    → (v : ℕ) → v < holders s → held s v < absent
+    → slotAt s c .low ≤ held s v → held s v < slotAt s c .high → ⊥
 
 -- H5.7: a put's first step took slot c: it was the first free slot, and is then its register's newest version, with the put's value
 abbrev pub TookIn : ℕ → ℕ → Hub → Answer → Hub → Type 0

@@ -8,6 +8,7 @@ use Rattle.model.specs.Rules.{Rules, document01, inForce, Allowed, allUn
 use Rattle.model.specs.Answer.{Ok}
 use Rattle.model.specs.Apply.{refuse, apply}
 use Rattle.model.specs.Demand.{Event, events, Demand3, rowsIn, Demand}
+use Rattle.model.specs.MonthEnd.{MonthEnd}
 use Rattle.model.specs.Refusals.{Demand1}
 use Rattle.model.specs.Reached.{Throughout, SoundHub}
 use Rattle.model.specs.Figure.{FigureHub}
@@ -37,6 +38,8 @@ pub record Document : Type 0 where
   pub earlier : (l : List ℕ) → Theorems (document01 l)
   -- demand 3 of a list that changes its rules on the way, each record under its own
   pub changing : Demand
+  -- H13.10: what billing may rely on, wherever demand 3 holds
+  pub month-end : MonthEnd
   -- H7.9: what the limit changes is refusal 16 and nothing else
   pub refusal-16 : (l : List ℕ) (h : Hub) (b : List ℕ)
       → (apply (inForce l) h b ≡ refuse h 16) ⊎ (apply (inForce l) h b ≡ apply (document01 l) h b)

@@ -2,6 +2,7 @@
 pub mod Totals
 pub mod Store
 pub mod About
+pub mod Marks
 pub mod Batch
 pub mod Rules
 pub mod Answer
@@ -14,6 +15,7 @@ pub mod Row
 pub mod Log
 pub mod Cases
 pub mod Demand
+pub mod MonthEnd
 pub mod Reached
 pub mod Figure
 pub mod Refusals

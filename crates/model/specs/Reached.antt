@@ -1,6 +1,7 @@
 -- What holds of every hub that records leave, besides demand 3: the bounds that memory is sized by (H6.24), and refusal 14 as H7 words it.
 -- Proved in proofs/Reached.antt from the invariant of proofs/Invariant.antt.
 use mathlib.Core.Path.{_≡_}
+use mathlib.Core.Logic.{_⊎_}
 use mathlib.Core.Bool.{true, cond}
 use mathlib.Core.Logic.{_↔_}
 use mathlib.Core.List.{List, [], _∷_}
@@ -8,7 +9,7 @@ use Prim.Native.Nat.{ℕ, zero, suc, _+_, _*_, _-_, _≤_, _<_}
 use lib.Dec.{ltb}
 use lib.ListN.{length}
 use Rattle.model.specs.Totals.{groupOf, rowAt, ofGroup, follow}
-use Rattle.model.specs.Store.{lastClock, Reading, Slot, Purpose, Single, Totaling, PutPublish, Worker, Store, Hub, blank, up, workerAt, slotAt, newestOf}
+use Rattle.model.specs.Store.{absent, markCount, lastClock, Reading, Slot, Purpose, Single, Marked, Totaling, PutPublish, Worker, Store, Hub, blank, up, workerAt, slotAt, newestOf, markAt}
 use Rattle.model.specs.About.{Hand, Empty, Covered, Merged, Needless, about}
 use Rattle.model.specs.Rules.{Rules, twelveDigits, Allowed, Ruled}
 use Rattle.model.specs.Answer.{Ok, No}
@@ -38,8 +39,16 @@ versionsHeld x = inHand (about (x .doing) .hand) + length (x .pool)
 -- H12.11: a total is at a row of its group, and its sums are of at most 31 values, none with more than twelve digits
 abbrev pub TotalFits : List ℕ → Purpose → Type 0
 TotalFits rows Single = Unit {0}
+TotalFits rows (Marked m) = Unit {0}
 TotalFits rows (Totaling g i y) =
     (i < length rows) × (groupOf (rowAt rows i) ≡ g) × (y .plus + y .minus ≤ 31 * twelveDigits)
+
+-- H13.2: a flush has read the times of at most P workers, or of all of them and of all marks
+abbrev pub TimesFit : Store → Hand → Type 0
+TimesFit s Empty = Unit {0}
+TimesFit s (Covered c) = Unit {0}
+TimesFit s (Merged m ts) = (length ts ≤ s .site .P) ⊎ (length ts ≡ s .site .P + markCount)
+TimesFit s (Needless m) = Unit {0}
 
 pub record Bounds (s : Store) : Type 0 where
   -- H1.1 to H1.4: the sizes and the clock
@@ -55,6 +64,10 @@ pub record Bounds (s : Store) : Type 0 where
   pub merged : All (λ x. inHand (about (x .doing) .hand) ≤ 4 * s .site .B) (s .workers)
   -- a queued pool has 1 to 2B
   pub queued : All (λ l. (1 ≤ length l) × (length l ≤ 2 * s .site .B)) (s .queue)
+  -- the times that it has read
+  pub times : All (λ x. TimesFit s (about (x .doing) .hand)) (s .workers)
+  -- H13.1: there are twelve marks, and each is empty or holds a time that the clock has passed
+  pub marks : (length (s .marks) ≡ markCount) × ((m : ℕ) → m < markCount → (markAt s m ≡ absent) ⊎ (markAt s m < s .clock))
   -- the versions in pools, merged lists and puts, the free slots and the newest versions together are N
   pub total : sumBy versionsHeld (s .workers) + sumBy length (s .queue) + (length (s .free) + s .site .V') ≡ s .site .N
   -- so many pools at the most

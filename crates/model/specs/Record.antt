@@ -23,7 +23,7 @@ zeros b i (suc n) = eqb (getD b i 0) 0 && zeros b (suc i) n
 ------------------------------------------------------------------------
 -- Commands
 
--- H3.3: an operation that a record begins, 1 to 6 and 8
+-- H3.3: an operation that a record begins, 1 to 6 and 8 to 11
 pub data Operation : Type 0 where
   -- the register and what to store
   Put : ℕ → Reading → Operation
@@ -36,6 +36,12 @@ pub data Operation : Type 0 where
   Collect : Operation
   -- H12.4: the group
   Total : ℕ → Operation
+  -- H13.3: the mark
+  Mark : ℕ → Operation
+  -- H13.4: the mark
+  Release : ℕ → Operation
+  -- H13.5: the register and the mark
+  MarkedRead : ℕ → ℕ → Operation
 
 -- H2.2: what a setup asks for
 pub record Sizes : Type 0 where
@@ -47,7 +53,7 @@ pub record Sizes : Type 0 where
 pub data Command : Type 0 where
   -- 0
   SetUp : Sizes → Command
-  -- 1 to 6 and 8: the worker and the operation
+  -- 1 to 6 and 8 to 11: the worker and the operation
   Begin : ℕ → Operation → Command
   -- 7: the worker
   Step : ℕ → Command
@@ -63,13 +69,21 @@ registerIn b = number b 2 2
 abbrev pub groupIn : List ℕ → ℕ
 groupIn b = number b 2 2
 
+-- H13.3, H13.4: of a mark and of a release, where others have the register
+abbrev pub markIn : List ℕ → ℕ
+markIn b = number b 2 2
+
+-- H13.5: of a marked read, behind its register
+abbrev pub markBehind : List ℕ → ℕ
+markBehind b = number b 4 1
+
 abbrev pub readingIn : List ℕ → Reading
 readingIn b = record { count = number b 8 8 }
 
 abbrev pub sizesIn : List ℕ → Sizes
 sizesIn b = record { P = number b 1 1; V' = number b 2 2; N = number b 4 2; clock = number b 8 4 }
 
--- H3.3: the command by byte 0; one above 8 is refused before this is looked at
+-- H3.3: the command by byte 0; one above 11 is refused before this is looked at
 unfoldable pub commandOf : List ℕ → ℕ → Command
 commandOf b zero = SetUp (sizesIn b)
 commandOf b (suc zero) = Begin (workerIn b) (Put (registerIn b) (readingIn b))
@@ -79,7 +93,11 @@ commandOf b (suc (suc (suc (suc zero)))) = Begin (workerIn b) Close
 commandOf b (suc (suc (suc (suc (suc zero))))) = Begin (workerIn b) (Get (registerIn b))
 commandOf b (suc (suc (suc (suc (suc (suc zero)))))) = Begin (workerIn b) Collect
 commandOf b (suc (suc (suc (suc (suc (suc (suc zero))))))) = Step (workerIn b)
-commandOf b (suc (suc (suc (suc (suc (suc (suc (suc n)))))))) = Begin (workerIn b) (Total (groupIn b))
+commandOf b (suc (suc (suc (suc (suc (suc (suc (suc zero)))))))) = Begin (workerIn b) (Total (groupIn b))
+commandOf b (suc (suc (suc (suc (suc (suc (suc (suc (suc zero))))))))) = Begin (workerIn b) (Mark (markIn b))
+commandOf b (suc (suc (suc (suc (suc (suc (suc (suc (suc (suc zero)))))))))) = Begin (workerIn b) (Release (markIn b))
+commandOf b (suc (suc (suc (suc (suc (suc (suc (suc (suc (suc (suc n))))))))))) =
+    Begin (workerIn b) (MarkedRead (registerIn b) (markBehind b))
 
 -- H3.3, H3.4: the unused bytes of each command are zero
 unfoldable pub unusedZero : List ℕ → Command → Bool
@@ -91,6 +109,9 @@ unusedZero b (Begin w Close) = zeros b 2 14
 unusedZero b (Begin w (Get r)) = zeros b 4 12
 unusedZero b (Begin w Collect) = zeros b 2 14
 unusedZero b (Begin w (Total g)) = zeros b 4 12
+unusedZero b (Begin w (Mark m)) = zeros b 4 12
+unusedZero b (Begin w (Release m)) = zeros b 4 12
+unusedZero b (Begin w (MarkedRead r m)) = zeros b 5 11
 unusedZero b (Step w) = zeros b 2 14
 
 -- a record read: a command, or the number of the refusal
@@ -98,13 +119,13 @@ pub data Decoded : Type 0 where
   Asks : Command → Decoded
   Refuses : ℕ → Decoded
 
--- H7.1: 6 fewer than 16 bytes, the empty record too (H3.9); 1 operation above 8; 2 an unused byte is not zero. H3.8: of a longer list the first
+-- H7.1: 6 fewer than 16 bytes, the empty record too (H3.9); 1 operation above 11; 2 an unused byte is not zero. H3.8: of a longer list the first
 -- sixteen are read. The bytes may be any numbers here.
 unfoldable pub decode : List ℕ → Decoded
 decode b =
     let c = commandOf b (getD b 0 0) in
     cond (ltb (length b) 16) (Refuses 6)
-    (cond (ltb 8 (getD b 0 0)) (Refuses 1)
+    (cond (ltb 11 (getD b 0 0)) (Refuses 1)
     (cond (unusedZero b c) (Asks c) (Refuses 2)))
 
 ------------------------------------------------------------------------

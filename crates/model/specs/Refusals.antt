@@ -15,11 +15,11 @@ use Rattle.model.specs.Demand.{occurrences}
 
 -- H7.1: the numbers of the refusals on reading; 7 is the row writer's
 abbrev pub onReading : List ℕ
-onReading = 1 ∷ 2 ∷ 3 ∷ 4 ∷ 5 ∷ 6 ∷ 8 ∷ 9 ∷ 10 ∷ 11 ∷ 12 ∷ 13 ∷ 16 ∷ 17 ∷ []
+onReading = 1 ∷ 2 ∷ 3 ∷ 4 ∷ 5 ∷ 6 ∷ 8 ∷ 9 ∷ 10 ∷ 11 ∷ 12 ∷ 13 ∷ 16 ∷ 17 ∷ 19 ∷ 20 ∷ 21 ∷ []
 
 -- H7.2: and of those that a step meets
 abbrev pub atStep : List ℕ
-atStep = 14 ∷ 15 ∷ 18 ∷ []
+atStep = 14 ∷ 15 ∷ 18 ∷ 19 ∷ 20 ∷ 21 ∷ []
 
 -- the hub with that worker idle of which the record is a step
 unfoldable pub idled : Hub → Decoded → Hub
@@ -33,7 +33,7 @@ idled (up s) (Refuses k) = up s
 pub record Refused (h : Hub) (d : Decoded) (k : ℕ) (after : Hub) : Type 0 where
   -- it is one of those that a step meets, or else of those on reading
   pub number : 0 < occurrences k (cond (takesStep h d) atStep onReading)
-  -- H7.4: one on reading changes nothing. H7.5: 14, 15 and 18 set the worker idle and change nothing else.
+  -- H7.4: one on reading changes nothing. H7.5: one at a step sets the worker idle and changes nothing else.
   pub leaves : after ≡ cond (takesStep h d) (idled h d) h
 
 -- What is claimed of a hub h, a record that reads as d, the refusal in its answer, if it is one, and the hub after it.

@@ -6,7 +6,7 @@ use Prim.Native.Nat.{ℕ}
 use lib.ListN.{replicate}
 use Rattle.model.specs.Store.{slot₀}
 use Rattle.model.specs.Rules.{document01, inForce, Ruled, under}
-use Rattle.model.specs.Record.{Open, Read, Close, Get, Collect, Total, Command, Begin, Step}
+use Rattle.model.specs.Record.{Open, Read, Close, Get, Collect, Total, Mark, Release, MarkedRead, Command, Begin, Step}
 use Rattle.model.specs.Answer.{Ok, No}
 use Rattle.model.specs.Apply.{applyRuled, answersTo}
 use Rattle.model.specs.Log.{text, lines, logOf}
@@ -42,26 +42,26 @@ movedSetup = setup 2 2 6 1
 abbrev pub movedRead : List Command
 movedRead =
     (put 0 0 4 ∷ steps 3 0)
-    ++ (put 0 1 5 ∷ steps 8 0)
+    ++ (put 0 1 5 ∷ steps 9 0)
     ++ (Begin 1 Open ∷ steps 2 1)
     ++ (put 0 0 7 ∷ steps 3 0)
     ++ (Begin 1 (Read 0) ∷ steps 1 1)
-    ++ (put 0 0 9 ∷ steps 10 0)
-    ++ (Begin 0 Collect ∷ steps 6 0)
+    ++ (put 0 0 9 ∷ steps 11 0)
+    ++ (Begin 0 Collect ∷ steps 7 0)
     ++ (put 0 1 6 ∷ steps 1 0)
     ++ steps 1 1
 
--- A collect of worker 0 takes its pools, none, and reads the times. Then worker 1 opens a snapshot, covers the version that it needs and hands
+-- A collect of worker 0 takes its pools, none, and reads the times and the marks. Then worker 1 opens a snapshot, covers the version that it needs and hands
 -- it in. The collect frees nothing, and the snapshot still reads 0.
 abbrev pub lateSetup : Command
 lateSetup = setup 2 1 4 1
 
 abbrev pub latePool : List Command
 latePool =
-    (Begin 0 Collect ∷ steps 3 0)
+    (Begin 0 Collect ∷ steps 4 0)
     ++ (Begin 1 Open ∷ steps 2 1)
     ++ (put 1 0 7 ∷ steps 3 1)
-    ++ (put 1 0 8 ∷ steps 8 1)
+    ++ (put 1 0 8 ∷ steps 9 1)
     ++ steps 2 0
     ++ (Begin 1 (Read 0) ∷ steps 4 1)
 
@@ -80,18 +80,18 @@ stampingGet =
 -- A collect frees slot 0, a put of register 1 takes it, and the next put finds no slot: slot 0 was given back once.
 abbrev pub freedOnce : List Command
 freedOnce =
-    (setup 1 2 3 1 ∷ put 0 0 1 ∷ steps 7 0)
-    ++ (Begin 0 Collect ∷ steps 5 0)
-    ++ (put 0 1 2 ∷ steps 7 0)
+    (setup 1 2 3 1 ∷ put 0 0 1 ∷ steps 8 0)
+    ++ (Begin 0 Collect ∷ steps 6 0)
+    ++ (put 0 1 2 ∷ steps 8 0)
     ++ (put 0 1 3 ∷ steps 1 0)
 
 -- Of three versions the middle one is freed and unlinked: a read at the snapshot's time passes from the newest to the oldest.
 abbrev pub unlinked : List Command
 unlinked =
     (setup 1 1 3 1 ∷ Begin 0 Open ∷ steps 2 0)
-    ++ (put 0 0 1 ∷ steps 7 0)
-    ++ (put 0 0 2 ∷ steps 7 0)
-    ++ (Begin 0 Collect ∷ steps 5 0)
+    ++ (put 0 0 1 ∷ steps 8 0)
+    ++ (put 0 0 2 ∷ steps 8 0)
+    ++ (Begin 0 Collect ∷ steps 6 0)
     ++ (Begin 0 (Read 0) ∷ steps 3 0)
 
 -- Two flushes take turns, so that pools are queued and merged in an order that shows in the slot freed last.
@@ -105,9 +105,9 @@ poolOrder =
     ++ steps 1 0
     ++ (Begin 1 Collect ∷ steps 1 0)
     ++ steps 3 1
-    ++ steps 2 0
-    ++ steps 2 1
-    ++ (Begin 1 Collect ∷ steps 5 1)
+    ++ steps 3 0
+    ++ steps 3 1
+    ++ (Begin 1 Collect ∷ steps 6 1)
 
 -- H7.9: the largest value and the one above it are put, by an idle worker and by a busy one, on a register and on one that is not there; and a
 -- worker that is not there puts. The value above is refused after 3 and 4 and before 10; the largest one is stored and shown.
@@ -135,9 +135,9 @@ afterLimit =
     ++ (Begin 0 Close ∷ steps 1 0)
     ++ steps 3 1
     ++ (put 0 0 1000000000002 ∷ Begin 0 (Get 0) ∷ steps 1 0)
-    ++ (put 0 0 5 ∷ steps 8 0)
+    ++ (put 0 0 5 ∷ steps 9 0)
+    ++ (Begin 1 Collect ∷ steps 8 1)
     ++ (Begin 1 Collect ∷ steps 7 1)
-    ++ (Begin 1 Collect ∷ steps 6 1)
     ++ (Begin 1 (Get 0) ∷ steps 1 1)
 
 -- both lists, between which the rules change
@@ -176,12 +176,12 @@ movedList = 1 ∷ 0 ∷ 0 ∷ 0 ∷ 1 ∷ 0 ∷ 1 ∷ 0 ∷ []
 abbrev pub movedTotal : List Command
 movedTotal =
     (put 0 0 4 ∷ steps 3 0)
-    ++ (put 0 1 5 ∷ steps 8 0)
+    ++ (put 0 1 5 ∷ steps 9 0)
     ++ (Begin 1 Open ∷ steps 2 1)
     ++ (put 0 0 7 ∷ steps 3 0)
     ++ (Begin 1 (Total 1) ∷ steps 1 1)
-    ++ (put 0 0 9 ∷ steps 10 0)
-    ++ (Begin 0 Collect ∷ steps 6 0)
+    ++ (put 0 0 9 ∷ steps 11 0)
+    ++ (Begin 0 Collect ∷ steps 7 0)
     ++ (put 0 1 6 ∷ steps 1 0)
     ++ steps 4 1
 
@@ -218,49 +218,141 @@ badLists =
     ∷ replicate 128 0
     ∷ []
 
+-- H13: an export marks its time and closes. Puts and a collect follow, which frees slot 0 and keeps what the mark needs; a marked read shows 5 still,
+-- the value at the mark's time. Once the mark is released a collect frees the two versions behind the newest.
+abbrev pub monthSetup : Command
+monthSetup = setup 2 1 4 1
+
+abbrev pub monthEnd : List Command
+monthEnd =
+    (put 0 0 5 ∷ steps 3 0)
+    ++ (Begin 1 Open ∷ steps 2 1)
+    ++ (Begin 1 (Mark 3) ∷ steps 1 1)
+    ++ (Begin 1 Close ∷ steps 1 1)
+    ++ (put 0 0 7 ∷ steps 9 0)
+    ++ (put 0 0 9 ∷ steps 3 0)
+    ++ (Begin 0 Collect ∷ steps 7 0)
+    ++ (Begin 1 (MarkedRead 0 3) ∷ steps 4 1)
+    ++ (Begin 1 (Release 3) ∷ steps 1 1)
+    ++ (Begin 0 Collect ∷ steps 8 0)
+
+-- H13.6 to H13.8: 13, 4 and 20 at a begin; of two marks of one number the first holds, and the other is refused at its step; a marked read whose mark
+-- is released before its first step; a release begun before a read's first step, and one begun after it, while the read runs; of two releases the
+-- second.
+abbrev pub markSetup : Command
+markSetup = setup 3 1 2 1
+
+abbrev pub markRefusals : List Command
+markRefusals =
+    (Begin 0 (Mark 0) ∷ Begin 0 (Mark 12) ∷ Begin 0 (Release 0) ∷ Begin 0 (MarkedRead 0 0) ∷ Begin 0 (MarkedRead 0 12) ∷ [])
+    ++ (Begin 0 (MarkedRead 1 0) ∷ Begin 0 Open ∷ steps 2 0)
+    ++ (Begin 1 Open ∷ steps 2 1)
+    ++ (Begin 0 (Mark 0) ∷ Begin 1 (Mark 0) ∷ Step 1 ∷ Step 0 ∷ Begin 0 (Mark 0) ∷ [])
+    ++ (Begin 2 (MarkedRead 0 0) ∷ Begin 0 (Release 0) ∷ Step 0 ∷ Step 2 ∷ Begin 2 (Release 0) ∷ [])
+    ++ (Begin 0 (Mark 0) ∷ Step 0 ∷ Begin 1 (Release 0) ∷ Begin 2 (MarkedRead 0 0) ∷ Step 2 ∷ Step 1 ∷ Begin 1 (Release 0) ∷ Step 2 ∷ [])
+    ++ (Begin 1 (Release 0) ∷ Begin 0 (Release 0) ∷ Step 1 ∷ Step 0 ∷ Step 0 ∷ [])
+
+-- H13.2: a collect has read worker 0's time; then worker 1, whose time it has yet to read, marks that time and closes. The collect reads no time of
+-- worker 1, and then the mark's: it frees slot 1, and a marked read shows 0, from slot 0.
+abbrev pub lastSetup : Command
+lastSetup = setup 2 1 4 1
+
+abbrev pub marksLast : List Command
+marksLast =
+    (Begin 1 Open ∷ steps 2 1)
+    ++ (put 0 0 7 ∷ steps 3 0)
+    ++ (put 0 0 8 ∷ steps 9 0)
+    ++ (Begin 0 Collect ∷ steps 2 0)
+    ++ (Begin 1 (Mark 0) ∷ steps 1 1)
+    ++ (Begin 1 Close ∷ steps 1 1)
+    ++ steps 5 0
+    ++ (Begin 1 (MarkedRead 0 0) ∷ steps 3 1)
+
 pub record Runs : Type 0 where
+  pub month-log : logFor 4 (monthSetup ∷ monthEnd)
+      ≡ text "0 ok\n1 ok\n2 going\n3 going\n4 done\n5 ok\n6 going\n7 at 1\n8 ok\n9 done\n10 ok\n11 done\n12 ok\n"
+      ++ text "13 going\n14 going\n15 going\n16 going\n17 going\n18 going\n19 going\n20 going\n21 done\n22 ok\n"
+      ++ text "23 going\n24 going\n25 done\n26 ok\n27 going\n28 going\n29 going\n30 going\n31 going\n32 freed 0\n"
+      ++ text "33 done\n34 ok\n35 going\n36 going\n37 going\n38 value 5\n39 ok\n40 done\n41 ok\n42 going\n"
+      ++ text "43 going\n44 going\n45 going\n46 going\n47 freed 2\n48 freed 1\n49 done\n"
+  pub month-order : orderFor 4 monthSetup monthEnd ≡ 0 ∷ 1 ∷ 2 ∷ 3 ∷ 4 ∷ 5 ∷ 6 ∷ 7 ∷ 8 ∷ 9 ∷ []
+  pub mark-refusals-log : logFor 2 (markSetup ∷ markRefusals)
+      ≡ text "0 ok\n1 no 13\n2 no 4\n3 no 20\n4 no 20\n5 no 4\n6 no 4\n7 ok\n8 going\n9 at 1\n10 ok\n11 going\n"
+      ++ text "12 at 2\n13 ok\n14 ok\n15 done\n16 no 19\n17 no 19\n18 ok\n19 ok\n20 done\n21 no 20\n22 no 20\n"
+      ++ text "23 ok\n24 done\n25 ok\n26 ok\n27 going\n28 no 21\n29 no 21\n30 value 0\n31 ok\n32 ok\n33 done\n"
+      ++ text "34 no 20\n35 no 11\n"
+  pub mark-refusals-order : orderFor 2 markSetup markRefusals ≡ 0 ∷ 1 ∷ 3 ∷ 5 ∷ 6 ∷ 8 ∷ 9 ∷ []
+  pub marks-last-log : logFor 4 (lastSetup ∷ marksLast)
+      ≡ text "0 ok\n1 ok\n2 going\n3 at 1\n4 ok\n5 going\n6 going\n7 done\n8 ok\n9 going\n10 going\n11 going\n"
+      ++ text "12 going\n13 going\n14 going\n15 going\n16 going\n17 done\n18 ok\n19 going\n20 going\n21 ok\n"
+      ++ text "22 done\n23 ok\n24 done\n25 going\n26 going\n27 going\n28 freed 1\n29 done\n30 ok\n31 going\n"
+      ++ text "32 going\n33 value 0\n"
+  pub marks-last-order : orderFor 4 lastSetup marksLast ≡ 0 ∷ 1 ∷ 2 ∷ 4 ∷ 5 ∷ 3 ∷ 6 ∷ []
   pub sums-log : logWith sumsList 9 (sumsSetup ∷ sums)
-      ≡ text
-      "0 ok\n1 no 13\n2 no 17\n3 no 17\n4 no 3\n5 ok\n6 going\n7 going\n8 done\n9 ok\n10 going\n11 going\n12 done\n13 ok\n14 going\n15 going\n16 done\n17 ok\n18 going\n19 at 1\n20 ok\n21 going\n22 going\n23 no 17\n24 no 10\n25 ok\n26 going\n27 going\n28 done\n29 going\n30 going\n31 going\n32 going\n33 value -8\n34 ok\n35 going\n36 going\n37 going\n38 value 10\n39 ok\n40 going\n41 going\n42 value -7\n"
+      ≡ text "0 ok\n1 no 13\n2 no 17\n3 no 17\n4 no 3\n5 ok\n6 going\n7 going\n8 done\n9 ok\n10 going\n"
+      ++ text "11 going\n12 done\n13 ok\n14 going\n15 going\n16 done\n17 ok\n18 going\n19 at 1\n20 ok\n21 going\n"
+      ++ text "22 going\n23 no 17\n24 no 10\n25 ok\n26 going\n27 going\n28 done\n29 going\n30 going\n31 going\n"
+      ++ text "32 going\n33 value -8\n34 ok\n35 going\n36 going\n37 going\n38 value 10\n39 ok\n40 going\n"
+      ++ text "41 going\n42 value -7\n"
   pub sums-order : orderOf 9 (with sumsList sumsSetup) (map handed sums) ≡ 0 ∷ 1 ∷ 2 ∷ 3 ∷ 5 ∷ 4 ∷ 6 ∷ 7 ∷ []
   pub moved-total-log : logWith movedList 6 (movedSetup ∷ movedTotal)
-      ≡ text
-      "0 ok\n1 ok\n2 going\n3 going\n4 done\n5 ok\n6 going\n7 going\n8 going\n9 going\n10 going\n11 going\n12 going\n13 done\n14 ok\n15 going\n16 at 1\n17 ok\n18 going\n19 going\n20 done\n21 ok\n22 going\n23 ok\n24 going\n25 going\n26 going\n27 going\n28 going\n29 going\n30 going\n31 freed 0\n32 freed 1\n33 done\n34 ok\n35 going\n36 going\n37 going\n38 going\n39 freed 4\n40 done\n41 ok\n42 going\n43 going\n44 going\n45 going\n46 value 9\n"
+      ≡ text "0 ok\n1 ok\n2 going\n3 going\n4 done\n5 ok\n6 going\n7 going\n8 going\n9 going\n10 going\n"
+      ++ text "11 going\n12 going\n13 going\n14 done\n15 ok\n16 going\n17 at 1\n18 ok\n19 going\n20 going\n"
+      ++ text "21 done\n22 ok\n23 going\n24 ok\n25 going\n26 going\n27 going\n28 going\n29 going\n30 going\n"
+      ++ text "31 going\n32 going\n33 freed 0\n34 freed 1\n35 done\n36 ok\n37 going\n38 going\n39 going\n"
+      ++ text "40 going\n41 going\n42 freed 4\n43 done\n44 ok\n45 going\n46 going\n47 going\n48 going\n"
+      ++ text "49 value 9\n"
   pub moved-total-order : orderOf 6 (with movedList movedSetup) (map handed movedTotal) ≡ 0 ∷ 1 ∷ 2 ∷ 3 ∷ 5 ∷ 6 ∷ 7 ∷ 4 ∷ []
   pub over-log : lines 0 (answersTo (rowOf 6) (overSetup ∷ over))
-      ≡ text "0 ok\n1 ok\n2 going\n3 going\n4 done\n5 ok\n6 going\n7 at 1\n8 ok\n9 going\n10 no 18\n11 no 11\n12 ok\n13 going\n14 value 1000000000000\n"
+      ≡ text "0 ok\n1 ok\n2 going\n3 going\n4 done\n5 ok\n6 going\n7 at 1\n8 ok\n9 going\n10 no 18\n11 no 11\n"
+      ++ text "12 ok\n13 going\n14 value 1000000000000\n"
   -- the total, call 2, is refused
   pub over-order : orderOf 6 overSetup over ≡ 0 ∷ 1 ∷ 3 ∷ []
   pub large-log : logWith (replicate 8 0) 3 (largeSetup ∷ large)
-      ≡ text "0 ok\n1 ok\n2 going\n3 going\n4 done\n5 ok\n6 going\n7 at 1\n8 ok\n9 going\n10 going\n11 going\n12 value 1999999999998\n"
+      ≡ text "0 ok\n1 ok\n2 going\n3 going\n4 done\n5 ok\n6 going\n7 at 1\n8 ok\n9 going\n10 going\n11 going\n"
+      ++ text "12 value 1999999999998\n"
   pub bad-lists : map (λ l. answersTo (rowOf 3) (with l (setup 1 3 3 1) ∷ [])) badLists
       ≡ replicate 6 (No 5 ∷ []) ++ ((Ok ∷ []) ∷ [])
   pub moved-log : logFor 6 (movedSetup ∷ movedRead)
-      ≡ text
-      "0 ok\n1 ok\n2 going\n3 going\n4 done\n5 ok\n6 going\n7 going\n8 going\n9 going\n10 going\n11 going\n12 going\n13 done\n14 ok\n15 going\n16 at 1\n17 ok\n18 going\n19 going\n20 done\n21 ok\n22 going\n23 ok\n24 going\n25 going\n26 going\n27 going\n28 going\n29 going\n30 going\n31 freed 0\n32 freed 1\n33 done\n34 ok\n35 going\n36 going\n37 going\n38 going\n39 freed 4\n40 done\n41 ok\n42 going\n43 value 4\n"
+      ≡ text "0 ok\n1 ok\n2 going\n3 going\n4 done\n5 ok\n6 going\n7 going\n8 going\n9 going\n10 going\n"
+      ++ text "11 going\n12 going\n13 going\n14 done\n15 ok\n16 going\n17 at 1\n18 ok\n19 going\n20 going\n"
+      ++ text "21 done\n22 ok\n23 going\n24 ok\n25 going\n26 going\n27 going\n28 going\n29 going\n30 going\n"
+      ++ text "31 going\n32 going\n33 freed 0\n34 freed 1\n35 done\n36 ok\n37 going\n38 going\n39 going\n"
+      ++ text "40 going\n41 going\n42 freed 4\n43 done\n44 ok\n45 going\n46 value 4\n"
   -- the last put, call 7, is not stamped: it has no effect yet
   pub moved-order : orderFor 6 movedSetup movedRead ≡ 0 ∷ 1 ∷ 2 ∷ 3 ∷ 5 ∷ 6 ∷ 4 ∷ []
   pub late-log : logFor 4 (lateSetup ∷ latePool)
-      ≡ text
-      "0 ok\n1 ok\n2 going\n3 going\n4 going\n5 ok\n6 going\n7 at 1\n8 ok\n9 going\n10 going\n11 done\n12 ok\n13 going\n14 going\n15 going\n16 going\n17 going\n18 going\n19 going\n20 done\n21 going\n22 done\n23 ok\n24 going\n25 going\n26 going\n27 value 0\n"
+      ≡ text "0 ok\n1 ok\n2 going\n3 going\n4 going\n5 going\n6 ok\n7 going\n8 at 1\n9 ok\n10 going\n11 going\n"
+      ++ text "12 done\n13 ok\n14 going\n15 going\n16 going\n17 going\n18 going\n19 going\n20 going\n21 going\n"
+      ++ text "22 done\n23 going\n24 done\n25 ok\n26 going\n27 going\n28 going\n29 value 0\n"
   pub late-order : orderFor 4 lateSetup latePool ≡ 1 ∷ 2 ∷ 3 ∷ 0 ∷ 4 ∷ []
   pub get-log : logFor 3 (getSetup ∷ stampingGet)
-      ≡ text "0 ok\n1 ok\n2 going\n3 ok\n4 going\n5 at 5\n6 ok\n7 value 7\n8 ok\n9 going\n10 going\n11 value 0\n12 going\n13 done\n"
+      ≡ text "0 ok\n1 ok\n2 going\n3 ok\n4 going\n5 at 5\n6 ok\n7 value 7\n8 ok\n9 going\n10 going\n11 value 0\n"
+      ++ text "12 going\n13 done\n"
   -- the open, then the put that the get stamped, then the get
   pub get-order : orderFor 3 getSetup stampingGet ≡ 1 ∷ 0 ∷ 2 ∷ 3 ∷ []
   pub freed-once : logFor 3 freedOnce
-      ≡ text
-      "0 ok\n1 ok\n2 going\n3 going\n4 going\n5 going\n6 going\n7 going\n8 done\n9 ok\n10 going\n11 going\n12 going\n13 freed 0\n14 done\n15 ok\n16 going\n17 going\n18 going\n19 going\n20 going\n21 going\n22 done\n23 ok\n24 no 14\n"
+      ≡ text "0 ok\n1 ok\n2 going\n3 going\n4 going\n5 going\n6 going\n7 going\n8 going\n9 done\n10 ok\n"
+      ++ text "11 going\n12 going\n13 going\n14 going\n15 freed 0\n16 done\n17 ok\n18 going\n19 going\n20 going\n"
+      ++ text "21 going\n22 going\n23 going\n24 going\n25 done\n26 ok\n27 no 14\n"
   pub unlinked-log : logFor 3 unlinked
-      ≡ text
-      "0 ok\n1 ok\n2 going\n3 at 1\n4 ok\n5 going\n6 going\n7 going\n8 going\n9 going\n10 going\n11 done\n12 ok\n13 going\n14 going\n15 going\n16 going\n17 going\n18 going\n19 done\n20 ok\n21 going\n22 going\n23 going\n24 freed 1\n25 done\n26 ok\n27 going\n28 going\n29 value 0\n"
+      ≡ text "0 ok\n1 ok\n2 going\n3 at 1\n4 ok\n5 going\n6 going\n7 going\n8 going\n9 going\n10 going\n"
+      ++ text "11 going\n12 done\n13 ok\n14 going\n15 going\n16 going\n17 going\n18 going\n19 going\n20 going\n"
+      ++ text "21 done\n22 ok\n23 going\n24 going\n25 going\n26 going\n27 freed 1\n28 done\n29 ok\n30 going\n"
+      ++ text "31 going\n32 value 0\n"
   pub pool-order : logFor 5 poolOrder
-      ≡ text
-      "0 ok\n1 ok\n2 going\n3 ok\n4 going\n5 going\n6 going\n7 done\n8 ok\n9 done\n10 going\n11 ok\n12 going\n13 going\n14 going\n15 going\n16 going\n17 going\n18 going\n19 done\n20 ok\n21 going\n22 going\n23 going\n24 going\n25 freed 2\n"
+      ≡ text "0 ok\n1 ok\n2 going\n3 ok\n4 going\n5 going\n6 going\n7 done\n8 ok\n9 done\n10 going\n11 ok\n"
+      ++ text "12 going\n13 going\n14 going\n15 going\n16 going\n17 going\n18 going\n19 going\n20 going\n"
+      ++ text "21 done\n22 ok\n23 going\n24 going\n25 going\n26 going\n27 going\n28 freed 2\n"
   pub limit-log : logFor 3 limits
-      ≡ text "0 ok\n1 no 16\n2 ok\n3 no 16\n4 no 4\n5 no 3\n6 no 10\n7 going\n8 going\n9 done\n10 ok\n11 value 999999999999\n"
+      ≡ text "0 ok\n1 no 16\n2 ok\n3 no 16\n4 no 4\n5 no 3\n6 no 10\n7 going\n8 going\n9 done\n10 ok\n"
+      ++ text "11 value 999999999999\n"
   pub earlier-log : lines 0 (answersTo (rowOf 4) (handedBefore beforeSetup ∷ changing))
-      ≡ text
-      "0 ok\n1 ok\n2 going\n3 going\n4 done\n5 ok\n6 ok\n7 value 1000000000000\n8 ok\n9 going\n10 at 1\n11 ok\n12 going\n13 value 1000000000000\n14 ok\n15 done\n16 going\n17 going\n18 done\n19 no 16\n20 ok\n21 value 1000000000001\n22 ok\n23 going\n24 going\n25 going\n26 going\n27 going\n28 going\n29 going\n30 done\n31 ok\n32 going\n33 going\n34 going\n35 going\n36 freed 0\n37 freed 2\n38 done\n39 ok\n40 going\n41 going\n42 going\n43 going\n44 freed 1\n45 done\n46 ok\n47 value 5\n"
+      ≡ text "0 ok\n1 ok\n2 going\n3 going\n4 done\n5 ok\n6 ok\n7 value 1000000000000\n8 ok\n9 going\n10 at 1\n"
+      ++ text "11 ok\n12 going\n13 value 1000000000000\n14 ok\n15 done\n16 going\n17 going\n18 done\n19 no 16\n"
+      ++ text "20 ok\n21 value 1000000000001\n22 ok\n23 going\n24 going\n25 going\n26 going\n27 going\n28 going\n"
+      ++ text "29 going\n30 going\n31 done\n32 ok\n33 going\n34 going\n35 going\n36 going\n37 going\n38 freed 0\n"
+      ++ text "39 freed 2\n40 done\n41 ok\n42 going\n43 going\n44 going\n45 going\n46 going\n47 freed 1\n"
+      ++ text "48 done\n49 ok\n50 value 5\n"
   -- the second put, call 1, has its effect after the rule, behind the close
   pub earlier-order : orderOf 4 (handedBefore beforeSetup) changing ≡ 0 ∷ 2 ∷ 3 ∷ 4 ∷ 5 ∷ 1 ∷ 6 ∷ 7 ∷ 8 ∷ 9 ∷ 10 ∷ []

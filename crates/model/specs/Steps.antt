@@ -1,11 +1,13 @@
 -- The steps: H5 of docs/HUB.md. Each takes the store, the worker that steps and what its place holds.
 use mathlib.Core.Bool.{cond}
 use mathlib.Core.List.{List, [], _∷_, _++_, map}
+use mathlib.Core.Option.{Option, none, some}
 use Prim.Native.Nat.{ℕ, _+_, _-_}
 use lib.Dec.{ltb, leb, eqb}
 use lib.ListN.{length, set, drop}
-use Rattle.model.specs.Store.{absent, lastClock, Reading, Range, TimeStep, OpenAnnounce, OpenPass, CloseWithdraw, Purpose, Single, Totaling, Goal, Doing, Idle, PutPublish, PutStamp, PutHandIn, FlushTake, FlushRead, FlushFree, OnTime, ReadEnter, ReadStand, GetShow, Worker, Store, workerAt, slotAt, newestOf, holders, held, rangeOf, withClock, withSlots, withNewest, withFree, withQueue, withWorkers, withWorker, withDoing, place}
+use Rattle.model.specs.Store.{absent, lastClock, Reading, Range, TimeStep, OpenAnnounce, OpenPass, CloseWithdraw, MarkKeep, MarkRelease, Purpose, Single, Marked, Totaling, Goal, Doing, Idle, PutPublish, PutStamp, PutHandIn, FlushTake, FlushRead, FlushFree, OnTime, ReadEnter, ReadStand, GetShow, Worker, Store, workerAt, slotAt, newestOf, rangeOf, withClock, withSlots, withNewest, withFree, withQueue, withWorkers, withMarks, withWorker, withDoing, place}
 use Rattle.model.specs.About.{Stance, Nowhere, StandsOn, about}
+use Rattle.model.specs.Marks.{EmptyMark, UnreadMark, markRefusal, needFor, timeFor}
 use Rattle.model.specs.Rules.{twelveDigits}
 use Rattle.model.specs.Totals.{Sum, registerOf, rowAt, goesOn, addRow}
 use Rattle.model.specs.Answer.{Answer, Going, Freed, At, Value, Below, Done, No, Stepped}
@@ -63,9 +65,9 @@ flushTake s w =
       answer = Going;
     }
 
--- H5.17, H5.18: the times that a flush reads in one step, once it has read those of the first k holders
+-- H5.17, H5.18, H13.2: the times that a flush reads in one step, once it has read k: the next worker's, and behind the last worker all marks'
 unfoldable pub readTimes : Store → ℕ → List ℕ
-readTimes s k = held s k ∷ []
+readTimes s k = cond (ltb k (s .site .P)) (workerAt s k .announced ∷ []) (s .marks)
 
 -- (3) H5.19: the merged list is split by the times read. H5.20 to H5.22: the needed ranges go on the queue or join the local pool, which is the
 -- first list of that merge. H5.23: the local pool is queued behind them, and is empty then. It may have 2B ranges for this moment, which is up to
@@ -83,13 +85,13 @@ flushSplit s w m ts =
       answer = Going;
     }
 
--- (2) H5.17: P steps, each reads the time of one worker, from worker 0 on. Then (3).
+-- (2) H5.17, H13.2: P steps, each reads the time of one worker, from worker 0 on; one more reads all marks. Then (3).
 unfoldable pub flushRead : Store → ℕ → List Range → List ℕ → Stepped
 flushRead s w m ts =
     let more : Stepped =
     record { store = place s w (FlushRead m (ts ++ readTimes s (length ts))); answer = Going } in
     let last = flushSplit s w m ts in
-    cond (ltb (length ts) (holders s)) more last
+    cond (leb (length ts) (s .site .P)) more last
 
 -- H5.27: a read that stands on the freed slot c goes to its older neighbour o
 abbrev pub moveTo : ℕ → ℕ → Doing → Stance → Doing
@@ -147,11 +149,17 @@ openPass s w =
 unfoldable pub answerFor : Reading → Answer
 answerFor x = Value x
 
--- Read (1) H5.36: the register is stamped, and the read stands on its newest version.
+-- H7.5: a refusal met at a step sets the worker idle and changes nothing else; without one, what follows
+unfoldable pub stoppedBy : Option ℕ → Store → ℕ → Stepped → Stepped
+stoppedBy none s w next = next
+stoppedBy (some k) s w next = record { store = place s w Idle; answer = No k }
+
+-- Read (1) H5.36: the register is stamped, and the read stands on its newest version. H13.7: 20 where the mark that it reads is empty.
 unfoldable pub readEnter : Store → ℕ → Goal → Stepped
 readEnter s w g =
     let r = g .register in
-    record { store = place (stamp s r) w (ReadStand g (newestOf s r)); answer = Going }
+    stoppedBy (markRefusal s (needFor (g .purpose))) s w
+    (record { store = place (stamp s r) w (ReadStand g (newestOf s r)); answer = Going })
 
 -- H12.5: a total of group g at row i of the list, with the sums of the rows of its group before it
 abbrev pub goalAt : List ℕ → ℕ → ℕ → Sum → Goal
@@ -175,17 +183,18 @@ totalFound s w g i sum x =
     let last : Stepped = record { store = place s w Idle; answer = signed more } in
     cond (leb x twelveDigits) (cond (goesOn rows g i) next last) over
 
--- what follows where the version that the worker's time needs has the reading x
+-- what follows where the version that the time needs has the reading x
 unfoldable pub found : Store → ℕ → Purpose → Reading → Stepped
 found s w Single x = record { store = place s w Idle; answer = answerFor x }
+found s w (Marked m) x = record { store = place s w Idle; answer = answerFor x }
 found s w (Totaling g i sum) x = totalFound s w g i sum (x .count)
 
--- Read (2) H5.37: with a low that is at most the worker's time, the value there is found, which is a read's answer; else the read goes to the
--- older neighbour.
+-- Read (2) H5.37, H13.5: with a low that is at most the worker's time, or the mark's, the value there is found, which is a read's answer; else the
+-- read goes to the older neighbour.
 unfoldable pub readStand : Store → ℕ → Goal → ℕ → Stepped
 readStand s w g c =
     let on : Stepped = record { store = place s w (ReadStand g (slotAt s c .older)); answer = Going } in
-    cond (leb (slotAt s c .low) (workerAt s w .announced)) (found s w (g .purpose) (slotAt s c .value)) on
+    cond (leb (slotAt s c .low) (timeFor (s .marks) (workerAt s w .announced) (g .purpose))) (found s w (g .purpose) (slotAt s c .value)) on
 
 -- Get, H5.39: the register is stamped, and the newest version's value is the answer.
 unfoldable pub getShow : Store → ℕ → ℕ → Stepped
@@ -201,12 +210,29 @@ closeWithdraw s w =
     }
 
 ------------------------------------------------------------------------
+-- Mark, release
+
+-- H13.3: the mark holds the worker's time. 19 where it holds one.
+unfoldable pub markKeep : Store → ℕ → ℕ → Stepped
+markKeep s w m =
+    stoppedBy (markRefusal s (EmptyMark m)) s w
+    (record { store = withMarks (place s w Idle) (set (s .marks) m (workerAt s w .announced)); answer = Done })
+
+-- H13.4: the mark is empty. 20 where it is, 21 where a read of it runs.
+unfoldable pub markRelease : Store → ℕ → ℕ → Stepped
+markRelease s w m =
+    stoppedBy (markRefusal s (UnreadMark m)) s w
+    (record { store = withMarks (place s w Idle) (set (s .marks) m absent); answer = Done })
+
+------------------------------------------------------------------------
 -- H5.1: one step of worker w, which is at the place given. An idle worker has none: refusal 11.
 
 unfoldable pub timeStep : Store → ℕ → TimeStep → Stepped
 timeStep s w OpenAnnounce = openAnnounce s w
 timeStep s w OpenPass = openPass s w
 timeStep s w CloseWithdraw = closeWithdraw s w
+timeStep s w (MarkKeep m) = markKeep s w m
+timeStep s w (MarkRelease m) = markRelease s w m
 
 unfoldable pub stepAt : Store → ℕ → Doing → Stepped
 stepAt s w Idle = record { store = s; answer = No 11 }

@@ -1,6 +1,8 @@
 -- What the hub holds: H1 of docs/HUB.md, whose rules the comments of these files cite by number. All numbers are natural numbers.
+use mathlib.Core.Bool.{cond}
 use mathlib.Core.List.{List, [], _∷_}
-use Prim.Native.Nat.{ℕ, zero, suc, _+_}
+use Prim.Native.Nat.{ℕ, zero, suc, _+_, _-_}
+use lib.Dec.{ltb}
 use lib.ListN.{getD, set}
 use Rattle.model.specs.Totals.{Sum}
 
@@ -35,19 +37,26 @@ pub record Range : Type 0 where
   pub low : ℕ
   pub high : ℕ
 
--- A step that moves the worker's time and no version: open (1) and (2), close (H5.32 to H5.34, H5.40).
+-- H13.1: how many marks there are
+abbrev pub markCount : ℕ
+markCount = 12
+
+-- A step that moves a time and no version: open (1) and (2), close (H5.32 to H5.34, H5.40); mark and release (H13.3, H13.4), of a mark.
 pub data TimeStep : Type 0 where
   OpenAnnounce : TimeStep
   OpenPass : TimeStep
   CloseWithdraw : TimeStep
+  MarkKeep : ℕ → TimeStep
+  MarkRelease : ℕ → TimeStep
 
--- What a value is read for: it is the answer; or it goes into a total: the group, the index of the row in the list, and the sums of the rows
--- before it.
+-- What a value is read for: it is the answer, as of the worker's time; or as of a mark's (H13.5); or it goes into a total: the group, the index
+-- of the row in the list, and the sums of the rows before it.
 pub data Purpose : Type 0 where
   Single : Purpose
+  Marked : ℕ → Purpose
   Totaling : ℕ → ℕ → Sum → Purpose
 
--- what a read, or a total, is at: the register that it reads, and what for
+-- what a read, a marked read or a total is at: the register that it reads, and what for
 pub record Goal : Type 0 where
   pub register : ℕ
   pub purpose : Purpose
@@ -67,9 +76,9 @@ pub data Doing : Type 0 where
   FlushRead : List Range → List ℕ → Doing
   -- flush (4), and (5) once none is left: the needless ranges not yet freed
   FlushFree : List Range → Doing
-  -- open (1) and (2), close
+  -- open (1) and (2), close, mark, release
   OnTime : TimeStep → Doing
-  -- read (1), of a total too
+  -- read (1), of a marked read and of a total too
   ReadEnter : Goal → Doing
   -- read (2): also the slot on which the read stands
   ReadStand : Goal → ℕ → Doing
@@ -100,7 +109,7 @@ pub record Site : Type 0 where
   pub rows : List ℕ
 
 -- A hub that is set up. `newest` has the slot of each register's newest version (H1.11), `free` the free slots with the one that is taken first
--- in front (H1.25), `queue` the shared pools, first in first (H1.20).
+-- in front (H1.25), `queue` the shared pools, first in first (H1.20), `marks` the time that each mark holds, or none (H13.1).
 pub record Store : Type 0 where
   pub site : Site
   pub clock : ℕ
@@ -109,6 +118,7 @@ pub record Store : Type 0 where
   pub free : List ℕ
   pub queue : List (List Range)
   pub workers : List Worker
+  pub marks : List ℕ
 
 -- H2.1: the hub as a record meets it: not set up, with the row of slots that is lent to it; or set up.
 pub data Hub : Type 0 where
@@ -137,13 +147,17 @@ slotAt s c = getD (s .slots) c slot₀
 abbrev pub newestOf : Store → ℕ → ℕ
 newestOf s r = getD (s .newest) r absent
 
--- H1.14: who holds a time: each worker, the one that it has announced. This is how many holders there are.
+-- H13.1: the time that mark m holds, or none
+abbrev pub markAt : Store → ℕ → ℕ
+markAt s m = getD (s .marks) m absent
+
+-- H1.14, H13.2: who holds a time: each worker, the one that it has announced, and behind the workers each mark. This is how many there are.
 abbrev pub holders : Store → ℕ
-holders s = s .site .P
+holders s = s .site .P + markCount
 
 -- The time that holder v holds, or none.
 abbrev pub held : Store → ℕ → ℕ
-held s v = workerAt s v .announced
+held s v = cond (ltb v (s .site .P)) (workerAt s v .announced) (markAt s (v - s .site .P))
 
 -- H1.17: the range of the version in slot c, as its times stand now
 unfoldable pub rangeOf : Store → ℕ → Range
@@ -162,6 +176,7 @@ withClock s t =
       free = s .free;
       queue = s .queue;
       workers = s .workers;
+      marks = s .marks;
     }
 
 abbrev pub withSlots : Store → List Slot → Store
@@ -174,6 +189,7 @@ withSlots s l =
       free = s .free;
       queue = s .queue;
       workers = s .workers;
+      marks = s .marks;
     }
 
 abbrev pub withNewest : Store → List ℕ → Store
@@ -186,6 +202,7 @@ withNewest s l =
       free = s .free;
       queue = s .queue;
       workers = s .workers;
+      marks = s .marks;
     }
 
 abbrev pub withFree : Store → List ℕ → Store
@@ -198,6 +215,7 @@ withFree s l =
       free = l;
       queue = s .queue;
       workers = s .workers;
+      marks = s .marks;
     }
 
 abbrev pub withQueue : Store → List (List Range) → Store
@@ -210,6 +228,7 @@ withQueue s q =
       free = s .free;
       queue = q;
       workers = s .workers;
+      marks = s .marks;
     }
 
 abbrev pub withWorkers : Store → List Worker → Store
@@ -222,6 +241,20 @@ withWorkers s l =
       free = s .free;
       queue = s .queue;
       workers = l;
+      marks = s .marks;
+    }
+
+abbrev pub withMarks : Store → List ℕ → Store
+withMarks s l =
+    record {
+      site = s .site;
+      clock = s .clock;
+      slots = s .slots;
+      newest = s .newest;
+      free = s .free;
+      queue = s .queue;
+      workers = s .workers;
+      marks = l;
     }
 
 abbrev pub withWorker : Store → ℕ → Worker → Store

@@ -1,10 +1,11 @@
 -- Whether lent memory counts as set up (H8.3): the test that the code makes, scan by scan. What passes it is said without a test in
 -- `simulation` Ranges.
-use mathlib.Core.Bool.{Bool, true, false, cond, _&&_}
+use mathlib.Core.Bool.{Bool, true, false, cond, _&&_, _||_}
 use mathlib.Core.List.{List}
 use Prim.Native.Nat.{ℕ, zero, suc, _+_, _*_, _-_, min}
 use lib.Dec.{ltb, leb, eqb}
 use lib.ListN.{getD}
+use Rattle.model.specs.Store.{markCount}
 use Rattle.model.specs.Batch.{batchOf}
 use Rattle.model.specs.Rules.{twelveDigits}
 use Rattle.model.specs.Totals.{registerOf, rowAt}
@@ -12,7 +13,7 @@ use Rattle.values.specs.declared.Window.{Window}
 use Rattle.worker.specs.declared.Named.{Named}
 use Rattle.worker.specs.declared.Named.the-variants.{Nothing, Is}
 use Rattle.worker.specs.declared.Purpose.{Purpose}
-use Rattle.worker.specs.declared.Purpose.the-variants.{Single, Totaling}
+use Rattle.worker.specs.declared.Purpose.the-variants.{Single, Marked, Totaling}
 use Rattle.worker.specs.declared.Facts.{Facts}
 use Rattle.worker.specs.About.{aboutOf}
 use Rattle.worker.specs.declared.Pool.{Pool}
@@ -45,7 +46,7 @@ rangesFit (Is m) w merged most n = listFits m w merged most n
 unfoldable pub handFits : Named → ℕ → List ℕ → ℕ → ℕ → Bool
 handFits x w merged most n = cond (leb 16 w) false (rangesFit x w merged most n)
 
--- a register or a slot, if there is one, is below n
+-- a register, a slot or a mark, if there is one, is below n
 abbrev pub namedBelow : Named → ℕ → Bool
 namedBelow Nothing n = true
 namedBelow (Is i) n = ltb i n
@@ -62,12 +63,18 @@ sumFits sum = leb sum (31 * twelveDigits)
 -- a total is at one of k rows, and its sums are in range
 abbrev pub purposeFits : Purpose → ℕ → Bool
 purposeFits Single k = true
+purposeFits (Marked m) k = true
 purposeFits (Totaling g i plus minus) k = ltb i k && (sumFits plus && sumFits minus)
 
--- registers below V, slots below N, no more times read than there are workers, and a total at one of k rows
+-- the times read are those of at most p workers, or of all of them and of all marks (H13.2)
+abbrev pub readFits : ℕ → ℕ → Bool
+readFits j p = leb j p || eqb j (p + markCount)
+
+-- registers below V, slots below N, as many times read as there are steps for, a total at one of k rows, and marks below 12
 unfoldable pub placeFits : Facts → ℕ → ℕ → ℕ → ℕ → Bool
 placeFits y p v n k =
-    namedBelow (y .register) v && namedBelow (y .slot) n && (leb (y .read) p && purposeFits (y .purpose) k)
+    namedBelow (y .register) v && namedBelow (y .slot) n && (readFits (y .read) p && purposeFits (y .purpose) k)
+    && namedBelow (y .mark) markCount
 
 -- a worker's record, with at most so many ranges in its local pool and in its list in hand
 unfoldable pub workerFits : Worker → ℕ → List ℕ → ℕ → ℕ → ℕ → ℕ → ℕ → ℕ → Bool

@@ -3,7 +3,7 @@ ghost use mathlib.Core.Path.{_≡_};
 ghost use Prim.Native.Nat.{_+_, _*_, _-_, _<_, _≤_, min};
 ghost use lib.ListN.{length};
 ghost use Rattle.model.specs.Batch.{batchOf};
-ghost use Rattle.ready.specs.Ready.{belowTo, slotsBelow, poolFits, listFits, handFits, namedBelow, rowsBelow, purposeFits, placeFits, workerFits, workersFit, lensFit, lensSum, windowFits, sizesFit, readyOf};
+ghost use Rattle.ready.specs.Ready.{belowTo, slotsBelow, poolFits, listFits, handFits, namedBelow, rowsBelow, purposeFits, readFits, placeFits, workerFits, workersFit, lensFit, lensSum, windowFits, sizesFit, readyOf};
 use state::Hub;
 use values::Window;
 use worker::Facts;
@@ -11,6 +11,12 @@ use worker::Named;
 use worker::Pool;
 use worker::Purpose;
 use worker::Worker;
+
+fn wide8(x: u8) -> usize
+    ensures { λ r. ⌜ (r ≡ x) × (r ≤ 255) ⌝ }
+{
+    x as usize
+}
 
 fn wide16(x: u16) -> usize
     ensures { λ r. ⌜ r ≡ x ⌝ }
@@ -116,7 +122,7 @@ fn hand_fits(ranges: Named, w: usize, merged: &[u32; 12288], most: usize, n: u32
     }
 }
 
-// Whether a register or a slot, if there is one, is below n.
+// Whether a register, a slot or a mark, if there is one, is below n.
 fn below(x: Named, n: u16) -> bool
     ensures { λ r. ⌜ r ≡ namedBelow x n ⌝ }
 {
@@ -144,6 +150,7 @@ fn purpose_fits(x: Purpose, k: u16) -> bool
 {
     match x {
         Purpose::Single => true,
+        Purpose::Marked(_) => true,
         Purpose::Totaling {
             group: _,
             row,
@@ -153,14 +160,25 @@ fn purpose_fits(x: Purpose, k: u16) -> bool
     }
 }
 
-// Whether the register, the slot, the count of times and the total that a worker's place names are in range.
+// Whether so many times were read: of at most p workers, or of all of them and of all marks.
+fn read_fits(read: u8, p: u8) -> bool
+    ensures { λ r. ⌜ r ≡ readFits read p ⌝ }
+{
+    let j = wide8(read);
+    let k = wide8(p);
+    (j <= k) | (j == k + 12)
+}
+
+// Whether the register, the slot, the count of times, the total and the mark that a worker's place names are in range.
 fn place_fits(y: Facts, p: u8, v: u16, n: u16, k: u16) -> bool
     ensures { λ r. ⌜ r ≡ placeFits y p v n k ⌝ }
 {
     let register = y.register;
     let slot = y.slot;
     let purpose = y.purpose;
-    (below(register, v) & below(slot, n)) & ((y.read <= p) & purpose_fits(purpose, k))
+    let mark = y.mark;
+    ((below(register, v) & below(slot, n)) & (read_fits(y.read, p) & purpose_fits(purpose, k)))
+        & below(mark, 12)
 }
 
 // Whether worker w's record x is in range, with at most so many ranges in its local pool and in its list in hand.

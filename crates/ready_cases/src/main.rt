@@ -14,6 +14,7 @@ use numbers::HAND_SLOT;
 use numbers::KINDS;
 use numbers::LENGTH;
 use numbers::LISTED;
+use numbers::MINUS;
 use numbers::NEWER;
 use numbers::NEWEST;
 use numbers::OLDER;
@@ -127,7 +128,8 @@ fn write_name(kind: u8) {
         HAND_SLOT => write(b"slot in hand"),
         TOTAL_ROW => write(b"row of total"),
         PLUS => write(b"sum of rows +"),
-        _ => write(b"sum of rows -"),
+        MINUS => write(b"sum of rows -"),
+        _ => write(b"mark"),
     }
 }
 
@@ -181,6 +183,13 @@ fn show_values(m: Memory, z: Sizes, kind: u8, w: usize, i: usize) {
             i,
             numbers::pick(kind == SLOTS, std::num::wrapping_sub_usize(z.v, 1), 0),
         );
+    }
+    if kind == READ {
+        // Behind the workers all marks are read at once.
+        let all = std::num::wrapping_add_usize(z.p, 12);
+        show_value(m, z, kind, w, i, std::num::wrapping_sub_usize(all, 1));
+        show_value(m, z, kind, w, i, all);
+        show_value(m, z, kind, w, i, std::num::wrapping_add_usize(all, 1));
     }
 }
 
@@ -276,15 +285,15 @@ fn many_workers() {
         [6, 3, 0, 1],
         [6, 4, 0, 1],
         // Workers 0 and 1 end theirs and leave two pools; worker 1 takes them and is about to free four slots.
-        [7, 0, 0, 10],
-        [7, 1, 0, 10],
-        [6, 1, 0, 11],
+        [7, 0, 0, 11],
+        [7, 1, 0, 11],
+        [6, 1, 0, 12],
         // Worker 2 leaves one of three; worker 0 takes it and has read four times.
-        [7, 2, 0, 10],
+        [7, 2, 0, 11],
         [6, 0, 0, 5],
         // Workers 3 and 4 leave two pools, which stay; workers 4 and 5 have local pools of one range.
-        [7, 3, 0, 10],
-        [7, 4, 0, 10],
+        [7, 3, 0, 11],
+        [7, 4, 0, 11],
         [1, 4, 0, 3],
         [1, 5, 1, 3],
         // A put before each of its steps, a read before each of its steps, a get.
@@ -309,11 +318,11 @@ fn two_workers() {
         [1, 1, 1, 3],
         [6, 0, 0, 1],
         [6, 1, 0, 1],
-        [7, 0, 0, 3],
+        [7, 0, 0, 4],
         [1, 0, 0, 3],
         [6, 0, 0, 2],
         // The other leaves a pool that stays, and worker 1 has a local pool of one range.
-        [7, 1, 0, 3],
+        [7, 1, 0, 4],
         [1, 1, 0, 3],
     ];
     let m = records::driven(records::set_up(2, 2, 16, &[]), &script);
@@ -328,9 +337,25 @@ fn totals() {
     show_all(m, sizes_of(m, 1, 1, 1, 2));
 }
 
+// Five workers, of which one has marked its time: a mark and a release before their step, and marked reads, one before its first step and one
+// that stands on a version.
+fn marks() {
+    let script = [
+        [2, 0, 0, 2],
+        [9, 0, 0, 1],
+        [9, 0, 1, 0],
+        [10, 1, 0, 0],
+        [11, 2, 0, 0],
+        [11, 3, 1, 1],
+    ];
+    let m = records::driven(records::set_up(5, 2, 3, &[]), &script);
+    show_all(m, sizes_of(m, 1, 1, 1, 4));
+}
+
 fn main() {
     smallest();
     many_workers();
     two_workers();
     totals();
+    marks();
 }

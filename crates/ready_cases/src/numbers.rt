@@ -7,6 +7,7 @@ use worker::Doing;
 use worker::Goal;
 use worker::Named;
 use worker::Purpose;
+use worker::TimeStep;
 use worker::Worker;
 
 // The kinds of numbers. Those from POOL_LENGTH on stand in a worker's record.
@@ -66,7 +67,10 @@ pub const PLUS: u8 = 25;
 
 pub const MINUS: u8 = 26;
 
-pub const KINDS: u8 = 27;
+// The mark that a place moves or reads.
+pub const MARK: u8 = 27;
+
+pub const KINDS: u8 = 28;
 
 // The sizes and counts of a memory, N - V, the most ranges of a local pool, of a queued one and of a list in hand, how many rows of totals
 // there are, and an idle worker.
@@ -106,6 +110,7 @@ pub fn past(kind: u8, z: Sizes) -> usize {
         PLUS | MINUS => 30999999999969,
         ROW_REGISTER | REGISTER => return z.v,
         TOTAL_ROW => return z.listed,
+        MARK => return 12,
         _ => return z.n,
     };
     std::num::wrapping_add_usize(most, 1)
@@ -165,6 +170,7 @@ fn one_if_reading(d: Doing) -> usize {
 fn one_if_totaling(x: Purpose) -> usize {
     match x {
         Purpose::Single => 0,
+        Purpose::Marked(_) => 0,
         Purpose::Totaling {
             group: _,
             row: _,
@@ -182,6 +188,7 @@ pub fn in_worker(kind: u8, x: Worker) -> usize {
     let slot = y.slot;
     let ranges = y.ranges;
     let purpose = y.purpose;
+    let mark = y.mark;
     let q = x.pool;
     match kind {
         POOL_LENGTH => 1,
@@ -191,6 +198,7 @@ pub fn in_worker(kind: u8, x: Worker) -> usize {
         READ => one_if_reading(d),
         HAND => one_if_named(ranges),
         HAND_SLOT => count_of(ranges),
+        MARK => one_if_named(mark),
         _ => one_if_totaling(purpose),
     }
 }
@@ -290,6 +298,7 @@ fn goal_with(g: Goal, kind: u8, x: usize) -> Goal {
     let old = g.purpose;
     let purpose = match old {
         Purpose::Single => old,
+        Purpose::Marked(_) => old,
         Purpose::Totaling {
             group,
             row,
@@ -318,6 +327,40 @@ fn with_total(d: Doing, kind: u8, x: usize) -> Doing {
     }
 }
 
+// The step that moves a time, with another mark, where it moves a mark's.
+fn time_step_with(y: TimeStep, m: u16) -> TimeStep {
+    match y {
+        TimeStep::MarkKeep(_) => TimeStep::MarkKeep(m),
+        TimeStep::MarkRelease(_) => TimeStep::MarkRelease(m),
+        _ => y,
+    }
+}
+
+// The goal with another mark, where it reads one.
+fn goal_at_mark(g: Goal, m: u16) -> Goal {
+    let old = g.purpose;
+    let purpose = match old {
+        Purpose::Marked(_) => Purpose::Marked(m),
+        _ => old,
+    };
+    Goal { purpose, ..g }
+}
+
+// The place with another mark, where it names one.
+fn with_mark(d: Doing, m: u16) -> Doing {
+    match d {
+        Doing::OnTime(y) => Doing::OnTime(time_step_with(y, m)),
+        Doing::ReadEnter { goal } => Doing::ReadEnter {
+            goal: goal_at_mark(goal, m),
+        },
+        Doing::ReadStand { goal, slot } => Doing::ReadStand {
+            goal: goal_at_mark(goal, m),
+            slot,
+        },
+        _ => d,
+    }
+}
+
 fn place_with(d: Doing, kind: u8, x: usize) -> Doing {
     match kind {
         REGISTER => with_register(d, (x % 65536) as u16),
@@ -325,6 +368,7 @@ fn place_with(d: Doing, kind: u8, x: usize) -> Doing {
         READ => with_read(d, (x % 256) as u8),
         HAND => with_ranges(d, (x % 65536) as u16),
         TOTAL_ROW | PLUS | MINUS => with_total(d, kind, x),
+        MARK => with_mark(d, (x % 65536) as u16),
         _ => d,
     }
 }

@@ -2,7 +2,7 @@
 use Rattle.model.specs.Record as Model
 use Rattle.values.specs.Meaning.{readingOf}
 use Rattle.record.specs.declared.Operation.{Operation}
-use Rattle.record.specs.declared.Operation.the-variants.{Put, Open, Read, Close, Get, Collect, Total}
+use Rattle.record.specs.declared.Operation.the-variants.{Put, Open, Read, Close, Get, Collect, Total, Mark, Release, MarkedRead}
 use Rattle.record.specs.declared.Command.{Command}
 use Rattle.record.specs.declared.Command.the-variants.{SetUp, Begin, Step}
 use Rattle.record.specs.declared.Decoded.{Decoded}
@@ -16,6 +16,9 @@ operationOf Close = Model.Close
 operationOf (Get r) = Model.Get r
 operationOf Collect = Model.Collect
 operationOf (Total g) = Model.Total g
+operationOf (Mark m) = Model.Mark m
+operationOf (Release m) = Model.Release m
+operationOf (MarkedRead r m) = Model.MarkedRead r m
 
 -- the sizes and the clock of a setup, or the worker
 abbrev pub commandMeaning : Command → Model.Command

@@ -10,7 +10,7 @@ ghost use Rattle.record.specs.Meaning.{operationOf, decodedOf};
 ghost use Rattle.record.specs.Parts.{checkedOf};
 use values::Reading;
 
-// An operation that a record begins, 1 to 6 and 8.
+// An operation that a record begins, 1 to 6 and 8 to 11.
 pub enum Operation {
     Put { register: u16, reading: Reading },
     Open,
@@ -19,6 +19,9 @@ pub enum Operation {
     Get { register: u16 },
     Collect,
     Total { group: u16 },
+    Mark { mark: u16 },
+    Release { mark: u16 },
+    MarkedRead { register: u16, mark: u16 },
 }
 
 pub enum Command {
@@ -80,7 +83,14 @@ fn eight(b: &[u8], i: usize) -> u64
     wide64(four(b, i)) + 4294967296 * wide64(four(b, i + 4))
 }
 
-// Whether the two, four or eight bytes from place i on are zero: their number is.
+// Whether the one, two, four or eight bytes from place i on are zero: their number is.
+fn no_one(b: &[u8], i: usize) -> bool
+    requires { ⌜ i + 1 ≤ length (now b) ⌝ }
+    ensures { λ r. ⌜ r ≡ zeros (now (b .entry)) i 1 ⌝ }
+{
+    one(b, i) == 0
+}
+
 fn no_two(b: &[u8], i: usize) -> bool
     requires { ⌜ i + 2 ≤ length (now b) ⌝ }
     ensures { λ r. ⌜ r ≡ zeros (now (b .entry)) i 2 ⌝ }
@@ -102,7 +112,14 @@ fn no_eight(b: &[u8], i: usize) -> bool
     eight(b, i) == 0
 }
 
-// Whether the bytes 4 to 15 are zero, and whether the bytes 2 to 15 are.
+// Whether the bytes 5 to 15 are zero, whether the bytes 4 to 15 are, and whether the bytes 2 to 15 are.
+fn none_from_5(b: &[u8]) -> bool
+    requires { ⌜ 16 ≤ length (now b) ⌝ }
+    ensures { λ r. ⌜ r ≡ zeros (now (b .entry)) 5 11 ⌝ }
+{
+    (no_one(b, 5) & no_two(b, 6)) & no_eight(b, 8)
+}
+
 fn none_from_4(b: &[u8]) -> bool
     requires { ⌜ 16 ≤ length (now b) ⌝ }
     ensures { λ r. ⌜ r ≡ zeros (now (b .entry)) 4 12 ⌝ }
@@ -165,7 +182,7 @@ fn asked(rec: &[u8]) -> Decoded
     requires { ⌜ 16 ≤ length (now rec) ⌝ }
     ensures { λ r. ⌜
         decodedOf r
-        ≡ cond (ltb 8 (getD (now (rec .entry)) 0 0))
+        ≡ cond (ltb 11 (getD (now (rec .entry)) 0 0))
         (Model.Refuses 1)
         (checkedOf (now (rec .entry)) (getD (now (rec .entry)) 0 0))
         ⌝ }
@@ -196,11 +213,28 @@ fn asked(rec: &[u8]) -> Decoded
             let group = two(rec, 2);
             begin(rec, none_from_4(rec), Operation::Total { group })
         }
+        9 => {
+            let mark = two(rec, 2);
+            begin(rec, none_from_4(rec), Operation::Mark { mark })
+        }
+        10 => {
+            let mark = two(rec, 2);
+            begin(rec, none_from_4(rec), Operation::Release { mark })
+        }
+        11 => {
+            let register = two(rec, 2);
+            let mark = wide16(one(rec, 4));
+            begin(
+                rec,
+                none_from_5(rec),
+                Operation::MarkedRead { register, mark },
+            )
+        }
         _ => Decoded::Refuses(1),
     }
 }
 
-// The command of a record, any bytes, any length. Refusals: 6 fewer than 16 bytes, 1 operation above 8, 2 an unused byte is not zero,
+// The command of a record, any bytes, any length. Refusals: 6 fewer than 16 bytes, 1 operation above 11, 2 an unused byte is not zero,
 // in this order. Bytes after the sixteenth are not looked at.
 pub fn decode(rec: &[u8]) -> Decoded
     ensures { λ r. ⌜ decodedOf r ≡ Model.decode (now (rec .entry)) ⌝ }

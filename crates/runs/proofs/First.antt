@@ -8,7 +8,7 @@ use lib.Dec.{ltb, lit<, lit≤}
 use lib.ListN.{length, getD, take}
 use lib.Seq.{take-all, length-take-le, getD-take}
 use borrow.Author.Tests.{ltb-true, ltb-false}
-use Rattle.model.specs.Record.{number, zeros, Command, SetUp, Begin, Step, Put, Open, Read, Close, Get, Collect, Total}
+use Rattle.model.specs.Record.{number, zeros, Command, SetUp, Begin, Step, Put, Open, Read, Close, Get, Collect, Total, Mark, Release, MarkedRead}
 use Rattle.model.specs.Record.{Decoded, Asks, Refuses, commandOf, unusedZero, decode}
 use Rattle.values.specs.declared.Answer.{Answer}
 use Rattle.state.specs.State.{workerIn}
@@ -16,7 +16,7 @@ use Rattle.gate.specs.declared.Gate.{Gate}
 use Rattle.gate.specs.Gate.{decodedRep, gateOf, whoOf}
 use Rattle.simulation.specs.Memory.{Memory}
 use Rattle.simulation.specs.Left.{ready}
-use Rattle.simulation.specs.Shell.{rowsKept, Result, obeyIn, doneAs, doneOf}
+use Rattle.simulation.specs.Shell.{rowsKept, marksRead, Result, obeyIn, doneAs, doneOf}
 use Rattle.simulation.specs.Loop.{after, next, Ran}
 use Rattle.runs.specs.Runs.{One}
 
@@ -49,7 +49,11 @@ module _ (b : List ℕ) where
   command-first (suc (suc (suc (suc (suc zero))))) = λ j. Begin (worker-first j) (Get (register-first j))
   command-first (suc (suc (suc (suc (suc (suc zero)))))) = λ j. Begin (worker-first j) Collect
   command-first (suc (suc (suc (suc (suc (suc (suc zero))))))) = λ j. Step (worker-first j)
-  command-first (suc (suc (suc (suc (suc (suc (suc (suc n)))))))) = λ j. Begin (worker-first j) (Total (register-first j))
+  command-first (suc (suc (suc (suc (suc (suc (suc (suc zero)))))))) = λ j. Begin (worker-first j) (Total (register-first j))
+  command-first (suc (suc (suc (suc (suc (suc (suc (suc (suc zero))))))))) = λ j. Begin (worker-first j) (Mark (register-first j))
+  command-first (suc (suc (suc (suc (suc (suc (suc (suc (suc (suc zero)))))))))) = λ j. Begin (worker-first j) (Release (register-first j))
+  command-first (suc (suc (suc (suc (suc (suc (suc (suc (suc (suc (suc n))))))))))) =
+      λ j. Begin (worker-first j) (MarkedRead (register-first j) (number-first b 4 1 (lit≤ tt) j))
 
   unused-first : (c : Command) → unusedZero (take 16 b) c ≡ unusedZero b c
   unfolding unusedZero
@@ -61,11 +65,14 @@ module _ (b : List ℕ) where
   unused-first (Begin w (Get r)) = zeros-first b 4 12 (lit≤ tt)
   unused-first (Begin w Collect) = zeros-first b 2 14 (lit≤ tt)
   unused-first (Begin w (Total g)) = zeros-first b 4 12 (lit≤ tt)
+  unused-first (Begin w (Mark m)) = zeros-first b 4 12 (lit≤ tt)
+  unused-first (Begin w (Release m)) = zeros-first b 4 12 (lit≤ tt)
+  unused-first (Begin w (MarkedRead r m)) = zeros-first b 5 11 (lit≤ tt)
   unused-first (Step w) = zeros-first b 2 14 (lit≤ tt)
 
 -- ---- the whole
 abbrev decodedBy : Bool → ℕ → Bool → Command → Decoded
-decodedBy short k unused c = cond short (Refuses 6) (cond (ltb 8 k) (Refuses 1) (cond unused (Asks c) (Refuses 2)))
+decodedBy short k unused c = cond short (Refuses 6) (cond (ltb 11 k) (Refuses 1) (cond unused (Asks c) (Refuses 2)))
 
 by-length : (b : List ℕ) (short : Bool) → ltb (length b) 16 ≡ short → decode (take 16 b) ≡ decode b
 unfolding decode
@@ -86,6 +93,7 @@ abbrev gateBy : Bool → Memory → List ℕ → Decoded → Gate
 gateBy up m list d =
     let x = workerIn (m .hub) (whoOf (decodedRep d)) in
     gateOf (decodedRep d) up (m .hub .p) (m .hub .v) (length (m .slots)) (x .doing) (x .announced) list (rowsKept (m .hub))
+    (m .hub .marks) (marksRead (m .hub))
 
 done-first : (up : Bool) (m : Memory) (list b : List ℕ) → doneAs up m list (take 16 b) ≡ doneAs up m list b
 unfolding doneAs

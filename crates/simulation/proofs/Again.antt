@@ -32,7 +32,7 @@ use Rattle.queue.specs.State.{Begins}
 use Rattle.queue.specs.Rep.{joinedRanges}
 use Rattle.queue.proofs.MemoryLaws.{over-again, overAt-again, length-overAt}
 use Rattle.queue.proofs.Rep.{words-inside, lengths-inside, begins-after}
-use Rattle.simulation.specs.Memory.{Memory, inHandWords, mergedOver, partsOver, write, withHub, nextHub, writeHub}
+use Rattle.simulation.specs.Memory.{readOf, Memory, inHandWords, mergedOver, partsOver, write, withHub, nextHub, writeHub}
 use Rattle.simulation.specs.Left.{LeftByRecords, Left, Sized}
 use Rattle.simulation.specs.Shell.{queueIn}
 use Rattle.simulation.proofs.FlushQueue.{queue-sized}
@@ -97,12 +97,12 @@ module _ (s : Store) (S : Sound s) (m : Memory) (Z : Sized m) (B : Begins (m .hu
   room = omega (arith, Z .merged, S .bounds .workers .1, S .bounds .workers .2)
 
   -- as many times are read as there are workers at the most
-  reads : Fit 16 (λ x. timesRead (x .doing)) (s .workers)
+  reads : Fit 28 (λ x. timesRead (x .doing)) (s .workers)
   reads =
-      All-from (λ x. length (timesRead (x .doing)) ≤ 16) startWorker (s .workers)
+      All-from (λ x. length (timesRead (x .doing)) ≤ 28) startWorker (s .workers)
       (λ w h. times-short s S (workerAt s w .announced) (workerAt s w .doing) (S .places w (omega (arith, h, S .bounds .workers .2))))
 
-  times-room : 16 * length (s .workers) ≤ length (m .hub .times)
+  times-room : 28 * length (s .workers) ≤ length (m .hub .times)
   times-room = omega (arith, Z .times, S .bounds .workers .1, S .bounds .workers .2)
 
   -- the store lies in the memory that it was written over
@@ -110,7 +110,7 @@ module _ (s : Store) (S : Sound s) (m : Memory) (Z : Sized m) (B : Begins (m .hu
   written-lies =
       memory-path
       (hub-path refl refl refl refl refl refl refl (sym (over-again (s .site .rows) (m .hub .rows)))
-      (parts-again 16 (λ x. timesRead (x .doing)) (s .workers) (m .hub .times) times-room reads) refl)
+      (parts-again 28 (λ x. timesRead (x .doing)) (s .workers) (m .hub .times) times-room reads) refl refl refl)
       (sym (over-again (map slotRep (s .slots)) (m .slots)))
       (sym (over-again (s .newest) (m .newest)))
       (sym (over-again (reverse (s .free)) (m .free)))
@@ -132,7 +132,12 @@ module _ (s : Store) (S : Sound s) (m : Memory) (Z : Sized m) (B : Begins (m .hu
               S .bounds .workers .2,
             ))
             ∙ length-replicate 16 (workerRep startWorker);
-        times = parts-length 16 (λ x. timesRead (x .doing)) (s .workers) (m .hub .times) times-room reads ∙ Z .times;
+        times = parts-length 28 (λ x. timesRead (x .doing)) (s .workers) (m .hub .times) times-room reads ∙ Z .times;
+        marks = S .marks;
+        reading =
+            length-over (map readOf (s .workers)) (replicate 16 0)
+            (omega (arith, length-map (s .workers) readOf, length-replicate {A = ℕ} 16 0, S .bounds .workers .1, S .bounds .workers .2))
+            ∙ length-replicate {A = ℕ} 16 0;
         rows = length-over (s .site .rows) (m .hub .rows) (omega (arith, Z .rows, S .bounds .rows .1)) ∙ Z .rows;
         newest = length-over (s .newest) (m .newest) (omega (arith, Z .newest, S .bounds .registers .1, S .bounds .registers .2)) ∙ Z .newest;
         free =
@@ -200,9 +205,10 @@ hub-next list row h b (inr (s, e, L)) =
 module _ (m m′ : Memory) (Z : Sized m) (list : List ℕ) where
   -- the hub by value that is written over has its lengths
   hub-sized : (h₀ : Model.Hub) (t : Store)
-      → (length (nextHub h₀ t (m .hub) .workers) ≡ 16) × (length (nextHub h₀ t (m .hub) .times) ≡ 256) × (length (nextHub h₀ t (m .hub) .rows) ≡ 1024)
-  hub-sized (blank row) t = (refl, length-replicate {A = ℕ} 256 0, length-replicate {A = ℕ} 1024 0)
-  hub-sized (up s) t = (Z .workers, Z .times, Z .rows)
+      → (length (nextHub h₀ t (m .hub) .workers) ≡ 16) × (length (nextHub h₀ t (m .hub) .times) ≡ 448) × (length (nextHub h₀ t (m .hub) .rows) ≡ 1024)
+      × (length (nextHub h₀ t (m .hub) .marks) ≡ 12) × (length (nextHub h₀ t (m .hub) .reading) ≡ 16)
+  hub-sized (blank row) t = (refl, length-replicate {A = ℕ} 448 0, length-replicate {A = ℕ} 1024 0, refl, refl)
+  hub-sized (up s) t = (Z .workers, Z .times, Z .rows, Z .marks, Z .reading)
 
   -- over m, which held the hub h₀, the hub h was written, in a window that begins well
   written : (h₀ h : Model.Hub) → ((t : Store) → Begins (nextHub h₀ t (m .hub) .window)) → LeftHub h → m′ ≡ writeHub h₀ h m
@@ -213,6 +219,8 @@ module _ (m m′ : Memory) (Z : Sized m) (list : List ℕ) where
       record {
         workers = hub-sized h₀ t .0;
         times = hub-sized h₀ t .1;
+        marks = hub-sized h₀ t .3;
+        reading = hub-sized h₀ t .4;
         rows = hub-sized h₀ t .2;
         newest = Z .newest;
         free = Z .free;

@@ -14,6 +14,7 @@ use Rattle.model.specs.Apply.{terms}
 use Rattle.model.proofs.View.{first-hand}
 use Rattle.worker.specs.declared.Worker.{Worker}
 use Rattle.worker.specs.Rep.{doingRep, timesIn, timesRead, workerRep}
+use Rattle.marks.specs.Marks.{readBy}
 use Rattle.state.specs.declared.Hub.{Hub}
 use Rattle.state.specs.State.{workerIn, withWorkerIn, atPlace}
 use Rattle.gate.specs.declared.Gate.the-variants.{Start}
@@ -24,9 +25,21 @@ use Rattle.simulation.proofs.Sound.{Sound}
 use Rattle.simulation.proofs.Laid.{write-kept, memory-path, hub-is, slots-is, newest-is, free-is, queue-is, lens-is, worker-at, worker-put, list-kept}
 use Rattle.simulation.proofs.Refuse.{Follows}
 
--- an operation begins with no time read and no list in hand
+-- an operation begins with no time read, no mark and no list in hand
 first-times : (rows : List ℕ) (o : Record.Operation) → timesRead Model.Idle ≡ timesRead (terms rows o .first) ++ []
 first-times rows o = sym (ap (λ (y : Hand). timesIn y ++ []) (first-hand rows o))
+
+first-reads : (rows : List ℕ) (o : Record.Operation) → readBy (doingRep (terms rows o .first)) ≡ 0
+first-reads rows (Record.Put r x) = refl
+first-reads rows Record.Open = refl
+first-reads rows (Record.Read r) = refl
+first-reads rows Record.Close = refl
+first-reads rows (Record.Get r) = refl
+first-reads rows Record.Collect = refl
+first-reads rows (Record.Total g) = refl
+first-reads rows (Record.Mark m) = refl
+first-reads rows (Record.Release m) = refl
+first-reads rows (Record.MarkedRead r m) = refl
 
 first-words : (rows : List ℕ) (o : Record.Operation) → inHandWords Model.Idle ≡ inHandWords (terms rows o .first) ++ []
 unfolding handWords
@@ -41,7 +54,7 @@ module _ (s : Store) (m : Memory) (S : Sound s) (Z : Sized m) (laid : m ≡ writ
   begun-hub =
       ap (λ (h : Hub). withWorkerIn h w (atPlace (workerIn h w) (doingRep (terms (s .site .rows) o .first)))) (hub-is s m laid)
       ∙ ap (λ (x : Worker). withWorkerIn (hubRep s (m .hub)) w (atPlace x (doingRep (terms (s .site .rows) o .first)))) (worker-at s S w inside (workerAt s w .doing) refl)
-      ∙ worker-put s S w inside m Z laid Model.Idle begunWorker [] idle (first-times (s .site .rows) o)
+      ∙ worker-put s S w inside m Z laid Model.Idle begunWorker [] idle (first-times (s .site .rows) o) (first-reads (s .site .rows) o)
 
   -- the code begins the operation as the model does
   pub begun : {list : List ℕ} → Follows list (up s) m (Start w (doingRep (terms (s .site .rows) o .first))) (record { hub = up (place s w (terms (s .site .rows) o .first)); answer = Answers.Ok })

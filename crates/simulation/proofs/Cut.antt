@@ -244,6 +244,8 @@ sized-cut m Z =
     record {
       workers = Z .workers;
       times = Z .times;
+      marks = Z .marks;
+      reading = Z .reading;
       rows = Z .rows;
       newest = Z .newest;
       free = Z .free;

@@ -15,7 +15,9 @@ use Rattle.model.specs.Answer.{Answer, Ok, said}
 use Rattle.model.specs.Record.{Sizes, SetUp, Asks, decode}
 use Rattle.model.specs.Rules.{document01, inForce, under, allUnder}
 use Rattle.model.specs.Apply.{apply, hubAfter, answersTo}
-use Rattle.model.specs.Demand.{Event, events, Exchange, exchange}
+use Rattle.model.specs.Demand.{Event, events, Exchange, exchange, history, rowsIn}
+use Rattle.model.specs.MonthEnd.{SameFigures}
+use Rattle.model.proofs.MonthEnd.{month-end}
 use Rattle.model.proofs.Main.{answers-of-events}
 use Rattle.values.specs.Meaning.{answerOf}
 use Rattle.values.specs.declared.Answer as Code
@@ -199,5 +201,7 @@ demands =
       fromSetup = from-setup;
       demand3 = λ m cs ds c C. first-setup (leftByAll m cs) c ds (calls-behind m cs (c ∷ ds) C);
       demand3Left = λ s m cs L C. behind-records s (L .store) (exchanges cs) (calls-as-model (up s) m cs L C .answers);
+      monthEnd = λ h old es D.
+          subst (λ (l : List Exchange). SameFigures (history 0 l [])) (D .answers) (month-end (rowsIn h) (events h (old ++ sent es)) (D .demand));
       earlier = on-earlier;
     }

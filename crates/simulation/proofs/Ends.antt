@@ -8,7 +8,7 @@ use native.Mathlib.Omega.{arith}
 use lib.Dec.{ltb, leb, eqb}
 use lib.ListN.{length, getD, set}
 use lib.Seq.{set-getD}
-use Rattle.model.specs.Store.{lastClock}
+use Rattle.model.specs.Store.{absent, lastClock}
 use Rattle.model.specs.Batch.{batchOf}
 use Rattle.model.specs.Record as Record
 use Rattle.model.specs.Record.{Sizes, SetUp, Asks, commandOf, unusedZero, decode}
@@ -19,7 +19,8 @@ use Rattle.model.proofs.Basic.{cond-both}
 use Rattle.values.specs.Meaning.{answerOf}
 use Rattle.values.specs.declared.Answer.{Answer}
 use Rattle.values.specs.declared.Answer.the-variants.{Going, Value, Below, Done, No}
-use Rattle.versions.specs.Versions.{slotAtIn}
+use Rattle.arrays.specs.Arrays.{short}
+use Rattle.versions.specs.Versions.{slotAtIn, stampedIn}
 use Rattle.worker.specs.Rep.{timeOf}
 use Rattle.worker.specs.declared.Announced.{Announced}
 use Rattle.worker.specs.declared.Announced.the-variants.{Nothing, At}
@@ -27,15 +28,19 @@ use Rattle.model.specs.Rules.{twelveDigits}
 use Rattle.model.specs.Totals.{signOf, rowAt, goesOn}
 use Rattle.values.specs.declared.Reading.{Reading}
 use Rattle.worker.specs.declared.Purpose.{Purpose}
-use Rattle.worker.specs.declared.Purpose.the-variants.{Single, Totaling}
+use Rattle.worker.specs.declared.Purpose.the-variants.{Single, Marked, Totaling}
 use Rattle.worker.specs.declared.Doing.{Doing}
 use Rattle.worker.specs.declared.Doing.the-variants.{Idle, PutPublish, PutStamp, PutHandIn, FlushTake, FlushRead, FlushFree}
 use Rattle.worker.specs.declared.Doing.the-variants.{OnTime, ReadEnter, ReadStand, GetShow}
-use Rattle.worker.specs.declared.TimeStep.the-variants.{OpenAnnounce, OpenPass, CloseWithdraw}
+use Rattle.worker.specs.declared.TimeStep.the-variants.{OpenAnnounce, OpenPass, CloseWithdraw, MarkKeep, MarkRelease}
 use Rattle.worker.specs.About.{aboutOf}
 use Rattle.worker.specs.declared.Pool.{Pool}
 use Rattle.worker.specs.declared.Worker.{Worker}
-use Rattle.state.specs.State.{nobody, workerIn, withWorkersIn, atPlace}
+use Rattle.marks.specs.declared.MarkNeed.{MarkNeed}
+use Rattle.marks.specs.declared.MarkNeed.the-variants.{Empty, Unread}
+use Rattle.marks.specs.Marks.{readAs, readBy, refusalIn, timeIn}
+use Rattle.marks.proofs.Refused.{refusal-by}
+use Rattle.state.specs.State.{nobody, workerIn, withWorkersIn, withWorkerIn, withReadingIn, atPlace}
 use Rattle.gate.specs.declared.Gate.{Gate}
 use Rattle.gate.specs.declared.Gate.the-variants.{Refuse, Make, Start, Go}
 use Rattle.gate.specs.Gate.{operationRep, decodedRep, decodedIn, sizesOk, gateOf, whoOf}
@@ -43,14 +48,14 @@ use Rattle.gate.proofs.Tests.{begin-gate-by}
 use Rattle.announcing.specs.declared.Outcome.{Outcome}
 use Rattle.totals.specs.Rows.{addedTo}
 use Rattle.step.specs.declared.Next.{Next}
-use Rattle.step.specs.declared.Next.the-variants.{Taken}
+use Rattle.step.specs.declared.Next.the-variants.{Taken, Mark}
 use Rattle.announcing.specs.Announcing.{outcomeOf}
-use Rattle.step.specs.Step.{Stepped, readOrSplit, freeOrDone, stepOf}
+use Rattle.step.specs.Step.{Stepped, newestAt, stillAt, needOf, readOrSplit, freeOrDone, stepOf}
 use Rattle.announcing.specs.Announcing.{openAnnounceStep, openPassStep, closeWithdrawStep}
 use Rattle.step.specs.Step.{signedOf, totalFoundOf, foundOf, putPublishStep, putStampStep, readEnterStep, readStandStep, getShowStep}
 use Rattle.flush.specs.Flush.{handedPool, putHandInStep}
 use Rattle.simulation.specs.Memory.{Memory, withHub}
-use Rattle.simulation.specs.Shell.{Result, rowsKept, takenIn, handedIn, tookIn, readIn, splitIn, freedIn, nextIn, finishIn, goIn}
+use Rattle.simulation.specs.Shell.{Result, rowsKept, marksRead, readAfter, takenIn, handedIn, tookIn, readIn, allReadIn, markedIn, splitIn, freedIn, nextIn, finishIn, goIn}
 use Rattle.simulation.specs.Shell.{answered, obeyIn, gateIn, doneAs}
 use Rattle.simulation.specs.Public.{idleIn, takesStepIn, idledIn, EndsBy, OnAny}
 use Rattle.simulation.proofs.Gates.{gateBy}
@@ -97,22 +102,22 @@ read-numbered : (b : List ℕ) → ReadNumbered (decode b)
 unfolding decode occurrences
 read-numbered b =
     cond-both ReadNumbered (ltb (length b) 16) _ _ (λ e. omega arith)
-    (λ e. cond-both ReadNumbered (ltb 8 (getD b 0 0)) _ _ (λ f. omega arith)
+    (λ e. cond-both ReadNumbered (ltb 11 (getD b 0 0)) _ _ (λ f. omega arith)
     (λ f. cond-both ReadNumbered (unusedZero b (commandOf b (getD b 0 0))) _ _ (λ g. tt) (λ g. omega arith)))
 
 -- 9 and 5 of a setup, 8, those of a begin, and 3 of a step
-gate-numbered : (r : Record.Decoded) → ReadNumbered r → (up : Bool) (p v long : ℕ) (d : Doing) (t : Announced) (list rows : List ℕ)
-    → GateNumbered r up p d (gateOf (decodedRep r) up p v long d t list rows)
+gate-numbered : (r : Record.Decoded) → ReadNumbered r → (up : Bool) (p v long : ℕ) (d : Doing) (t : Announced) (list rows marks reading : List ℕ)
+    → GateNumbered r up p d (gateOf (decodedRep r) up p v long d t list rows marks reading)
 unfolding gateOf occurrences
-gate-numbered (Record.Refuses k) n up p v long d t list rows = (n, refl)
-gate-numbered (Asks (SetUp z)) n up p v long d t list rows =
+gate-numbered (Record.Refuses k) n up p v long d t list rows marks reading = (n, refl)
+gate-numbered (Asks (SetUp z)) n up p v long d t list rows marks reading =
     let N : Gate → Type 0 = GateNumbered (Asks (SetUp z)) up p d in
     cond-both N up _ _ (λ e. (omega arith, refl))
     (λ e. cond-both N (sizesOk (z .P) (z .V') (z .N) (z .clock) long && Record.listFits (z .V') list) _ _ (λ f. tt) (λ f. (omega arith, refl)))
-gate-numbered (Asks (Record.Begin w o)) n up p v long d t list rows =
+gate-numbered (Asks (Record.Begin w o)) n up p v long d t list rows marks reading =
     let N : Gate → Type 0 = GateNumbered (Asks (Record.Begin w o)) up p d in
-    cond-both N up _ _ (λ e. begin-gate-by N p v w (operationRep o) d t rows (λ k f. (f, refl)) (λ f. tt)) (λ e. (omega arith, refl))
-gate-numbered (Asks (Record.Step w)) n up p v long d t list rows =
+    cond-both N up _ _ (λ e. begin-gate-by N p v w (operationRep o) d t rows marks reading (λ k f. (f, refl)) (λ f. tt)) (λ e. (omega arith, refl))
+gate-numbered (Asks (Record.Step w)) n up p v long d t list rows marks reading =
     let N : Gate → Type 0 = GateNumbered (Asks (Record.Step w)) up p d in
     cond-both N up _ _
     (λ e. cond-both N (ltb w p) _ _ (λ f. (refl, e, f)) (λ f. (omega arith, rw (e, f))))
@@ -151,6 +156,13 @@ module _ (up : Bool) (m : Memory) (r : Record.Decoded) where
     unfolding takesStepIn
     takes d e = rw (s, set-up, below, e)
 
+    -- what stands for it among what is read of marks stays, where it read none
+    still-reading : readBy (x .doing) ≡ 0
+        → withHub m (withReadingIn (withWorkerIn (m .hub) w (atPlace x Idle)) (readAfter (m .hub) w x Idle)) ≡ idleIn m w
+    still-reading q =
+        ap (λ (l : List ℕ). withHub m (withReadingIn (withWorkerIn (m .hub) w (atPlace x Idle)) l))
+        (ap (λ (k : ℕ). set (m .hub .reading) w (cond (eqb k 0) (getD (m .hub .reading) w 0) 0)) q ∙ set-getD (m .hub .reading) w 0)
+
     -- 11: the worker was idle, and its record is put back as it was
     idle-ends : x .doing ≡ Idle → StillEnds (refusedAt 11)
     unfolding nextIn takenIn occurrences
@@ -158,12 +170,23 @@ module _ (up : Bool) (m : Memory) (r : Record.Decoded) where
         let kept : idleIn m w ≡ m =
         ap (λ (d : Doing). withHub m (withWorkersIn (m .hub) (set (m .hub .workers) w (atPlace x d)))) (sym e)
         ∙ ap (λ (l : List Worker). withHub m (withWorkersIn (m .hub) l)) (set-getD (m .hub .workers) w nobody) in
-        record { number = rw (takes Idle e) (omega arith); leaves = rw (takes Idle e) kept }
+        record {
+          number = rw (takes Idle e) (omega arith);
+          leaves = rw (takes Idle e) (still-reading (ap readBy e) ∙ kept);
+        }
 
-    -- 14, 15 and 18 set the worker idle
-    sets-idle : (k : ℕ) → takesStepIn up m r ≡ true → 0 < occurrences k atStep → StillEnds (refusedAt k)
+    -- 14, 15, 18, 19, 20 and 21 set the worker idle
+    sets-idle : (k : ℕ) → takesStepIn up m r ≡ true → 0 < occurrences k atStep → readBy (x .doing) ≡ 0 → StillEnds (refusedAt k)
     unfolding nextIn takenIn idledIn
-    sets-idle k e n = record { number = rw e n; leaves = rw (e, s) }
+    sets-idle k e n q = record { number = rw e n; leaves = rw (e, s) (still-reading q) }
+
+    -- 19, 20 or 21, or what follows
+    mark-ends : (y : MarkNeed) → takesStepIn up m r ≡ true → readBy (x .doing) ≡ 0 → (next : Next) → NextEnds next
+        → NextEnds (cond (eqb (refusalIn y (m .hub .marks) (marksRead (m .hub))) 0) next (Taken (refusedAt (refusalIn y (m .hub .marks) (marksRead (m .hub))))))
+    unfolding occurrences
+    mark-ends y e q next a =
+        refusal-by (λ k. NextEnds (cond (eqb k 0) next (Taken (refusedAt k)))) y (m .hub .marks) (marksRead (m .hub)) a
+        (sets-idle 19 e (omega arith) q) (sets-idle 20 e (omega arith) q) (sets-idle 21 e (omega arith) q)
 
     -- put (3)
     hand-in-ends : (c : ℕ) → Ends (handedIn m w x c)
@@ -175,8 +198,8 @@ module _ (up : Bool) (m : Memory) (r : Record.Decoded) where
 
     -- flush (2) and (3)
     read-ends : (n k : ℕ) → NextEnds (readOrSplit n k (m .hub .p))
-    unfolding nextIn readIn splitIn
-    read-ends n k = cond-both NextEnds (ltb k (m .hub .p)) _ _ (λ f. tt) (λ f. tt)
+    unfolding nextIn readIn allReadIn splitIn
+    read-ends n k = cond-both NextEnds (ltb k (m .hub .p)) _ _ (λ f. tt) (λ f. cond-both NextEnds (eqb k (m .hub .p)) _ _ (λ g. tt) (λ g. tt))
 
     -- flush (4) and (5)
     free-ends : (n : ℕ) → NextEnds (freeOrDone n (x .announced) (m .hub .clock) (m .hub .free))
@@ -197,36 +220,49 @@ module _ (up : Bool) (m : Memory) (r : Record.Decoded) where
         (Value (record { count = plus - minus })) (Below (record { count = minus - plus })) (λ q. tt) (λ q. tt)
 
     -- read (2) where the version is found; 18
-    found-ends : takesStepIn up m r ≡ true → (y : Purpose) (v : Reading)
+    found-ends : takesStepIn up m r ≡ true → (y : Purpose) (v : Reading) → readBy (x .doing) ≡ readAs y
         → StillEnds (foundOf y v (x .announced) (m .hub .clock) (m .hub .free) (rowsKept (m .hub)))
     unfolding nextIn takenIn totalFoundOf occurrences
-    found-ends e Single v = tt
-    found-ends e (Totaling g i plus minus) v =
+    found-ends e Single v q = tt
+    found-ends e (Marked i) v q = tt
+    found-ends e (Totaling g i plus minus) v q =
         let adds = eqb (signOf (rowAt (rowsKept (m .hub)) i)) 0 in
         cond-both StillEnds (leb (v .count) twelveDigits) _ _
         (λ f. cond-both StillEnds (goesOn (rowsKept (m .hub)) g i) _ _ (λ n. tt)
         (λ n. signed-ends (addedTo plus (cond adds (v .count) 0)) (addedTo minus (cond adds 0 (v .count)))))
-        (λ f. sets-idle 18 e (omega arith))
+        (λ f. sets-idle 18 e (omega arith) q)
 
     -- by the worker's place
     step-ends : (d : Doing) → x .doing ≡ d → Ends (goIn m w x d)
-    unfolding goIn nextIn takenIn tookIn stepOf putPublishStep putStampStep openAnnounceStep readEnterStep readStandStep getShowStep closeWithdrawStep occurrences
+    unfolding goIn nextIn takenIn tookIn markedIn stepOf putPublishStep putStampStep openAnnounceStep readEnterStep readStandStep getShowStep closeWithdrawStep occurrences
     step-ends Idle e = idle-ends e
     step-ends (PutPublish i v) e =
-        cond-both StepEnds (eqb (m .hub .free) 0) _ _ (λ f. sets-idle 14 (takes (PutPublish i v) e) (omega arith)) (λ f. tt)
+        cond-both StepEnds (eqb (m .hub .free) 0) _ _ (λ f. sets-idle 14 (takes (PutPublish i v) e) (omega arith) (ap readBy e)) (λ f. tt)
     step-ends (PutStamp i v) e = tt
     step-ends (PutHandIn i v) e = hand-in-ends v
     step-ends FlushTake e = tt
     step-ends (FlushRead n k) e = read-ends n k
     step-ends (FlushFree n) e = free-ends n
     step-ends (OnTime OpenAnnounce) e =
-        cond-both StillEnds (eqb (m .hub .clock) lastClock) _ _ (λ f. sets-idle 15 (takes (OnTime OpenAnnounce) e) (omega arith)) (λ f. tt)
+        cond-both StillEnds (eqb (m .hub .clock) lastClock) _ _ (λ f. sets-idle 15 (takes (OnTime OpenAnnounce) e) (omega arith) (ap readBy e)) (λ f. tt)
     step-ends (OnTime OpenPass) e = pass-ends (x .announced)
     step-ends (OnTime CloseWithdraw) e = tt
-    step-ends (ReadEnter i) e = tt
+    step-ends (OnTime (MarkKeep i)) e = mark-ends (Empty i) (takes (OnTime (MarkKeep i)) e) (ap readBy e) (Mark i (timeOf (x .announced))) tt
+    step-ends (OnTime (MarkRelease i)) e = mark-ends (Unread i) (takes (OnTime (MarkRelease i)) e) (ap readBy e) (Mark i absent) tt
+    step-ends (ReadEnter i) e =
+        let entered : Stepped = record {
+          next = Taken (outcomeOf (ReadStand i (short (newestAt (m .newest) (i .register)))) (x .announced) (m .hub .clock) (m .hub .free) Going);
+          row = stampedIn (m .slots) (newestAt (m .newest) (i .register)) (m .hub .clock);
+          newest = m .newest;
+        } in
+        refusal-by (λ k. StepEnds (cond (eqb k 0) entered (stillAt (refusedAt k) (m .slots) (m .newest)))) (needOf (i .purpose)) (m .hub .marks)
+        (marksRead (m .hub)) tt
+        (sets-idle 19 (takes (ReadEnter i) e) (omega arith) (ap readBy e))
+        (sets-idle 20 (takes (ReadEnter i) e) (omega arith) (ap readBy e))
+        (sets-idle 21 (takes (ReadEnter i) e) (omega arith) (ap readBy e))
     step-ends (ReadStand i v) e =
-        cond-both StillEnds (leb (slotAtIn (m .slots) v .low) (timeOf (x .announced))) _ _
-        (λ f. found-ends (takes (ReadStand i v) e) (i .purpose) (slotAtIn (m .slots) v .value)) (λ f. tt)
+        cond-both StillEnds (leb (slotAtIn (m .slots) v .low) (timeIn (i .purpose) (x .announced) (m .hub .marks))) _ _
+        (λ f. found-ends (takes (ReadStand i v) e) (i .purpose) (slotAtIn (m .slots) v .value) (ap readBy e)) (λ f. tt)
     step-ends (GetShow i) e = tt
 
 ------------------------------------------------------------------------
@@ -256,7 +292,8 @@ module _ (up : Bool) (m : Memory) (list : List ℕ) where
     ends-well =
         let x : Worker = workerIn (m .hub) (whoOf (decodedIn b)) in
         gate-ends (decode b) (x .doing) (looks-at (decode b)) (gateIn up m list b)
-        (gate-numbered (decode b) (read-numbered b) up (m .hub .p) (m .hub .v) (length (m .slots)) (x .doing) (x .announced) list (rowsKept (m .hub)))
+        (gate-numbered (decode b) (read-numbered b) up (m .hub .p) (m .hub .v) (length (m .slots)) (x .doing) (x .announced) list (rowsKept (m .hub))
+        (m .hub .marks) (marksRead (m .hub)))
 
     -- a record that is refused before it is a command
     refused-read : (k : ℕ) → decode b ≡ Record.Refuses k → doneAs up m list b ≡ answered m (No k)

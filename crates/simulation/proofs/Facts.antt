@@ -1,6 +1,6 @@
 -- What is asked of a place and of an operation is the same of the model and of the code.
 use mathlib.Core.Path.{_≡_, refl}
-use mathlib.Core.Bool.{Bool, true, false, cond}
+use mathlib.Core.Bool.{Bool, true, false, cond, _&&_}
 use mathlib.Core.Option.{Option, none, some}
 use mathlib.Core.List.{List}
 use Prim.Native.Nat.{ℕ, _%_, _≤_}
@@ -9,7 +9,8 @@ use native.Mathlib.Omega.{arith}
 use lib.Dec.{ltb}
 use lib.ListN.{length}
 use Rattle.model.specs.Store as Model
-use Rattle.model.specs.Store.{absent}
+use Rattle.model.specs.Store.{absent, markCount}
+use Rattle.model.specs.Marks as Mark
 use Rattle.model.specs.About as Place
 use Rattle.model.specs.About.{about}
 use Rattle.model.specs.Rules.{inForce}
@@ -17,7 +18,7 @@ use Rattle.model.specs.Totals.{firstOf}
 use Rattle.model.specs.Record as Record
 use Rattle.model.specs.Apply as Begin
 use Rattle.model.proofs.Totals.{first-within}
-use Rattle.model.specs.Apply.{Terms, terms, registerBelow, groupThere, valueWithin, mayOpen, mayUseTime}
+use Rattle.model.specs.Apply.{Terms, terms, namedBelow, groupThere, valueWithin, mayOpen, mayUseTime}
 use Rattle.worker.specs.declared.Announced.the-variants as Announced
 use Rattle.worker.specs.declared.Named.{Named}
 use Rattle.worker.specs.declared.Named.the-variants.{Nothing, Is}
@@ -30,7 +31,9 @@ use Rattle.gate.specs.declared.TimeNeed.the-variants.{Any, Absent, Own}
 use Rattle.gate.specs.declared.Putting.{Putting}
 use Rattle.gate.specs.declared.Putting.the-variants as Putting
 use Rattle.gate.specs.declared.Terms as Code
-use Rattle.gate.specs.Gate.{operationRep, termsOf, registerOk, groupOk, valueOk, hasTime, openOk, timeOk}
+use Rattle.marks.specs.declared.MarkNeed.{MarkNeed}
+use Rattle.marks.specs.declared.MarkNeed.the-variants as Need
+use Rattle.gate.specs.Gate.{operationRep, termsOf, markOf, namedOk, groupOk, valueOk, hasTime, openOk, timeOk}
 
 abbrev pub stanceRep : Place.Stance → Stance
 stanceRep Place.Nowhere = Nowhere
@@ -44,7 +47,11 @@ same-facts (Model.PutHandIn r c) = (refl, refl)
 same-facts Model.FlushTake = (refl, refl)
 same-facts (Model.FlushRead m ts) = (refl, refl)
 same-facts (Model.FlushFree m) = (refl, refl)
-same-facts (Model.OnTime y) = (refl, refl)
+same-facts (Model.OnTime Model.OpenAnnounce) = (refl, refl)
+same-facts (Model.OnTime Model.OpenPass) = (refl, refl)
+same-facts (Model.OnTime Model.CloseWithdraw) = (refl, refl)
+same-facts (Model.OnTime (Model.MarkKeep m)) = (refl, refl)
+same-facts (Model.OnTime (Model.MarkRelease m)) = (refl, refl)
 same-facts (Model.ReadEnter g) = (refl, refl)
 same-facts (Model.ReadStand g c) = (refl, refl)
 same-facts (Model.GetShow r) = (refl, refl)
@@ -70,6 +77,13 @@ abbrev pub rowRep : List ℕ → Option ℕ → Named
 rowRep rows none = Nothing
 rowRep rows (some g) = Is (firstOf g rows)
 
+-- what is asked of a mark
+abbrev pub markNeedRep : Mark.MarkNeed → MarkNeed
+markNeedRep Mark.NoMark = Need.Nothing
+markNeedRep (Mark.EmptyMark m) = Need.Empty m
+markNeedRep (Mark.HeldMark m) = Need.Held m
+markNeedRep (Mark.UnreadMark m) = Need.Unread m
+
 abbrev pub termsRep : List ℕ → Terms → Code.Terms
 termsRep rows x =
     record {
@@ -77,6 +91,7 @@ termsRep rows x =
       row = rowRep rows (x .group);
       value = valueRep (x .value);
       time = needRep (x .time);
+      mark = markNeedRep (x .mark);
       first = doingRep (x .first);
     }
 
@@ -91,14 +106,27 @@ same-terms rows h Record.Collect = refl
 same-terms rows h (Record.Total g) =
     let small : firstOf g rows % 65536 ≡ firstOf g rows = mod-eq-of-lt (omega (arith, first-within g rows)) in
     rw small
+same-terms rows h (Record.Mark m) = refl
+same-terms rows h (Record.Release m) = refl
+same-terms rows h (Record.MarkedRead r m) = refl
 
 pub same-group : (rows : List ℕ) (x : Option ℕ) → groupOk (rowRep rows x) rows ≡ groupThere rows x
 same-group rows none = refl
 same-group rows (some g) = refl
 
-pub same-register : (x : Option ℕ) (v : ℕ) → registerOk (namedRep x) v ≡ registerBelow v x
-same-register none v = refl
-same-register (some r) v = refl
+same-named : (x : Option ℕ) (v : ℕ) → namedOk (namedRep x) v ≡ namedBelow v x
+same-named none v = refl
+same-named (some r) v = refl
+
+same-mark : (y : Mark.MarkNeed) (v : ℕ) → namedOk (markOf (markNeedRep y)) v ≡ namedBelow v (Mark.markOf y)
+same-mark Mark.NoMark v = refl
+same-mark (Mark.EmptyMark m) v = refl
+same-mark (Mark.HeldMark m) v = refl
+same-mark (Mark.UnreadMark m) v = refl
+
+pub same-names : (x : Option ℕ) (y : Mark.MarkNeed) (v : ℕ)
+    → (namedOk (namedRep x) v && namedOk (markOf (markNeedRep y)) markCount) ≡ (namedBelow v x && namedBelow markCount (Mark.markOf y))
+same-names x y v = λ i. same-named x v i && same-mark y markCount i
 
 -- the code's limit is that of the rules in force
 pub same-value : (list : List ℕ) (x : Option ℕ) → valueOk (valueRep x) ≡ valueWithin (inForce list .limit) x

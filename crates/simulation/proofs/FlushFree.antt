@@ -21,25 +21,26 @@ use Rattle.arrays.specs.Arrays.{short}
 use Rattle.versions.specs.Versions.{slotAtIn, unlinkedIn}
 use Rattle.worker.specs.declared.Worker.{Worker}
 use Rattle.worker.specs.declared.Doing.the-variants as D
-use Rattle.worker.specs.Rep.{timesRead}
+use Rattle.worker.specs.Rep.{timesRead, doingRep}
+use Rattle.marks.specs.Marks.{readBy}
 use Rattle.ranges.specs.Words.{flat}
 use Rattle.ranges.proofs.WordLaws.{length-flat, flat-snoc, range-in}
 use Rattle.state.specs.declared.Hub.{Hub}
-use Rattle.state.specs.State.{emptyHub, atPlace, withWorkersIn, withFreeIn, withTimesIn}
+use Rattle.state.specs.State.{emptyHub, atPlace, withWorkersIn, withFreeIn, withTimesIn, withReadingIn}
 use Rattle.step.specs.declared.Next.the-variants.{Free}
 use Rattle.step.specs.Step.{stepOf}
 use Rattle.flush.specs.Flush.{partOf}
 use Rattle.freeing.specs.Freeing.{nextToFree, oneMore, freedStep, freedRow, freedFree}
-use Rattle.simulation.specs.Memory.{Memory, timesOver, hubRep, handWords, inHandWords, mergedOver, write}
+use Rattle.simulation.specs.Memory.{Memory, timesOver, readsOver, hubRep, handWords, inHandWords, mergedOver, write}
 use Rattle.simulation.specs.Left.{Sized}
 use Rattle.simulation.specs.Shell.{offWorker, freedIn, nextIn, goIn}
-use Rattle.simulation.proofs.Laws.{free-push, merged-map}
+use Rattle.simulation.proofs.Laws.{free-push, merged-map, reads-kept}
 use Rattle.simulation.proofs.Sound.{Sound, Apart, PlaceIn}
 use Rattle.simulation.proofs.Simulates.{Simulates, recordAt, simulated}
 use Rattle.simulation.proofs.Laid.{write-kept, cond-yes, cond-no, memory-path, hub-is, slots-is, newest-is, free-is, queue-is, lens-is, slot-is}
 use Rattle.simulation.proofs.Laid.{place-at, times-kept, worker-put, list-is, list-kept}
 use Rattle.simulation.proofs.Rows.{unlinked-row}
-use Rattle.simulation.proofs.FlushReaders.{Placed, off-list, off-times, off-records}
+use Rattle.simulation.proofs.FlushReaders.{Placed, off-list, off-times, off-all-reads, off-records}
 
 module _ (s : Store) (m : Memory) (w : ℕ) (ρ : Range) (l : List Range) (S : Sound s) (Z : Sized m) (laid : m ≡ write s m) (wb : w < s .site .P)
     (e : workerAt s w .doing ≡ Model.FlushFree (ρ ∷ l)) (next : Sound (stepAt s w (Model.FlushFree (ρ ∷ l)) .store)) where
@@ -152,7 +153,7 @@ module _ (s : Store) (m : Memory) (w : ℕ) (ρ : Range) (l : List Range) (S : S
   times-left : m .hub .times ≡ timesOver (map (workerOff c o) ws) (m .hub .times)
   times-left =
       times-kept s S w wb m Z laid d went [] e refl
-      ∙ sym (merged-map 16 (λ y. timesRead (y .doing)) (workerOff c o) (off-times left c o small) ws (m .hub .times))
+      ∙ sym (merged-map 28 (λ y. timesRead (y .doing)) (workerOff c o) (off-times left c o small) ws (m .hub .times))
 
   -- the readers
   placed : Placed left c o small ws
@@ -170,8 +171,14 @@ module _ (s : Store) (m : Memory) (w : ℕ) (ρ : Range) (l : List Range) (S : S
   workers-left =
       let less : n - 1 ≡ length l = omega arith in
       (λ i. movedIn (short-is i) (older-is i) (hub-is s m laid i) (less i))
-      ∙ ap (λ (h : Hub). map (offWorker c (short o)) (h .workers)) (worker-put s S w wb m Z laid d went [] e refl)
+      ∙ ap (λ (h : Hub). map (offWorker c (short o)) (h .workers)) (worker-put s S w wb m Z laid d went [] e refl refl)
       ∙ off-records left c o small ws placed
+
+  reads-left : m .hub .reading ≡ readsOver (map (workerOff c o) ws)
+  reads-left =
+      ap (λ (h : Hub). h .reading) (hub-is s m laid)
+      ∙ reads-kept s w went (S .bounds .workers .2) wb (ap (λ (y : Model.Doing). readBy (doingRep y)) (sym e))
+      ∙ sym (off-all-reads left c o small ws)
 
   pub freed-sim : Simulates s m w d
   unfolding goIn stepOf nextIn freedIn freedStep freedRow freedFree
@@ -179,6 +186,7 @@ module _ (s : Store) (m : Memory) (w : ℕ) (ρ : Range) (l : List Range) (S : S
       let some : eqb n 0 ≡ false = ne-eqb n 0 (λ z. omega arith) in
       simulated s m w d S laid wb e _ _ stepped
       (ap (nextIn m w (recordAt s w d)) (cond-no (eqb n 0) _ (Free n) some))
-      (memory-path (λ i. withTimesIn (withFreeIn (withWorkersIn (hub-is s m laid i) (workers-left i)) (count-left i)) (times-left i))
+      (memory-path
+      (λ i. withReadingIn (withTimesIn (withFreeIn (withWorkersIn (hub-is s m laid i) (workers-left i)) (count-left i)) (times-left i)) (reads-left i))
       slots-left (newest-is s m laid) free-left (queue-is s m laid) (lens-is s m laid) merged-left ∙ write-kept s left m (omega arith))
       (ap Model·Answer.Freed short-is)

@@ -1,13 +1,13 @@
 -- Flush (2): the code's step is the model's. The announced time that is read joins the times in the worker's record as it joins the list.
 use mathlib.Core.Path.{_≡_, refl, sym, ap, _∙_}
-use mathlib.Core.Bool.{true}
+use mathlib.Core.Bool.{true, cond}
 use mathlib.Core.Logic.{_⊎_, inl, inr}
 use mathlib.Core.List.{List, [], _∷_, _++_, append-nil}
 use Prim.Native.Nat.{ℕ, _+_, _*_, _<_, _%_}
 use native.Mathlib.Omega.{arith}
-use lib.Dec.{ltb}
+use lib.Dec.{ltb, leb}
 use lib.ListN.{length, set, length-append}
-use borrow.Author.Tests.{lt-ltb}
+use borrow.Author.Tests.{lt-ltb, le-leb}
 use Rattle.model.specs.Store as Model
 use Rattle.model.specs.Store.{Store, Range, absent, lastClock, workerAt, withWorker, withDoing}
 use Rattle.model.specs.Answer as Model·Answer
@@ -19,7 +19,7 @@ use Rattle.worker.specs.Rep.{timesRead, poolRep, announcedRep, timeOf}
 use Rattle.ranges.specs.Words.{flat}
 use Rattle.state.specs.declared.Hub.{Hub}
 use Rattle.state.specs.State.{workerIn}
-use Rattle.step.specs.declared.Next.the-variants.{Read, Split}
+use Rattle.step.specs.declared.Next.the-variants.{Read}
 use Rattle.step.specs.Step.{stepOf}
 use Rattle.flush.specs.Flush.{flushReadStep}
 use Rattle.simulation.specs.Memory.{Memory, timesOver, handWords, mergedOver, write}
@@ -62,10 +62,10 @@ module _ (s : Store) (m : Memory) (w : ℕ) (l : List Range) (ts : List ℕ) (S 
       let few = S .bounds .workers .1 in
       let j : k % 16 ≡ k = omega arith in
       let own : timesRead (workerAt s w .doing) ≡ ts = ap timesRead e in
-      ap (λ (i : ℕ). set (m .hub .times) (16 * w + i) (timeOf (workerIn (m .hub) i .announced))) j
-      ∙ ap (set (m .hub .times) (16 * w + k)) time-is
-      ∙ ap (λ (i : ℕ). set (m .hub .times) (16 * w + i) time) (sym (ap length own))
-      ∙ part-more 16 (λ y. timesRead (y .doing)) (s .workers) (m .hub .times) w after time
+      ap (λ (i : ℕ). set (m .hub .times) (28 * w + i) (timeOf (workerIn (m .hub) i .announced))) j
+      ∙ ap (set (m .hub .times) (28 * w + k)) time-is
+      ∙ ap (λ (i : ℕ). set (m .hub .times) (28 * w + i) time) (sym (ap length own))
+      ∙ part-more 28 (λ y. timesRead (y .doing)) (s .workers) (m .hub .times) w after time
       (omega (arith, Z .times, S .bounds .workers .1, S .bounds .workers .2)) (among s S w wb) (omega (arith, ap length own))
       (ap (λ (z : List ℕ). z ++ (time ∷ [])) (sym own)) (times-is s m laid)
 
@@ -75,8 +75,14 @@ module _ (s : Store) (m : Memory) (w : ℕ) (l : List Range) (ts : List ℕ) (S 
   stepped : stepAt s w d ≡ record { store = withWorker s w after; answer = Model·Answer.Going }
   unfolding stepAt flushRead readTimes
   stepped =
-      cond-yes (ltb k (s .site .P)) (record { store = withWorker s w after; answer = Model·Answer.Going }) (flushSplit s w l ts)
-      (lt-ltb k (s .site .P) more)
+      cond-yes (leb k (s .site .P))
+      (record {
+        store = withWorker s w (withDoing (workerAt s w) (Model.FlushRead l (ts ++ cond (ltb k (s .site .P)) (time ∷ []) (s .marks))));
+        answer = Model·Answer.Going;
+      })
+      (flushSplit s w l ts) (le-leb k (s .site .P) (omega (arith, more)))
+      ∙ ap (λ (z : List ℕ). record { store = withWorker s w (withDoing (workerAt s w) (Model.FlushRead l (ts ++ z))); answer = Model·Answer.Going })
+      (cond-yes (ltb k (s .site .P)) (time ∷ []) (s .marks) (lt-ltb k (s .site .P) more))
 
   -- the merged list is the same
   kept : m .merged ≡ mergedOver (set (s .workers) w after) (m .merged)
@@ -88,5 +94,5 @@ module _ (s : Store) (m : Memory) (w : ℕ) (l : List Range) (ts : List ℕ) (S 
   read-time-sim =
       let test : ltb k (m .hub .p) ≡ true = ap (λ (h : Hub). ltb k (h .p)) (hub-is s m laid) ∙ lt-ltb k (s .site .P) more in
       moved-sim s m w S laid wb d e after (s .queue) Going _ (queueIn m) _ (m .merged) stepped
-      (ap (nextIn m w (recordAt s w d)) (cond-yes (ltb k (m .hub .p)) (Read (length l) k) (Split (length l)) test))
-      (ap recordOf (sym (length-append ts (time ∷ [])))) (queue-kept s m (s .queue) (queueIn m) (omega arith) (queue-held s m laid)) times-are kept
+      (ap (nextIn m w (recordAt s w d)) (cond-yes (ltb k (m .hub .p)) (Read (length l) k) _ test))
+      (ap recordOf (sym (length-append ts (time ∷ [])))) (queue-kept s m (s .queue) (queueIn m) (omega arith) (queue-held s m laid)) times-are kept refl

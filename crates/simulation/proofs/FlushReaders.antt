@@ -22,7 +22,8 @@ use Rattle.worker.specs.declared.Goal.{Goal}
 use Rattle.worker.specs.Rep.{timesRead, goalRep, doingRep, workerRep}
 use Rattle.freeing.specs.Freeing.{offTo}
 use Rattle.state.specs.State.{atPlace}
-use Rattle.simulation.specs.Memory.{handWords, inHandWords}
+use Rattle.marks.specs.Marks.{readBy}
+use Rattle.simulation.specs.Memory.{readOf, readsOver, handWords, inHandWords}
 use Rattle.simulation.specs.Shell.{offWorker}
 use Rattle.simulation.proofs.Facts.{stanceRep, same-facts}
 use Rattle.simulation.proofs.Sound.{PlaceIn}
@@ -79,6 +80,20 @@ module _ (s : Store) (c o : ℕ) (small : s .site .N ≤ 2048) where
   off-times x =
       ⊎-elim (λ u. subst (λ (d : Model.Doing). timesRead (moveOff c o d) ≡ timesRead d) (sym (u .2)) refl) (λ u. ap timesRead (u .1 c o))
       (off-cases (x .doing))
+
+  pub off-reads : (x : Model.Worker) → readOf (workerOff c o x) ≡ readOf x
+  unfolding workerOff moveOff
+  off-reads x =
+      ⊎-elim (λ u. subst (λ (d : Model.Doing). readBy (doingRep (moveOff c o d)) ≡ readBy (doingRep d)) (sym (u .2)) refl)
+      (λ u. ap (λ (d : Model.Doing). readBy (doingRep d)) (u .1 c o)) (off-cases (x .doing))
+
+  -- which marks are read
+  pub off-all-reads : (ws : List Model.Worker) → readsOver (map (workerOff c o) ws) ≡ readsOver ws
+  off-all-reads ws = ap (λ (l : List ℕ). over l (replicate 16 0)) (go ws)
+    where
+      go : (l : List Model.Worker) → map readOf (map (workerOff c o) l) ≡ map readOf l
+      go [] = refl
+      go (x ∷ l) = λ i. off-reads x i ∷ go l i
 
   -- all workers stand where a sound store's do
   abbrev pub Placed : List Model.Worker → Type 0

@@ -5,13 +5,14 @@ use mathlib.Core.Bool.{Bool, true, false, not, cond}
 use mathlib.Core.List.{List, [], _∷_, _++_, reverse}
 use Prim.Native.Nat.{ℕ, suc, _+_, _-_, _*_, _≤_, _<_}
 use native.Mathlib.Omega.{arith}
-use lib.Dec.{ltb}
+use mathlib.Core.Logic.{⊎-elim}
+use lib.Dec.{ltb, leb, eqb}
 use lib.ListN.{length, set, take, replicate, length-reverse, length-append}
-use borrow.Author.Tests.{lt-ltb, le-ltb, le-leb}
+use borrow.Author.Tests.{lt-ltb, le-ltb, le-leb, lt-leb, ne-eqb}
 use Rattle.lists.specs.Over.{over}
 use Rattle.lists.proofs.Over.{take-over}
 use Rattle.model.specs.Store as Model
-use Rattle.model.specs.Store.{Store, Range, startWorker, workerAt, withWorker, withQueue}
+use Rattle.model.specs.Store.{Store, Range, markCount, startWorker, workerAt, withWorker, withQueue}
 use Rattle.model.specs.Answer as Model·Answer
 use Rattle.model.specs.Batch.{batchOf}
 use Rattle.model.specs.Ranges.{merge, filter, needed, neededOf, needlessOf, neededPools, joining, queuedPool}
@@ -32,7 +33,7 @@ use Rattle.queue.specs.State.{Queue, Begins}
 use Rattle.queue.specs.Rep.{joinedRanges, queueRep}
 use Rattle.queue.proofs.Rep.{rangesAt-over}
 use Rattle.state.specs.declared.Hub.{Hub}
-use Rattle.step.specs.declared.Next.the-variants.{Read, Split}
+use Rattle.step.specs.declared.Next.the-variants.{Read, ReadMarks, Split}
 use Rattle.step.specs.Step.{stepOf}
 use Rattle.flush.specs.Flush.{partOf, withPart, timesOf}
 use Rattle.splitting.specs.Splitting.{requeued, maySplit, mayCut, needlessBy, neededBy, needlessCount, splitLeft, splitQueue, splitMerged}
@@ -64,11 +65,11 @@ unfolding sumBy
 pools-ranges b [] t = omega arith
 pools-ranges b (p ∷ ps) t = omega (arith, t .0 .0, pools-ranges b ps (t .1))
 
-may-cut : (w m p k : ℕ) → w < 16 → m ≤ 256 → p ≤ 16 → k ≤ 64 → mayCut w m p k ≡ true
-may-cut w m p k a b c d = rw (lt-ltb w 16 a, le-leb m 256 b, le-leb p 16 c, le-leb k 64 d)
+may-cut : (w m t k : ℕ) → w < 16 → m ≤ 256 → t ≤ 28 → k ≤ 64 → mayCut w m t k ≡ true
+may-cut w m t k a b c d = rw (lt-ltb w 16 a, le-leb m 256 b, le-leb t 28 c, le-leb k 64 d)
 
 module _ (s : Store) (m : Memory) (w : ℕ) (l : List Range) (ts : List ℕ) (S : Sound s) (Z : Sized m) (B : Begins (m .hub .window)) (laid : m ≡ write s m) (wb : w < s .site .P)
-    (e : workerAt s w .doing ≡ Model.FlushRead l ts) (all : s .site .P ≤ length ts) where
+    (e : workerAt s w .doing ≡ Model.FlushRead l ts) (all : s .site .P < length ts) where
   abbrev d : Model.Doing
   d = Model.FlushRead l ts
 
@@ -95,7 +96,7 @@ module _ (s : Store) (m : Memory) (w : ℕ) (l : List Range) (ts : List ℕ) (S 
 
   stepped : stepAt s w d ≡ record { store = withQueue (withWorker s w after) pools; answer = Model·Answer.Going }
   unfolding stepAt flushRead flushSplit
-  stepped = cond-no (ltb (length ts) (s .site .P)) _ _ (le-ltb (length ts) (s .site .P) all)
+  stepped = cond-no (leb (length ts) (s .site .P)) _ _ (lt-leb (length ts) (s .site .P) all)
 
   ----------------------------------------------------------------------
   -- What is read from memory
@@ -115,16 +116,21 @@ module _ (s : Store) (m : Memory) (w : ℕ) (l : List Range) (ts : List ℕ) (S 
   workers-is : p ≡ s .site .P
   workers-is = ap (λ (h : Hub). h .p) (hub-is s m laid)
 
-  read-is : take p (timesOf times w) ≡ ts
+  abbrev t : ℕ
+  t = length ts
+
+  -- all times are read
+  read-all : t ≡ s .site .P + markCount
+  read-all = ⊎-elim (λ u. absurd (omega (arith, u, all))) (λ u. u) (within .2)
+
+  read-is : take t (timesOf times w) ≡ ts
   read-is =
-      let n = within .2 in
       let own : timesRead (workerAt s w .doing) ≡ ts = ap timesRead e in
-      ap (take p)
-      (part-of 16 (λ y. timesRead (y .doing)) (s .workers) times w (omega (arith, Z .times, S .bounds .workers .1, S .bounds .workers .2))
+      ap (take t)
+      (part-of 28 (λ y. timesRead (y .doing)) (s .workers) times w (omega (arith, Z .times, S .bounds .workers .1, S .bounds .workers .2))
       (among s S w wb) (times-is s m laid)
       ∙ ap (λ (l : List ℕ). over l (timesOf times w)) own)
-      ∙ ap (λ (k : ℕ). take k (over ts (timesOf times w))) workers-is
-      ∙ take-over ts (timesOf times w) (s .site .P) (omega arith)
+      ∙ take-over ts (timesOf times w) t refl
 
   listed-is : listed ≡ l
   unfolding handWords
@@ -132,18 +138,17 @@ module _ (s : Store) (m : Memory) (w : ℕ) (l : List Range) (ts : List ℕ) (S 
       ap (λ (z : List ℕ). rangesAt z 0 (length l)) (list-is s S w wb m Z laid d e (omega (arith, within .0, length-flat l)))
       ∙ rangesAt-over l (partOf (m .merged) w)
 
-  go-is : needlessBy (m .merged) w (length l) times p ≡ go
+  go-is : needlessBy (m .merged) w (length l) times t ≡ go
   go-is = ap₂ needlessOf read-is listed-is
 
-  gone-is : needlessCount (m .merged) w (length l) times p ≡ length go
+  gone-is : needlessCount (m .merged) w (length l) times t ≡ length go
   gone-is = ap length go-is
 
-  may : maySplit w (length l) p local ≡ true
+  may : maySplit w (length l) t local ≡ true
   may =
       let few = S .bounds .workers .1 in
       let c = S .bounds .batch .1 in
-      ap (λ (k : ℕ). mayCut w (length l) k (length (own .pool))) workers-is
-      ∙ may-cut w (length l) (s .site .P) (length (own .pool)) (omega arith) (within .0) few (omega (arith, pool-short s S w wb))
+      may-cut w (length l) t (length (own .pool)) (omega arith) (within .0) (omega (arith, few, read-all)) (omega (arith, pool-short s S w wb))
 
   ----------------------------------------------------------------------
   -- The queue
@@ -157,17 +162,17 @@ module _ (s : Store) (m : Memory) (w : ℕ) (l : List Range) (ts : List ℕ) (S 
       let n = S .bounds .slots .1 in
       omega (arith, ranges-few s S, length-parts (needed ts) l)
 
-  queue-split : splitQueue (queueIn m) (m .merged) w (length l) times p local ≡ queueRep pools (queueIn m)
+  queue-split : splitQueue (queueIn m) (m .merged) w (length l) times t p local ≡ queueRep pools (queueIn m)
   unfolding splitQueue
   queue-split =
       let q : Queue = queueIn m in
-      let stay-is : neededBy (m .merged) w (length l) times p ≡ stay = ap₂ neededOf read-is listed-is in
-      let stays : length l - needlessCount (m .merged) w (length l) times p ≡ length stay =
+      let stay-is : neededBy (m .merged) w (length l) times t ≡ stay = ap₂ neededOf read-is listed-is in
+      let stays : length l - needlessCount (m .merged) w (length l) times t ≡ length stay =
       ap (λ (k : ℕ). length l - k) gone-is ∙ omega (arith, length-parts (needed ts) l) in
       let some : length (s .queue) ≤ length (joinedRanges (s .queue)) =
       omega (arith, length-joined (s .queue), pools-ranges (2 * b) (s .queue) (S .bounds .queued)) in
       let c = S .bounds .batch in
-      cond-yes (maySplit w (length l) p local) _ q may
+      cond-yes (maySplit w (length l) t local) _ q may
       ∙ (λ i. requeued q local (over (flat (stay-is i)) (replicate 768 0)) (stays i) ((ap batchOf (workers-byte s m S laid) ∙ sym (S .batch)) i))
       ∙ requeued-is (s .queue) q (own .pool) stay b (queue-sized m Z) B (queue-held s m laid) some (c .0) (omega (arith, pool-short s S w wb)) room
 
@@ -177,30 +182,31 @@ module _ (s : Store) (m : Memory) (w : ℕ) (l : List Range) (ts : List ℕ) (S 
   few : length go ≤ 256
   few = omega (arith, within .0, length-parts (needed ts) l)
 
-  left-is : splitLeft (m .merged) w (length l) times p local ≡ length go
+  left-is : splitLeft (m .merged) w (length l) times t local ≡ length go
   unfolding splitLeft
-  left-is = cond-yes (maySplit w (length l) p local) _ 0 may ∙ ap short gone-is ∙ omega (arith, few)
+  left-is = cond-yes (maySplit w (length l) t local) _ 0 may ∙ ap short gone-is ∙ omega (arith, few)
 
   abbrev recordOf : ℕ → Worker
   recordOf n = record { doing = D.FlushFree n; announced = announcedRep (own .announced); pool = poolRep [] }
 
-  merged-split : splitMerged (m .merged) w (length l) times p local ≡ mergedOver (set (s .workers) w after) (m .merged)
+  merged-split : splitMerged (m .merged) w (length l) times t local ≡ mergedOver (set (s .workers) w after) (m .merged)
   unfolding splitMerged handWords
   merged-split =
-      cond-yes (maySplit w (length l) p local) _ (m .merged) may
+      cond-yes (maySplit w (length l) t local) _ (m .merged) may
       ∙ ap (λ (r : List Range). withPart (m .merged) w (over (flat (reverse r)) (partOf (m .merged) w))) go-is
       ∙ list-put s S w wb m Z laid after (omega (arith, few, length-flat (reverse go), length-reverse go))
 
   pub split-sim : Simulates s m w d
   unfolding goIn stepOf nextIn splitIn
   split-sim =
-      let test : ltb (length ts) p ≡ false = ap (ltb (length ts)) workers-is ∙ le-ltb (length ts) (s .site .P) all in
+      let less : ltb t p ≡ false = le-ltb t p (omega (arith, workers-is, all)) in
+      let same : eqb t p ≡ false = ne-eqb t p (λ z. omega (arith, z, workers-is, all)) in
       moved-sim s m w S laid wb d e after pools Going _ _ times _ stepped
-      (ap (nextIn m w (recordAt s w d)) (cond-no (ltb (length ts) p) (Read (length l) (length ts)) (Split (length l)) test))
+      (ap (nextIn m w (recordAt s w d)) (cond-no (ltb t p) (Read (length l) t) _ less ∙ cond-no (eqb t p) (ReadMarks (length l)) (Split (length l) t) same))
       (ap recordOf left-is)
       (queue-kept s m pools _ (omega (
         arith,
         length-append (s .queue ++ neededPools b stay) (queuedPool (merge (own .pool) (joining b stay))),
         length-append (s .queue) (neededPools b stay),
       )) queue-split)
-      (times-kept s S w wb m Z laid d after ts e refl) merged-split
+      (times-kept s S w wb m Z laid d after ts e refl) merged-split refl

@@ -74,4 +74,4 @@ module _ (s : Store) (m : Memory) (w : ℕ) (S : Sound s) (Z : Sized m) (B : Beg
   unfolding stepAt flushTake goIn stepOf nextIn tookIn
   flush-take-sim =
       moved-sim s m w S laid wb Model.FlushTake e after (drop 2 (s .queue)) Going _ (rest q) (m .hub .times) _ refl refl record-is (took .1)
-      (times-kept s S w wb m Z laid Model.FlushTake after [] e refl) merged-is
+      (times-kept s S w wb m Z laid Model.FlushTake after [] e refl) merged-is refl

@@ -18,8 +18,8 @@ use Rattle.worker.specs.Rep.{doingRep, announcedRep, timeOf}
 use Rattle.worker.proofs.Rep.{announced-at}
 use Rattle.state.specs.declared.Hub.{Hub}
 use Rattle.step.specs.Step.{Stepped, newestAt, stepOf}
-use Rattle.simulation.specs.Memory.{Memory, write}
-use Rattle.simulation.specs.Shell.{rowsKept, stepAtIn}
+use Rattle.simulation.specs.Memory.{Memory, readOf, write}
+use Rattle.simulation.specs.Shell.{rowsKept, marksRead, stepAtIn}
 use Rattle.simulation.proofs.Laws.{newest-at}
 use Rattle.simulation.proofs.Sound.{Sound}
 use Rattle.simulation.proofs.Simulates.{recordAt}
@@ -31,17 +31,19 @@ use Rattle.simulation.proofs.Rows.{stamped-row}
 abbrev pub stepFound : Store → Memory → ℕ → Model.Doing → Stepped
 stepFound s m w d =
     stepOf (doingRep d) (announcedRep (workerAt s w .announced)) (s .clock) (length (s .free)) (s .site .P) (m .slots) (m .newest) (m .free)
-    (rowsKept (m .hub))
+    (rowsKept (m .hub)) (s .marks) (map readOf (s .workers))
 
 pub short-is : (x : ℕ) → x < 65536 → short x ≡ x
 short-is x h = omega arith
 
-module _ (s : Store) (m : Memory) (laid : m ≡ write s m) where
+module _ (s : Store) (m : Memory) (S : Sound s) (laid : m ≡ write s m) where
   pub step-is : (w : ℕ) (d : Model.Doing) → stepAtIn m (recordAt s w d) (doingRep d) ≡ stepFound s m w d
   step-is w d =
       ap (λ (h : Hub). stepOf (doingRep d) (announcedRep (workerAt s w .announced)) (h .clock) (h .free) (h .p) (m .slots) (m .newest) (m .free)
-      (rowsKept (m .hub)))
+      (rowsKept (m .hub)) (m .hub .marks) (marksRead (m .hub)))
       (hub-is s m laid)
+      ∙ (λ i. stepOf (doingRep d) (announcedRep (workerAt s w .announced)) (s .clock) (length (s .free)) (s .site .P) (m .slots) (m .newest) (m .free)
+      (rowsKept (m .hub)) (Laid.marks-is s m laid i) (Laid.reads-is s m laid (S .bounds .workers .2) i))
 
 module _ (s : Store) (m : Memory) (S : Sound s) (laid : m ≡ write s m) where
   pub slot-is : (c : ℕ) → c < s .site .N → slotAtIn (m .slots) c ≡ slotRep (slotAt s c)

@@ -24,7 +24,7 @@ use Rattle.slots.specs.declared.Slot.{Slot}
 use Rattle.slots.specs.Slots.{slotRep, slotOf, vacantSlot, madeSlot, madeTo}
 use Rattle.state.specs.State.{emptyHub, freshHub}
 use Rattle.arrays.specs.Arrays.{short, fillTo}
-use Rattle.simulation.specs.Memory.{partsOver, hubRep, handWords, inHandWords, mergedOver}
+use Rattle.simulation.specs.Memory.{partsOver, readOf, hubRep, handWords, inHandWords, mergedOver}
 use Rattle.simulation.proofs.Laid.{hub-path}
 
 ------------------------------------------------------------------------
@@ -168,7 +168,10 @@ pub hub-made : (b : ℕ) (z : Sizes) (list : List ℕ) (row : List Model.Slot) �
 unfolding fresh
 hub-made b z list row h few =
     hub-path refl refl refl refl (sym (up-length (z .V') (z .N - z .V'))) refl (sym (rows-length list))
-    (ap (λ (l : List ℕ). over l (replicate 1024 0)) (take-all 1024 (rowsOf list) few)) (parts-made 16 (λ x. timesRead (x .doing)) refl (z .P) (replicate 256 0))
+    (ap (λ (l : List ℕ). over l (replicate 1024 0)) (take-all 1024 (rowsOf list) few)) (parts-made 28 (λ x. timesRead (x .doing)) refl (z .P) (replicate 448 0)) refl
+    (sym
+    (ap (λ (l : List ℕ). over l (replicate 16 0)) (map-replicate readOf (z .P) startWorker)
+    ∙ over-replicate 0 (z .P) 16 h))
     (sym
     (ap (λ (l : List Worker). over l (replicate 16 (workerRep startWorker))) (map-replicate workerRep (z .P) startWorker)
     ∙ over-replicate (workerRep startWorker) (z .P) 16 h))

@@ -1,20 +1,25 @@
 -- The decision on a record is the model's, for a store in memory: the code's tests are the model's, one by one and in the same order. A
 -- worker's record is looked at only where the worker is below P, and there it is the model's worker in memory.
 use mathlib.Core.Path.{_≡_, refl, sym, ap, subst, _∙_}
-use mathlib.Core.Bool.{Bool, true, false, true≢false, cond}
-use mathlib.Core.List.{List}
+use mathlib.Core.Bool.{Bool, true, false, true≢false, cond, _&&_}
+use mathlib.Core.List.{List, map}
+use mathlib.Core.Option.{Option, none, some}
 use Prim.Native.Nat.{ℕ, _<_}
-use lib.Dec.{ltb}
-use lib.ListN.{length}
+use native.Mathlib.Omega.{arith}
+use lib.Dec.{ltb, eqb}
+use lib.ListN.{length, replicate, length-map}
 use Rattle.lists.proofs.Over.{take-over}
-use borrow.Author.Tests.{ltb-true}
+use borrow.Author.Tests.{ltb-true, ne-eqb}
 use Rattle.model.specs.Store as Model
-use Rattle.model.specs.Store.{Store, up, absent, workerAt, place}
+use Rattle.model.specs.Store.{Store, up, absent, markCount, workerAt, place}
+use Rattle.model.specs.Marks as Mark
+use Rattle.model.specs.Marks.{markRefusal}
 use Rattle.model.specs.Rules.{inForce}
 use Rattle.model.specs.Answer.{Ok, Stepped, Applied}
 use Rattle.model.specs.Record as Record
 use Rattle.model.specs.Steps.{stepAt}
-use Rattle.model.specs.Apply.{refuse, Terms, terms, registerBelow, groupThere, valueWithin, isIdle, mayOpen, mayUseTime, setUp, begin, step, obey, applyDecoded}
+use Rattle.model.specs.Apply.{refuse, Terms, terms, namedBelow, groupThere, valueWithin, isIdle, mayOpen, mayUseTime, setUp, refusedBy, begin, step, obey, applyDecoded}
+use Rattle.model.proofs.Basic.{and-both}
 use Rattle.model.proofs.View.{idle-is}
 use Rattle.worker.specs.declared.Worker.{Worker}
 use Rattle.worker.specs.Rep.{doingRep, workerRep}
@@ -25,17 +30,20 @@ use Rattle.worker.specs.About.{aboutOf}
 use Rattle.gate.specs.declared.Terms as Code
 use Rattle.gate.specs.declared.Gate.{Gate}
 use Rattle.gate.specs.declared.Gate.the-variants.{Refuse, Make, Start, Go}
-use Rattle.gate.specs.Gate.{operationRep, decodedRep, registerOk, groupOk, valueOk, openOk, timeOk, beginGate, gateOf, whoOf}
-use Rattle.simulation.specs.Memory.{hubRep}
-use Rattle.simulation.specs.Shell.{rowsKept}
+use Rattle.gate.specs.Gate.{operationRep, decodedRep, markOf, namedOk, groupOk, valueOk, openOk, timeOk, beginGate, gateOf, whoOf}
+use Rattle.marks.specs.Marks.{refusalIn}
+use Rattle.simulation.specs.Memory.{readOf, hubRep}
+use Rattle.simulation.specs.Shell.{rowsKept, marksRead}
 use Rattle.simulation.proofs.Laws.{worker-in}
-use Rattle.simulation.proofs.Facts.{same-facts, termsRep, same-terms, same-register, same-group, same-value, same-open, same-use}
+use Rattle.simulation.proofs.Facts.{same-facts, termsRep, same-terms, same-names, same-group, same-value, same-open, same-use}
 use Rattle.simulation.proofs.Sound.{Sound}
+use Rattle.simulation.proofs.Marks.{numberOf, UnreadIn, refusal-same, Numbered, numbered}
 
 -- the gate of a record that was read as r, by whether the memory is ready, the length of the row, the list that is lent, and the hub by value
 abbrev pub gateBy : Decoded → Bool → ℕ → List ℕ → Hub → Gate
 gateBy r ready long list h =
     gateOf r ready (h .p) (h .v) long (workerIn h (whoOf r) .doing) (workerIn h (whoOf r) .announced) list (rowsKept h)
+    (h .marks) (marksRead h)
 
 -- a begin of operation o by worker w in the store s is accepted
 pub record Begun (s : Store) (w : ℕ) (o : Record.Operation) (a : Applied) : Type 0 where
@@ -78,6 +86,20 @@ module _ (s : Store) (S : Sound s) (k : Hub) (list : List ℕ) where
   kept-rows : rowsKept (hubRep s k) ≡ rows
   kept-rows = take-over rows (k .rows) (length rows) refl
 
+  -- what the workers read of marks
+  abbrev reading : List ℕ
+  reading = map readOf (s .workers)
+
+  kept-reading : marksRead (hubRep s k) ≡ reading
+  kept-reading = take-over reading (replicate 16 0) (s .site .P) (length-map (s .workers) readOf ∙ S .bounds .workers .2)
+
+  -- a mark that is named is one of the twelve
+  unread-in : (y : Mark.MarkNeed) → namedBelow markCount (Mark.markOf y) ≡ true → UnreadIn y
+  unread-in Mark.NoMark e = tt
+  unread-in (Mark.EmptyMark m) e = tt
+  unread-in (Mark.HeldMark m) e = tt
+  unread-in (Mark.UnreadMark m) e = ltb-true m markCount e
+
   -- a worker below P is the model's worker in memory
   who-is : (w : ℕ) → ltb w (s .site .P) ≡ true → workerIn (hubRep s k) w ≡ workerRep (workerAt s w)
   who-is w i = worker-in s w (S .bounds .workers .2) (S .bounds .workers .1) (ltb-true w (s .site .P) i)
@@ -86,14 +108,15 @@ module _ (s : Store) (S : Sound s) (k : Hub) (list : List ℕ) where
   x w = workerIn (hubRep s k) w
 
   begins : (w : ℕ) (o : Record.Operation)
-      → Means s (beginGate (s .site .P) (s .site .V') w (operationRep o) (workerIn (hubRep s k) w .doing) (workerIn (hubRep s k) w .announced) rows)
+      → Means s (beginGate (s .site .P) (s .site .V') w (operationRep o) (workerIn (hubRep s k) w .doing) (workerIn (hubRep s k) w .announced) rows
+      (s .marks) reading)
       (begin (inForce list) s w o)
-  unfolding beginGate begin
+  unfolding beginGate begin refusedBy
   begins w o =
       subst (λ (z : Code.Terms). M (chosen z) (begin (inForce list) s w o)) (sym (same-terms rows (S .bounds .rows .1) o))
       (both M (ltb w (s .site .P)) (ltb w (s .site .P)) _ _ _ _ refl
-      (λ i. both M (registerOk (z .register) (s .site .V'))
-      (registerBelow (s .site .V') (a .register)) _ _ _ _ (same-register (a .register) (s .site .V'))
+      (λ i. both M (namedOk (z .register) (s .site .V') && namedOk (markOf (z .mark)) markCount)
+      (namedBelow (s .site .V') (a .register) && namedBelow markCount (Mark.markOf (a .mark))) _ _ _ _ (same-names (a .register) (a .mark) (s .site .V'))
       (λ r. both M (groupOk (z .row) rows) (groupThere rows (a .group)) _ _ _ _ (same-group rows (a .group))
       (λ g. both M (valueOk (z .value)) (valueWithin (inForce list .limit) (a .value)) _ _ _ _ (same-value list (a .value))
       (λ k. both M (aboutOf (x w .doing) .idle) (isIdle (y .doing))
@@ -102,7 +125,9 @@ module _ (s : Store) (S : Sound s) (k : Hub) (list : List ℕ) where
       (ap (λ (k : Worker). openOk (z .time) (k .announced)) (who-is w i) ∙ same-open (a .time) (y .announced))
       (λ f. both M (timeOk (z .time) (x w .announced)) (mayUseTime (a .time) (ltb (y .announced) absent)) _ _ _ _
       (ap (λ (k : Worker). timeOk (z .time) (k .announced)) (who-is w i) ∙ same-use (a .time) (y .announced))
-      (λ u. (o, refl, record { inside = ltb-true w (s .site .P) i; idle = idle-is (y .doing) e; is = refl }))
+      (λ u. by-mark (markRefusal s (a .mark)) refl
+      (refusal-same s S (a .mark) (unread-in (a .mark) (and-both (namedBelow (s .site .V') (a .register)) _ r .1)))
+      (numbered s (a .mark)) (ltb-true w (s .site .P) i) (idle-is (y .doing) e))
       (λ n. refl))
       (λ n. refl))
       (λ n. refl))
@@ -123,15 +148,30 @@ module _ (s : Store) (S : Sound s) (k : Hub) (list : List ℕ) where
       z : Code.Terms
       z = termsRep rows a
 
+      -- the refusal for a mark, if any
+      by-mark : (q : Option ℕ) → markRefusal s (a .mark) ≡ q → refusalIn (z .mark) (s .marks) reading ≡ numberOf (markRefusal s (a .mark))
+          → Numbered (markRefusal s (a .mark)) → w < s .site .P → workerAt s w .doing ≡ Model.Idle
+          → M (cond (eqb (refusalIn (z .mark) (s .marks) reading) 0) (Start w (z .first)) (Refuse (refusalIn (z .mark) (s .marks) reading)))
+          (refusedBy (markRefusal s (a .mark)) (up s) (record { hub = up (place s w (a .first)); answer = Ok }))
+      by-mark none e f n b d =
+          rw (f, e) (o, refl, record { inside = b; idle = d; is = refl })
+      by-mark (some j) e f n b d =
+          let c = subst Numbered e n in
+          rw (f, e, ne-eqb j 0 (λ z. omega (arith, z, c .0))) refl
+
       -- the decision, of the terms given
       chosen : Code.Terms → Gate
       chosen q =
           cond (ltb w (s .site .P))
-          (cond (registerOk (q .register) (s .site .V'))
+          (cond (namedOk (q .register) (s .site .V') && namedOk (markOf (q .mark)) markCount)
           (cond (groupOk (q .row) rows)
           (cond (valueOk (q .value))
           (cond (aboutOf (x w .doing) .idle)
-          (cond (openOk (q .time) (x w .announced)) (cond (timeOk (q .time) (x w .announced)) (Start w (q .first)) (Refuse 13)) (Refuse 12))
+          (cond (openOk (q .time) (x w .announced))
+          (cond (timeOk (q .time) (x w .announced))
+          (cond (eqb (refusalIn (q .mark) (s .marks) reading) 0) (Start w (q .first)) (Refuse (refusalIn (q .mark) (s .marks) reading)))
+          (Refuse 13))
+          (Refuse 12))
           (Refuse 10))
           (Refuse 16))
           (Refuse 17))
@@ -145,8 +185,10 @@ module _ (s : Store) (S : Sound s) (k : Hub) (list : List ℕ) where
   gate-left (Record.Refuses k) long = refl
   gate-left (Record.Asks (Record.SetUp z)) long = refl
   gate-left (Record.Asks (Record.Begin w o)) long =
-      subst (λ (l : List ℕ). Means s (beginGate (s .site .P) (s .site .V') w (operationRep o) (x w .doing) (x w .announced) l)
-      (begin (inForce list) s w o)) (sym kept-rows) (begins w o)
+      subst (λ (l : List ℕ). Means s (beginGate (s .site .P) (s .site .V') w (operationRep o) (x w .doing) (x w .announced) l (s .marks)
+      (marksRead (hubRep s k))) (begin (inForce list) s w o)) (sym kept-rows)
+      (subst (λ (l : List ℕ). Means s (beginGate (s .site .P) (s .site .V') w (operationRep o) (x w .doing) (x w .announced) rows (s .marks) l)
+      (begin (inForce list) s w o)) (sym kept-reading) (begins w o))
   gate-left (Record.Asks (Record.Step w)) long =
       both (Means s) (ltb w (s .site .P)) (ltb w (s .site .P)) _ _ _ _ refl
       (λ i. record { inside = ltb-true w (s .site .P) i; is = refl })

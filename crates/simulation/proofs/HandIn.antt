@@ -19,7 +19,8 @@ use Rattle.versions.specs.Versions.{slotAtIn}
 use Rattle.worker.specs.declared.Pool.{Pool}
 use Rattle.worker.specs.declared.Worker.{Worker}
 use Rattle.worker.specs.Pool.{appended}
-use Rattle.worker.specs.Rep.{timesRead, poolRep, announcedRep, workerRep}
+use Rattle.worker.specs.Rep.{timesRead, poolRep, announcedRep, doingRep, workerRep}
+use Rattle.marks.specs.Marks.{readBy}
 use Rattle.worker.proofs.Ranges.{append-rep}
 use Rattle.step.specs.Step.{stepOf}
 use Rattle.flush.specs.Flush.{HandedIn, word, handedPool, handed, putHandInStep}
@@ -56,6 +57,10 @@ no-list r c false = refl
 no-times : (r c : ℕ) (t : Bool) → timesRead (Model.PutHandIn r c) ≡ timesRead (cond t Model.FlushTake Model.Idle) ++ []
 no-times r c true = refl
 no-times r c false = refl
+
+no-read : (t : Bool) → readBy (doingRep (cond t Model.FlushTake Model.Idle)) ≡ 0
+no-read true = refl
+no-read false = refl
 
 module _ (s : Store) (m : Memory) (w r c : ℕ) (S : Sound s) (Z : Sized m) (laid : m ≡ write s m) (wb : w < s .site .P)
     (e : workerAt s w .doing ≡ Model.PutHandIn r c) (next : Sound (stepAt s w (Model.PutHandIn r c) .store)) where
@@ -108,3 +113,4 @@ module _ (s : Store) (m : Memory) (w r c : ℕ) (S : Sound s) (Z : Sized m) (lai
       (ap (λ (z : HandedIn). answered (withRecord m w (recordOf own z)) (z .answer)) handed-is)
       (record-is own pool full) (queue-kept s m (s .queue) (queueIn m) (omega arith) (queue-held s m laid))
       (times-kept s S w wb m Z laid d x [] e (no-times r c full)) (list-kept s S w wb m Z laid d x [] e (no-list r c full))
+      (no-read full)

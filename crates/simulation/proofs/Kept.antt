@@ -37,7 +37,7 @@ module _ (s : Store) (m : Memory) (w : ℕ) (d : Model.Doing)
       taken-sim s m w d S Z laid wb e x k l (s .newest) (s .free) y
       (record {
         code =
-            step-is s m laid w d
+            step-is s m S laid w d
             ∙ found
             ∙ λ i. record {
               next = Taken (outcomeOf (doingRep d′) (announcedRep t) k (length (s .free)) y);

@@ -3,7 +3,9 @@ use mathlib.Core.Path.{_≡_, refl, sym, ap, _∙_, subst}
 use mathlib.Core.Bool.{Bool, true, false, true≢false, cond}
 use mathlib.Core.List.{List, _++_, map, reverse}
 use Prim.Native.Nat.{ℕ, _*_, _≤_, _<_}
-use lib.ListN.{length, getD, set, length-set}
+use mathlib.Core.Logic.{⊎-elim}
+use lib.Dec.{eqb}
+use lib.ListN.{length, getD, set, replicate, length-set, length-map}
 use Rattle.lists.proofs.Over.{take-over}
 use lib.Seq.{getD-set-same}
 use native.Mathlib.Omega.{arith}
@@ -11,21 +13,22 @@ use Rattle.lists.specs.Over.{over, overAt}
 use Rattle.model.specs.Store as Model
 use Rattle.model.specs.Store.{Store, up, startWorker, workerAt, slotAt, withWorker, withDoing}
 use Rattle.model.specs.Demand.{All}
-use Rattle.model.proofs.Basic.{All-at}
-use Rattle.worker.specs.Rep.{timesRead, workerRep}
+use Rattle.model.proofs.Basic.{All-at, eq-cases}
+use Rattle.worker.specs.Rep.{timesRead, doingRep, workerRep}
+use Rattle.marks.specs.Marks.{readBy, readNext}
 use Rattle.slots.specs.declared.Slot.{Slot}
 use Rattle.slots.specs.Slots.{slotRep, vacantSlot}
 use Rattle.ranges.specs.Words.{flat}
 use Rattle.queue.specs.Rep.{joinedRanges}
 use Rattle.state.specs.declared.Hub.{Hub}
-use Rattle.state.specs.State.{emptyHub, workerIn, withWorkerIn, withWindowIn, withTimesIn}
+use Rattle.state.specs.State.{emptyHub, workerIn, withWorkerIn, withWindowIn, withTimesIn, withReadingIn}
 use Rattle.flush.specs.Flush.{partOf, withPart}
 use Rattle.values.specs.declared.Window.{Window}
-use Rattle.simulation.specs.Shell.{rowsKept}
-use Rattle.simulation.specs.Memory.{Memory, timesOver, hubRep, inHandWords, mergedOver, write, withHub, writeHub}
+use Rattle.simulation.specs.Shell.{rowsKept, marksRead, readAfter}
+use Rattle.simulation.specs.Memory.{Memory, timesOver, readOf, readsOver, hubRep, inHandWords, mergedOver, write, withHub, writeHub}
 use Rattle.queue.proofs.Rep.{window-kept}
 use Rattle.simulation.specs.Left.{Sized}
-use Rattle.simulation.proofs.Laws.{worker-in, worker-set, slot-at, part-of, part-set, part-kept}
+use Rattle.simulation.proofs.Laws.{worker-in, read-at, reads-set, worker-set, worker-same, slot-at, part-of, part-set, part-kept}
 use Rattle.simulation.proofs.Sound.{Sound, PlaceIn}
 
 ------------------------------------------------------------------------
@@ -48,9 +51,23 @@ memory-path h s n f q l g =
     λ i. record { hub = h i; slots = s i; newest = n i; free = f i; queue = q i; lens = l i; merged = g i }
 
 pub hub-path : {h h′ : Hub} → h .p ≡ h′ .p → h .v ≡ h′ .v → h .n ≡ h′ .n → h .clock ≡ h′ .clock → h .free ≡ h′ .free
-    → h .window ≡ h′ .window → h .listed ≡ h′ .listed → h .rows ≡ h′ .rows → h .times ≡ h′ .times → h .workers ≡ h′ .workers → h ≡ h′
-hub-path p v n c f q k r t w =
-    λ i. record { p = p i; v = v i; n = n i; clock = c i; free = f i; window = q i; listed = k i; rows = r i; times = t i; workers = w i }
+    → h .window ≡ h′ .window → h .listed ≡ h′ .listed → h .rows ≡ h′ .rows → h .times ≡ h′ .times → h .marks ≡ h′ .marks → h .reading ≡ h′ .reading
+    → h .workers ≡ h′ .workers → h ≡ h′
+hub-path p v n c f q k r t g b w =
+    λ i. record {
+      p = p i;
+      v = v i;
+      n = n i;
+      clock = c i;
+      free = f i;
+      window = q i;
+      listed = k i;
+      rows = r i;
+      times = t i;
+      marks = g i;
+      reading = b i;
+      workers = w i;
+    }
 
 ------------------------------------------------------------------------
 -- The member of a list that was replaced
@@ -90,6 +107,15 @@ module _ (s : Store) (m : Memory) (laid : m ≡ write s m) where
   rows-is =
       ap (λ (x : Memory). rowsKept (x .hub)) laid ∙ take-over (s .site .rows) (m .hub .rows) (length (s .site .rows)) refl
 
+  -- which mark each worker reads
+  pub reads-is : length (s .workers) ≡ s .site .P → marksRead (m .hub) ≡ map readOf (s .workers)
+  reads-is e =
+      ap (λ (x : Memory). marksRead (x .hub)) laid
+      ∙ take-over (map readOf (s .workers)) (replicate 16 0) (s .site .P) (length-map (s .workers) readOf ∙ e)
+
+  pub marks-is : m .hub .marks ≡ s .marks
+  marks-is = ap (λ (x : Memory). x .hub .marks) laid
+
   -- a slot that is loaded
   pub slot-is : (c : ℕ) → c < length (s .slots) → getD (m .slots) c vacantSlot ≡ slotRep (slotAt s c)
   slot-is c h = ap (λ (l : List Slot). getD l c vacantSlot) slots-is ∙ slot-at (s .slots) (m .slots) c h
@@ -126,13 +152,37 @@ module _ (s : Store) (S : Sound s) (w : ℕ) (wb : w < s .site .P) where
     pub times-kept : (d : Model.Doing) (x : Model.Worker) (l : List ℕ) → workerAt s w .doing ≡ d → timesRead d ≡ timesRead (x .doing) ++ l
         → m .hub .times ≡ timesOver (set (s .workers) w x) (m .hub .times)
     times-kept d x l e h =
-        part-kept 16 (λ y. timesRead (y .doing)) (s .workers) (m .hub .times) w x l (omega (arith, at-most-16, Z .times)) among
+        part-kept 28 (λ y. timesRead (y .doing)) (s .workers) (m .hub .times) w x l (omega (arith, at-most-16, Z .times)) among
         (ap timesRead e ∙ h) (times-is s m laid)
 
+    -- where it reads marks as before
     pub worker-put : (d : Model.Doing) (x : Model.Worker) (l : List ℕ) → workerAt s w .doing ≡ d → timesRead d ≡ timesRead (x .doing) ++ l
+        → readOf x ≡ readBy (doingRep d)
         → withWorkerIn (hubRep s (m .hub)) w (workerRep x) ≡ hubRep (withWorker s w x) (m .hub)
-    worker-put d x l e h =
-        worker-set s (m .hub) w x (S .bounds .workers .2) (S .bounds .workers .1) wb
+    worker-put d x l e h q =
+        worker-same s (m .hub) w x (S .bounds .workers .2) (S .bounds .workers .1) wb (q ∙ ap (λ (y : Model.Doing). readBy (doingRep y)) (sym e))
+        ∙ ap (withTimesIn (hubRep (withWorker s w x) (m .hub))) (sym (times-is s m laid) ∙ times-kept d x l e h)
+
+    -- what stands for it among what is read of marks, after a step to another place
+    read-after : (d : Model.Doing) (x : Model.Worker) → workerAt s w .doing ≡ d
+        → readAfter (hubRep s (m .hub)) w (workerRep (withDoing (workerAt s w) d)) (doingRep (x .doing)) ≡ readsOver (set (s .workers) w x)
+    read-after d x e =
+        let old : getD (readsOver (s .workers)) w 0 ≡ readBy (doingRep d) =
+        read-at s w (S .bounds .workers .2) wb ∙ ap (λ (y : Model.Doing). readBy (doingRep y)) e in
+        ap (set (readsOver (s .workers)) w)
+        (ap (readNext (doingRep d) (doingRep (x .doing))) old ∙ next-is (readBy (doingRep d)) (readOf x))
+        ∙ reads-set s w x (S .bounds .workers .2) wb
+      where
+        next-is : (a b : ℕ) → cond (eqb a b) a b ≡ b
+        next-is a b = ⊎-elim (λ u. rw (u .1) (u .0)) (λ u. rw (u .1)) (eq-cases a b)
+
+    pub worker-taken : (d : Model.Doing) (x : Model.Worker) (l : List ℕ) → workerAt s w .doing ≡ d → timesRead d ≡ timesRead (x .doing) ++ l
+        → withReadingIn (withWorkerIn (hubRep s (m .hub)) w (workerRep x))
+        (readAfter (hubRep s (m .hub)) w (workerRep (withDoing (workerAt s w) d)) (doingRep (x .doing)))
+        ≡ hubRep (withWorker s w x) (m .hub)
+    worker-taken d x l e h =
+        ap (withReadingIn (withWorkerIn (hubRep s (m .hub)) w (workerRep x))) (read-after d x e)
+        ∙ worker-set s (m .hub) w x (S .bounds .workers .2) (S .bounds .workers .1) wb
         ∙ ap (withTimesIn (hubRep (withWorker s w x) (m .hub))) (sym (times-is s m laid) ∙ times-kept d x l e h)
 
     pub list-is : (d : Model.Doing) → workerAt s w .doing ≡ d → length (inHandWords d) ≤ 768

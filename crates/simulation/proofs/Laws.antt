@@ -6,10 +6,11 @@ use native.Mathlib.Nat.{le-of-suc-le-suc, not-suc-le-zero}
 use native.Mathlib.Omega.{arith}
 use native.Mathlib.Nat.{mul-comm, suc-mul, mul-le-mul-right}
 use lib.ListN.{length, getD, set, take, drop, replicate, length-append, length-take, length-drop, length-set, length-map, length-reverse, take-append-drop}
-use lib.Seq.{take-set-lt, drop-set-lt, length-take-le, set-append-left, take-all, drop-append-add, drop-at, take-at, take-add, drop-drop, getD-at}
+use lib.Seq.{take-append-le, drop-append-le, take-set-lt, drop-set-lt, length-take-le, set-append-left, take-all, drop-append-add, drop-at, take-at, take-add, drop-drop, getD-at, set-getD}
 use borrow.Author.Tests.{lt-ltb}
-use Rattle.lists.specs.Over.{over}
+use Rattle.lists.specs.Over.{over, overAt}
 use Rattle.lists.proofs.Over.{over-push, getD-over-in}
+use Rattle.queue.proofs.MemoryLaws.{overAt-over}
 use Rattle.model.proofs.Basic.{getD-map}
 use Rattle.model.specs.Store as Model
 use Rattle.model.specs.Store.{Store, absent, slot₀, startWorker, workerAt, withWorker}
@@ -18,9 +19,9 @@ use Rattle.worker.specs.Rep.{workerRep}
 use Rattle.slots.specs.declared.Slot.{Slot}
 use Rattle.slots.specs.Slots.{slotRep, vacantSlot}
 use Rattle.state.specs.declared.Hub.{Hub}
-use Rattle.state.specs.State.{emptyHub, nobody, workerIn, withWorkersIn, withWorkerIn, withTimesIn}
+use Rattle.state.specs.State.{emptyHub, nobody, workerIn, withWorkersIn, withWorkerIn, withTimesIn, withReadingIn}
 use Rattle.step.specs.Step.{newestAt}
-use Rattle.simulation.specs.Memory.{hubRep, timesOver, partsOver}
+use Rattle.simulation.specs.Memory.{readOf, readsOver, hubRep, timesOver, partsOver}
 
 ------------------------------------------------------------------------
 -- Memory whose front is replaced
@@ -101,11 +102,36 @@ worker-in s w e b h =
     getD-over-in (map workerRep (s .workers)) (replicate 16 (workerRep startWorker)) w nobody (rw (length-map (s .workers) workerRep) k)
     ∙ getD-map workerRep (s .workers) w startWorker nobody k
 
--- a worker's record replaced is the model's worker replaced
+-- what stands for a worker among what is read of marks
+pub read-at : (s : Store) (w : ℕ) → length (s .workers) ≡ s .site .P → w < s .site .P → getD (readsOver (s .workers)) w 0 ≡ readOf (workerAt s w)
+read-at s w e h =
+    let k : w < length (s .workers) = omega arith in
+    getD-over-in (map readOf (s .workers)) (replicate 16 0) w 0 (rw (length-map (s .workers) readOf) k) ∙ getD-map readOf (s .workers) w startWorker 0 k
+
+pub reads-set : (s : Store) (w : ℕ) (x : Model.Worker) → length (s .workers) ≡ s .site .P → w < s .site .P
+    → set (readsOver (s .workers)) w (readOf x) ≡ readsOver (set (s .workers) w x)
+reads-set s w x e h = mapped-set readOf (s .workers) (replicate 16 0) w x (omega arith)
+
+-- where it stays the same, all stays
+pub reads-kept : (s : Store) (w : ℕ) (x : Model.Worker) → length (s .workers) ≡ s .site .P → w < s .site .P → readOf x ≡ readOf (workerAt s w)
+    → readsOver (s .workers) ≡ readsOver (set (s .workers) w x)
+reads-kept s w x e h q =
+    sym (set-getD (readsOver (s .workers)) w 0) ∙ ap (set (readsOver (s .workers)) w) (read-at s w e h ∙ sym q) ∙ reads-set s w x e h
+
+-- a worker's record replaced, and what stands for it among what is read of marks, is the model's worker replaced
 pub worker-set : (s : Store) (k : Hub) (w : ℕ) (x : Model.Worker) → length (s .workers) ≡ s .site .P → s .site .P ≤ 16 → w < s .site .P
-    → withWorkerIn (hubRep s k) w (workerRep x) ≡ withTimesIn (hubRep (withWorker s w x) k) (timesOver (s .workers) (k .times))
+    → withReadingIn (withWorkerIn (hubRep s k) w (workerRep x)) (readsOver (set (s .workers) w x))
+    ≡ withTimesIn (hubRep (withWorker s w x) k) (timesOver (s .workers) (k .times))
 worker-set s k w x e b h =
-    ap (λ (l : List Worker). withWorkersIn (hubRep s k) l) (mapped-set workerRep (s .workers) (replicate 16 (workerRep startWorker)) w x (omega arith))
+    ap (λ (l : List Worker). withReadingIn (withWorkersIn (hubRep s k) l) (readsOver (set (s .workers) w x)))
+    (mapped-set workerRep (s .workers) (replicate 16 (workerRep startWorker)) w x (omega arith))
+
+-- and where it reads as before, only its record is
+pub worker-same : (s : Store) (k : Hub) (w : ℕ) (x : Model.Worker) → length (s .workers) ≡ s .site .P → s .site .P ≤ 16 → w < s .site .P
+    → readOf x ≡ readOf (workerAt s w)
+    → withWorkerIn (hubRep s k) w (workerRep x) ≡ withTimesIn (hubRep (withWorker s w x) k) (timesOver (s .workers) (k .times))
+worker-same s k w x e b h q =
+    ap (withReadingIn (withWorkerIn (hubRep s k) w (workerRep x))) (reads-kept s w x e h q) ∙ worker-set s k w x e b h
 
 ------------------------------------------------------------------------
 -- The row of slots
@@ -158,6 +184,21 @@ set-behind (suc a) k [] v h = absurd (omega arith)
 set-behind (suc a) k (x ∷ d) v h =
     let z : suc a + k ≡ suc (a + k) = omega arith in
     rw z (ap (λ (l : List ℕ). x ∷ l) (set-behind a k d v (omega arith)))
+
+-- entries replaced behind the first a, and in the front part of a list
+overAt-behind : (a i : ℕ) (p d : List ℕ) → overAt (a + i) p d ≡ take a d ++ overAt i p (drop a d)
+unfolding overAt
+overAt-behind a i p d =
+    let z : a + i + length p ≡ a + (i + length p) = omega arith in
+    (λ j. take-add a i d j ++ p ++ (ap (λ (k : ℕ). drop k d) z ∙ sym (drop-drop (i + length p) a d)) j)
+    ∙ ap (λ (l : List ℕ). l ++ drop (i + length p) (drop a d)) (append-assoc (take a d) (take i (drop a d)) p)
+    ∙ append-assoc (take a d) (take i (drop a d) ++ p) (drop (i + length p) (drop a d))
+
+overAt-append : (k : ℕ) (v x y : List ℕ) → k + length v ≤ length x → overAt k v (x ++ y) ≡ overAt k v x ++ y
+unfolding overAt
+overAt-append k v x y h =
+    (λ j. take-append-le k x y (omega arith) j ++ v ++ drop-append-le (k + length v) x y h j)
+    ∙ sym (append-assoc (take k x ++ v) (drop (k + length v) x) y)
 
 module _ (n : ℕ) (f : Model.Worker → List ℕ) where
   -- worker w's part, and the memory with that part replaced
@@ -291,6 +332,25 @@ module _ (n : ℕ) (f : Model.Worker → List ℕ) where
       (sym (take-append-drop n (set b (length l) v))
       ∙ (λ j. take-set-lt n b (length l) v k j ++ drop-set-lt n b (length l) v k j)
       ∙ (λ j. (more ∙ ap (λ (z : List ℕ). over z (take n b)) (sym e)) j ++ drop-drop n a d j))
+      ∙ part-set ws d w x r h i
+
+  -- a list more in it
+  pub part-joined : (ws : List Model.Worker) (d : List ℕ) (w : ℕ) (x : Model.Worker) (v : List ℕ) → n * length ws ≤ length d → w < length ws
+      → length (f (getD ws w startWorker)) + length v ≤ n → f x ≡ f (getD ws w startWorker) ++ v
+      → d ≡ partsOver n f ws d → overAt (n * w + length (f (getD ws w startWorker))) v d ≡ partsOver n f (set ws w x) d
+  part-joined ws d w x v r h k e i =
+      let l : List ℕ = f (getD ws w startWorker) in
+      let a : ℕ = n * w in
+      let b : List ℕ = drop a d in
+      let inside : a + n ≤ length d = omega (arith, r, mul-le-mul-right n h, mul-comm n (length ws), suc-mul w n, mul-comm n w) in
+      let long : length (take n b) ≡ n = length-take-le n b (rw (length-drop a d) (omega arith)) in
+      let held : take n b ≡ over l (take n b) = part-of ws d w r h i in
+      overAt-behind a (length l) v d
+      ∙ ap (λ (z : List ℕ). take a d ++ z)
+      (ap (overAt (length l) v) (sym (take-append-drop n b))
+      ∙ overAt-append (length l) v (take n b) (drop n b) (rw long k)
+      ∙ (λ j. (ap (overAt (length l) v) held ∙ overAt-over l v (take n b) (length l) refl ∙ ap (λ (z : List ℕ). over z (take n b)) (sym e)) j
+      ++ drop-drop n a d j))
       ∙ part-set ws d w x r h i
 
   -- changes of workers' places that change no list

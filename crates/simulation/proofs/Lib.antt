@@ -4,6 +4,7 @@ pub mod Chains
 pub mod Laws
 pub mod Facts
 pub mod Sound
+pub mod Marks
 pub mod Simulates
 pub mod Laid
 pub mod Rows
@@ -12,6 +13,7 @@ pub mod Found
 pub mod Kept
 pub mod Moved
 pub mod Open
+pub mod Marking
 pub mod Read
 pub mod Put
 pub mod Rest
@@ -19,6 +21,7 @@ pub mod HandIn
 pub mod FlushQueue
 pub mod FlushTake
 pub mod FlushReadTime
+pub mod FlushReadMarks
 pub mod FlushRequeue
 pub mod FlushSplit
 pub mod FlushRead

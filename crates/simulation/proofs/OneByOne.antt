@@ -26,7 +26,7 @@ use Rattle.gate.specs.declared.Gate.the-variants.{Refuse, Make}
 use Rattle.gate.specs.Gate.{decodedRep, decodedIn, sizesOk, gateOf, whoOf}
 use Rattle.simulation.specs.Memory.{Memory}
 use Rattle.simulation.specs.Left.{Sized, ready}
-use Rattle.simulation.specs.Shell.{rowsKept, obeyIn, gateIn, doneAs, doneOf}
+use Rattle.simulation.specs.Shell.{rowsKept, marksRead, obeyIn, gateIn, doneAs, doneOf}
 use Rattle.simulation.specs.Holds.{Holds, sent, AsModel}
 use Rattle.simulation.specs.Public.{exchangeOf, Does}
 use Rattle.simulation.specs.Records.{recordAt}
@@ -51,14 +51,14 @@ answerTo m list bytes k = stateAt m list bytes (suc k) .last
 
 -- where the memory does not count as set up, nothing begins and no step is taken
 blank-gate : (P : Gate → Type 0) → ((k : ℕ) → P (Refuse k)) → ((p v n k : ℕ) → P (Make p v n k))
-    → (r : Record.Decoded) (p v long : ℕ) (d : Doing) (t : Announced) (list rows : List ℕ)
-    → P (gateOf (decodedRep r) false p v long d t list rows)
+    → (r : Record.Decoded) (p v long : ℕ) (d : Doing) (t : Announced) (list rows marks reading : List ℕ)
+    → P (gateOf (decodedRep r) false p v long d t list rows marks reading)
 unfolding gateOf
-blank-gate P f g (Record.Refuses k) p v long d t list rows = f k
-blank-gate P f g (Asks (SetUp z)) p v long d t list rows =
+blank-gate P f g (Record.Refuses k) p v long d t list rows marks reading = f k
+blank-gate P f g (Asks (SetUp z)) p v long d t list rows marks reading =
     cond-both P (sizesOk (z .P) (z .V') (z .N) (z .clock) long && Record.listFits (z .V') list) _ _ (λ e. g (z .P) (z .V') (z .N) (z .clock)) (λ e. f 5)
-blank-gate P f g (Asks (Record.Begin w o)) p v long d t list rows = f 8
-blank-gate P f g (Asks (Record.Step w)) p v long d t list rows = f 8
+blank-gate P f g (Asks (Record.Begin w o)) p v long d t list rows marks reading = f 8
+blank-gate P f g (Asks (Record.Step w)) p v long d t list rows marks reading = f 8
 
 -- a hub that records left counts as set up where memory holds it
 held-ready : (h : Model.Hub) (m : Memory) → Holds h m → Sized m → LeftHub h → ready m ≡ true
@@ -98,6 +98,7 @@ module _ (steps : StepsSimulate) (m : Memory) (list b : List ℕ) (Z : Sized m) 
       let x : Worker = workerIn (m .hub) (whoOf (decodedIn b)) in
       blank-gate (λ (g : Gate). gateIn (ready m) m list b ≡ g → Flagged) (flag-refused row H) (flag-made row H)
       (Record.decode b) (m .hub .p) (m .hub .v) (length (m .slots)) (x .doing) (x .announced) list (rowsKept (m .hub))
+      (m .hub .marks) (marksRead (m .hub))
       (ap (λ (t : Bool). gateIn t m list b) (H .0))
 
 ------------------------------------------------------------------------

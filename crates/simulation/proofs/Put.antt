@@ -107,7 +107,7 @@ module _ (s : Store) (m : Memory) (w r : ℕ) (x : Model.Reading)
         (set (s .newest) r f) free Going
         (record {
           code =
-              step-is s m laid w d
+              step-is s m S laid w d
               ∙ cond-no (eqb (length (s .free)) 0) _ _ more
               ∙ λ j. record {
                 next =

@@ -14,12 +14,14 @@ use Rattle.model.specs.Totals.{goesOn, Sum}
 use Rattle.model.specs.Answer.{Answer, Ok, Going, Freed, At, Value, Below, Done, No, Stepped, Applied}
 use Rattle.model.specs.Record.{SetUp, Begin, Step, Decoded, Asks, Refuses, commandOf, unusedZero, decode, listFits}
 use Rattle.model.specs.Steps.{putPublish, putStamp, putHandIn, flushTake, flushSplit, flushRead, flushFree}
-use Rattle.model.specs.Steps.{openAnnounce, openPass, answerFor, signed, totalFound, found, readEnter, readStand, getShow, closeWithdraw, timeStep, stepAt}
+use Rattle.model.specs.Steps.{openAnnounce, openPass, answerFor, signed, totalFound, found, readEnter, readStand, getShow, closeWithdraw, stoppedBy, markKeep, markRelease, timeStep, stepAt}
+use Rattle.model.specs.Marks.{MarkNeed, EmptyMark, UnreadMark, markRefusal, needFor, timeFor}
 use Rattle.model.specs.Apply.{inRanges, setUp, step, obey, applyDecoded, apply}
 use Rattle.model.specs.Demand.{All}
 use Rattle.model.specs.Refusals.{onReading}
 use Rattle.model.proofs.Basic.{cond-both, All-get}
 use Rattle.model.proofs.Begin.{begin-by}
+use Rattle.model.proofs.Found.{stopped-by}
 use Rattle.values.specs.Meaning.{answerOf}
 use Rattle.values.specs.declared.Answer as Code
 use Rattle.values.specs.declared.Answer.the-variants as Is
@@ -28,6 +30,7 @@ use Rattle.answers.proofs.Faithful.{faithful}
 use Rattle.simulation.specs.Memory.{Memory}
 use Rattle.simulation.specs.Holds.{Holds}
 use Rattle.simulation.proofs.Sound.{PlaceIn, Sound, sound}
+use Rattle.simulation.proofs.Marks.{Numbered, numbered}
 use borrow.Author.Tests.{ltb-true}
 
 -- of an answer of the model
@@ -68,27 +71,34 @@ module _ (s : Store) (S : Sound s) (w : ℕ) (below : w < s .site .P) where
   found-ranged : (y : Model.Purpose) (x : Model.Reading) → RangedStep (found s w y x)
   unfolding found totalFound answerFor
   found-ranged Model.Single x = tt
+  found-ranged (Model.Marked m) x = tt
   found-ranged (Model.Totaling g i y) x =
       cond-both RangedStep (leb (x .count) twelveDigits) _ _
       (λ e. cond-both RangedStep (goesOn (s .site .rows) g i) _ _ (λ f. tt)
       (λ f. signed-ranged _))
       (λ e. lit< tt)
 
+  mark-ranged : (y : MarkNeed) (next : Stepped) → RangedStep next → RangedStep (stoppedBy (markRefusal s y) s w next)
+  mark-ranged y next a =
+      stopped-by RangedStep (markRefusal s y) s w next (λ k e. subst Numbered e (numbered s y) .1) (λ e. a)
+
   step-ranged : (d : Model.Doing) → PlaceIn s (workerAt s w .announced) d → RangedStep (stepAt s w d)
-  unfolding stepAt timeStep putStamp putHandIn flushTake flushSplit flushRead openAnnounce openPass readEnter readStand getShow closeWithdraw answerFor
+  unfolding stepAt timeStep putStamp putHandIn flushTake flushSplit flushRead openAnnounce openPass readEnter readStand getShow closeWithdraw markKeep markRelease answerFor
   step-ranged Model.Idle p = lit< tt
   step-ranged (Model.PutPublish r x) p = put-ranged r x (s .free)
   step-ranged (Model.PutStamp r c) p = tt
   step-ranged (Model.PutHandIn r c) p = cond-both Ranged (eqb _ (s .site .B)) Going Done (λ e. tt) (λ e. tt)
   step-ranged Model.FlushTake p = tt
-  step-ranged (Model.FlushRead m ts) p = cond-both RangedStep (ltb (length ts) (s .site .P)) _ _ (λ e. tt) (λ e. tt)
+  step-ranged (Model.FlushRead m ts) p = cond-both RangedStep (leb (length ts) (s .site .P)) _ _ (λ e. tt) (λ e. tt)
   step-ranged (Model.FlushFree m) p = free-ranged m p
   step-ranged (Model.OnTime Model.OpenAnnounce) p = cond-both RangedStep (eqb (s .clock) lastClock) _ _ (λ e. lit< tt) (λ e. tt)
   step-ranged (Model.OnTime Model.OpenPass) p = omega (arith, p .1)
   step-ranged (Model.OnTime Model.CloseWithdraw) p = tt
-  step-ranged (Model.ReadEnter g) p = tt
+  step-ranged (Model.OnTime (Model.MarkKeep i)) p = mark-ranged (EmptyMark i) _ tt
+  step-ranged (Model.OnTime (Model.MarkRelease i)) p = mark-ranged (UnreadMark i) _ tt
+  step-ranged (Model.ReadEnter g) p = mark-ranged (needFor (g .purpose)) _ tt
   step-ranged (Model.ReadStand g c) p =
-      cond-both RangedStep (leb (slotAt s c .low) (workerAt s w .announced)) _ _ (λ e. found-ranged (g .purpose) (slotAt s c .value)) (λ e. tt)
+      cond-both RangedStep (leb (slotAt s c .low) (timeFor (s .marks) (workerAt s w .announced) (g .purpose))) _ _ (λ e. found-ranged (g .purpose) (slotAt s c .value)) (λ e. tt)
   step-ranged (Model.GetShow r) p = tt
 
 ------------------------------------------------------------------------
@@ -103,7 +113,7 @@ read-ranged : (b : List ℕ) → RangedRead (decode b)
 unfolding decode
 read-ranged b =
     cond-both RangedRead (ltb (length b) 16) _ _ (λ e. lit< tt)
-    (λ e. cond-both RangedRead (ltb 8 (getD b 0 0)) _ _ (λ f. lit< tt)
+    (λ e. cond-both RangedRead (ltb 11 (getD b 0 0)) _ _ (λ f. lit< tt)
     (λ f. cond-both RangedRead (unusedZero b (commandOf b (getD b 0 0))) _ _ (λ g. tt) (λ g. lit< tt)))
 
 -- memory that holds a hub has a sound one

@@ -1,15 +1,17 @@
 -- Lent memory counts as set up exactly where all of it is in its ranges: the test is a conjunction of scans, and each scan passes exactly where
 -- the entries that it looks at are in range.
 use mathlib.Core.Path.{_≡_, refl, sym, subst}
-use mathlib.Core.Bool.{Bool, true, false, cond, _&&_, true≢false}
+use mathlib.Core.Bool.{Bool, true, false, cond, _&&_, _||_, true≢false}
+use mathlib.Core.Logic.{_⊎_, inl, inr, ⊎-elim}
 use Prim.Native.Nat.{ℕ, _+_, _*_, _≤_, _<_, min}
 use native.Mathlib.Omega.{arith}
 use lib.Dec.{ltb, leb, eqb}
 use lib.ListN.{length, getD}
 use borrow.Author.Tests.{lt-ltb, le-leb, lt-leb, eq-eqb, ltb-true, leb-true, eqb-true}
+use Rattle.model.specs.Store.{markCount}
 use Rattle.model.specs.Rules.{twelveDigits}
 use Rattle.worker.specs.declared.Purpose.{Purpose}
-use Rattle.worker.specs.declared.Purpose.the-variants.{Single, Totaling}
+use Rattle.worker.specs.declared.Purpose.the-variants.{Single, Marked, Totaling}
 use Rattle.worker.specs.declared.Facts.{Facts}
 use Rattle.worker.specs.declared.Worker.{Worker}
 use Rattle.worker.specs.About.{aboutOf}
@@ -18,6 +20,7 @@ use Rattle.state.specs.State.{workerIn}
 use Rattle.ready.specs.Ready.{
   rowsBelow,
   sumFits,
+  readFits,
   purposeFits,
   belowTo,
   slotsBelow,
@@ -37,7 +40,7 @@ use Rattle.ready.specs.Ready.{
 use Rattle.ready.proofs.Sizes.{WindowIn, and-both, sizes-tell, sizes-yes}
 use Rattle.simulation.specs.Memory.{Memory}
 use Rattle.simulation.specs.Left.{ready}
-use Rattle.simulation.specs.Ranges.{batchIn, PurposeInRange, PlaceInRange, WorkerInRange, InRanges, ReadyExactly}
+use Rattle.simulation.specs.Ranges.{batchIn, TimesRead, PurposeInRange, PlaceInRange, WorkerInRange, InRanges, ReadyExactly}
 use Rattle.simulation.proofs.Scans as Scans
 
 -- a test that is made where another passes
@@ -59,6 +62,7 @@ module _ (m : Memory) where
   -- what a value is read for
   purpose-tells : (y : Purpose) → purposeFits y (m .hub .listed) ≡ true → PurposeInRange (m .hub) y
   purpose-tells Single e = tt
+  purpose-tells (Marked i) e = tt
   purpose-tells (Totaling g i plus minus) e =
       let a = and-both (ltb i (m .hub .listed)) _ e in
       let b = and-both (sumFits plus) (sumFits minus) (a .1) in
@@ -66,8 +70,27 @@ module _ (m : Memory) where
 
   purpose-yes : (y : Purpose) → PurposeInRange (m .hub) y → purposeFits y (m .hub .listed) ≡ true
   purpose-yes Single P = refl
+  purpose-yes (Marked i) P = refl
   purpose-yes (Totaling g i plus minus) P =
       rw (lt-ltb i (m .hub .listed) (P .0), le-leb plus (31 * twelveDigits) (P .1), le-leb minus (31 * twelveDigits) (P .2))
+
+  -- how many times were read
+  or-tells : (a b : Bool) → (a || b) ≡ true → (a ≡ true) ⊎ (b ≡ true)
+  or-tells true b e = inl refl
+  or-tells false b e = inr e
+
+  or-right : (a : Bool) → (a || true) ≡ true
+  or-right true = refl
+  or-right false = refl
+
+  read-tells : (j : ℕ) → readFits j (m .hub .p) ≡ true → TimesRead (m .hub) j
+  read-tells j e =
+      ⊎-elim (λ u. inl (leb-true j (m .hub .p) u)) (λ u. inr (eqb-true j (m .hub .p + markCount) u))
+      (or-tells (leb j (m .hub .p)) (eqb j (m .hub .p + markCount)) e)
+
+  read-yes : (j : ℕ) → TimesRead (m .hub) j → readFits j (m .hub .p) ≡ true
+  read-yes j (inl h) = rw (le-leb j (m .hub .p) h)
+  read-yes j (inr h) = rw (eq-eqb j (m .hub .p + markCount) h) (or-right (leb j (m .hub .p)))
 
   module _ (w : ℕ) (few : w < 16) where
     -- the tests of a worker's place and of its list
@@ -80,18 +103,21 @@ module _ (m : Memory) where
     place-tells y e =
         let R : Bool = namedBelow (y .register) (m .hub .v) in
         let C : Bool = namedBelow (y .slot) (m .hub .n) in
-        let all = and-both (R && C) (leb (y .read) (m .hub .p) && purposeFits (y .purpose) (m .hub .listed)) (e .0) in
+        let F : Bool = readFits (y .read) (m .hub .p) && purposeFits (y .purpose) (m .hub .listed) in
+        let whole = and-both (R && C && F) (namedBelow (y .mark) markCount) (e .0) in
+        let all = and-both (R && C) F (whole .0) in
         let both = and-both R C (all .0) in
-        let rest = and-both (leb (y .read) (m .hub .p)) (purposeFits (y .purpose) (m .hub .listed)) (all .1) in
+        let rest = and-both (readFits (y .read) (m .hub .p)) (purposeFits (y .purpose) (m .hub .listed)) (all .1) in
         let hand : rangesFit (y .ranges) w (m .merged) list (m .hub .n) ≡ true = rw (lt-leb 16 w few) at (e .1) in
         let ranges = Scans.ranges-tell w (m .merged) list (m .hub .n) (y .ranges) hand in
         record {
           register = Scans.named-tells (y .register) (m .hub .v) (both .0);
           slot = Scans.named-tells (y .slot) (m .hub .n) (both .1);
-          read = leb-true (y .read) (m .hub .p) (rest .0);
+          read = read-tells (y .read) (rest .0);
           list = λ k q. (omega (arith, ranges k q .0), omega (arith, ranges k q .0));
           listSlots = λ k q. ranges k q .1;
           purpose = purpose-tells (y .purpose) (rest .1);
+          mark = Scans.named-tells (y .mark) markCount (whole .1);
         }
 
     place-yes : (y : Facts) → PlaceInRange m w y → Place y
@@ -100,8 +126,9 @@ module _ (m : Memory) where
       rw (
         Scans.named-yes (y .register) (m .hub .v) (P .register),
         Scans.named-yes (y .slot) (m .hub .n) (P .slot),
-        le-leb (y .read) (m .hub .p) (P .read),
+        read-yes (y .read) (P .read),
         purpose-yes (y .purpose) (P .purpose),
+        Scans.named-yes (y .mark) markCount (P .mark),
       ),
       rw (lt-leb 16 w few)
           (Scans.ranges-yes w (m .merged) list (m .hub .n) (y .ranges) (λ k q. omega (arith, P .list k q .0, P .list k q .1)) (P .listSlots)),

@@ -1,19 +1,21 @@
 -- Read (1) and (2) and get are the model's. Read (1) and get stamp the register; read (2) looks at the slot on which the read stands.
 use mathlib.Core.Path.{_≡_, refl, ap, _∙_, subst}
 use mathlib.Core.Bool.{Bool, true, false, cond}
-use mathlib.Core.List.{List}
+use mathlib.Core.List.{List, map}
+use mathlib.Core.Option.{Option, none, some}
 use Prim.Native.Nat.{ℕ, _+_, _*_, _-_, _%_, _≤_, _<_}
 use native.Mathlib.Nat.{mod-eq-of-lt}
 use native.Mathlib.Omega.{arith}
 use lib.Dec.{leb, eqb}
 use lib.ListN.{length}
 use lib.Seq.{getD-set-same}
-use borrow.Author.Tests.{leb-true, le-leb}
+use borrow.Author.Tests.{leb-true, le-leb, ne-eqb}
 use Rattle.model.specs.Store as Model
 use Rattle.model.specs.Store.{Store, startWorker, workerAt, slotAt, newestOf, withDoing, place}
 use Rattle.model.specs.Answer as Model·Answer
 use Rattle.model.specs.Versions.{stampSlots, stamp}
-use Rattle.model.specs.Steps.{stepAt, readEnter, readStand, getShow, answerFor, goalAt, signed, totalFound, found}
+use Rattle.model.specs.Steps.{stepAt, stoppedBy, readEnter, readStand, getShow, answerFor, goalAt, signed, totalFound, found}
+use Rattle.model.specs.Marks.{markRefusal, needFor, timeFor}
 use Rattle.model.specs.Totals.{signOf, rowAt, goesOn, Sum, addRow}
 use Rattle.model.specs.Rules.{twelveDigits}
 use Rattle.model.specs.About.{about}
@@ -28,30 +30,54 @@ use Rattle.arrays.specs.Arrays.{short}
 use Rattle.versions.specs.Versions.{slotAtIn}
 use Rattle.worker.specs.declared.Doing as Code
 use Rattle.worker.specs.declared.Doing.the-variants.{ReadStand}
-use Rattle.worker.specs.Rep.{readingRep, announcedRep, goalRep, timeOf}
+use Rattle.worker.specs.Rep.{readingRep, announcedRep, goalRep}
+use Rattle.marks.specs.declared.MarkNeed as Need
+use Rattle.marks.specs.Marks.{refusalIn, timeIn}
 use Rattle.totals.specs.Rows.{addedTo}
 use Rattle.announcing.specs.declared.Outcome.{Outcome}
 use Rattle.announcing.specs.Announcing.{outcomeOf}
-use Rattle.step.specs.Step.{Stepped, newestAt, stillAt, readEnterStep, signedOf, totalFoundOf, foundOf, readStandStep, getShowStep, stepOf}
-use Rattle.simulation.specs.Memory.{Memory, handWords, write}
+use Rattle.step.specs.Step.{Stepped, newestAt, stillAt, needOf, readEnterStep, signedOf, totalFoundOf, foundOf, readStandStep, getShowStep, stepOf}
+use Rattle.simulation.specs.Memory.{Memory, readOf, handWords, write}
 use Rattle.simulation.specs.Left.{Sized}
 use Rattle.simulation.specs.Shell.{rowsKept}
 use Rattle.simulation.proofs.Sound.{Sound}
 use Rattle.simulation.proofs.Simulates.{Simulates}
 use Rattle.simulation.proofs.Laid.{slots-is, rows-is, place-at, among}
 use Rattle.simulation.proofs.Found.{stepFound, short-is, slot-is, newest-is, newest-short, stamp-row, time-is}
+use Rattle.simulation.proofs.Marks.{numberOf, refusal-same, Numbered, numbered, need-same, need-unread, time-same}
 use Rattle.simulation.proofs.Kept.{kept-sim}
 
 module _ (s : Store) (m : Memory) (w : ℕ) (S : Sound s) (Z : Sized m) (laid : m ≡ write s m) (wb : w < s .site .P) where
   pub read-enter-sim : (g : Model.Goal) → workerAt s w .doing ≡ Model.ReadEnter g → Simulates s m w (Model.ReadEnter g)
-  unfolding stepOf readEnterStep stepAt readEnter stamp handWords
-  read-enter-sim g e =
-      let d : Model.Doing = Model.ReadEnter g in
-      let r : ℕ = g .register in
-      let n : ℕ = newestOf s r in
-      let h : r < s .site .V' = place-at s S w wb d e in
-      kept-sim s m w d S Z laid wb e (Model.ReadStand g n) (workerAt s w .announced) (s .clock) (stampSlots (s .slots) n (s .clock)) Going
-      (rw (newest-short s m S laid r h)) (stamp-row s m S laid r h) refl refl refl
+  unfolding stepOf readEnterStep stepAt readEnter stoppedBy stamp handWords
+  read-enter-sim g e = by (markRefusal s (needFor (g .purpose))) refl (numbered s (needFor (g .purpose)))
+    where
+      d : Model.Doing
+      d = Model.ReadEnter g
+
+      r : ℕ
+      r = g .register
+
+      n : ℕ
+      n = newestOf s r
+
+      h : r < s .site .V'
+      h = place-at s S w wb d e .0
+
+      -- the code's refusal is the model's
+      same : refusalIn (needOf (goalRep g .purpose)) (s .marks) (map readOf (s .workers)) ≡ numberOf (markRefusal s (needFor (g .purpose)))
+      same =
+          ap (λ (y : Need.MarkNeed). refusalIn y (s .marks) (map readOf (s .workers))) (need-same (g .purpose))
+          ∙ refusal-same s S (needFor (g .purpose)) (need-unread (g .purpose))
+
+      by : (q : Option ℕ) → markRefusal s (needFor (g .purpose)) ≡ q → Numbered (markRefusal s (needFor (g .purpose))) → Simulates s m w (Model.ReadEnter g)
+      by none q c =
+          kept-sim s m w d S Z laid wb e (Model.ReadStand g n) (workerAt s w .announced) (s .clock) (stampSlots (s .slots) n (s .clock)) Going
+          (rw (same, q, newest-short s m S laid r h)) (stamp-row s m S laid r h) (rw q) refl refl
+      by (some j) q c =
+          let b = subst Numbered q c in
+          kept-sim s m w d S Z laid wb e Model.Idle (workerAt s w .announced) (s .clock) (s .slots) (No j)
+          (rw (same, q, ne-eqb j 0 (λ z. omega (arith, z, b .0)))) (slots-is s m laid) (rw q) refl refl
 
   pub get-show-sim : (r : ℕ) → workerAt s w .doing ≡ Model.GetShow r → Simulates s m w (Model.GetShow r)
   unfolding stepOf getShowStep stepAt getShow answerFor stamp handWords
@@ -85,6 +111,10 @@ module _ (s : Store) (m : Memory) (w : ℕ) (g : Model.Goal) (c : ℕ)
   abbrev t : ℕ
   t = workerAt s w .announced
 
+  -- the time as of which it reads
+  abbrev t′ : ℕ
+  t′ = timeFor (s .marks) t (g .purpose)
+
   abbrev rows : List ℕ
   rows = s .site .rows
 
@@ -100,12 +130,13 @@ module _ (s : Store) (m : Memory) (w : ℕ) (g : Model.Goal) (c : ℕ)
       (ends (ReadStand (goalRep g) (short (v .older))) Going))
       (m .slots) (m .newest)
 
-  looked : stepFound s m w d ≡ looks (slotRep (slotAt s c)) t rows
+  looked : stepFound s m w d ≡ looks (slotRep (slotAt s c)) t′ rows
   unfolding stepOf readStandStep
   looked =
-      ap (λ (v : Slot). looks v (timeOf (announcedRep t)) (rowsKept (m .hub))) (slot-is s m S laid c (place-at s S w wb d e .1))
-      ∙ ap (λ (a : ℕ). looks (slotRep (slotAt s c)) a (rowsKept (m .hub))) (time-is s w S wb)
-      ∙ ap (looks (slotRep (slotAt s c)) t) (rows-is s m laid)
+      ap (λ (v : Slot). looks v (timeIn (goalRep g .purpose) (announcedRep t) (s .marks)) (rowsKept (m .hub)))
+      (slot-is s m S laid c (place-at s S w wb d e .1))
+      ∙ ap (λ (a : ℕ). looks (slotRep (slotAt s c)) a (rowsKept (m .hub))) (time-same (s .marks) t (g .purpose) (time-is s w S wb))
+      ∙ ap (looks (slotRep (slotAt s c)) t′) (rows-is s m laid)
 
   -- a read that moves on stands on a slot again, since the store after it is sound
   on-slot : Sound (place s w (Model.ReadStand g o)) → o < s .site .N
@@ -114,11 +145,18 @@ module _ (s : Store) (m : Memory) (w : ℕ) (g : Model.Goal) (c : ℕ)
       place-at (place s w (Model.ReadStand g o)) S′ w wb (Model.ReadStand g o)
       (ap (λ (z : Model.Worker). z .doing) (getD-set-same (s .workers) w x startWorker (among s S w wb))) .1
 
-  module _ (z : leb (slotAt s c .low) t ≡ true) where
+  module _ (z : leb (slotAt s c .low) t′ ≡ true) where
     -- a read shows the value
     single-sim : g .purpose ≡ Model.Single → Simulates s m w d
     unfolding stepAt readStand found answerFor handWords
     single-sim q =
+        kept-sim s m w d S Z laid wb e Model.Idle t (s .clock) (s .slots) (Value (readingRep (slotAt s c .value)))
+        (looked ∙ rw (z, q)) (slots-is s m laid) (rw (z, q)) refl refl
+
+    -- and so does a marked read
+    marked-sim : (i : ℕ) → g .purpose ≡ Model.Marked i → Simulates s m w d
+    unfolding stepAt readStand found answerFor handWords
+    marked-sim i q =
         kept-sim s m w d S Z laid wb e Model.Idle t (s .clock) (s .slots) (Value (readingRep (slotAt s c .value)))
         (looked ∙ rw (z, q)) (slots-is s m laid) (rw (z, q)) refl refl
 
@@ -184,15 +222,16 @@ module _ (s : Store) (m : Memory) (w : ℕ) (g : Model.Goal) (c : ℕ)
           by true f false n = last-sim f n
           by true f true n = next-sim f n
 
-  found-sim : leb (slotAt s c .low) t ≡ true → (y : Model.Purpose) → g .purpose ≡ y → Simulates s m w d
+  found-sim : leb (slotAt s c .low) t′ ≡ true → (y : Model.Purpose) → g .purpose ≡ y → Simulates s m w d
   found-sim z Model.Single q = single-sim z q
+  found-sim z (Model.Marked i) q = marked-sim z i q
   found-sim z (Model.Totaling j i y) q = total-sim z j i y q
 
   pub read-stand-sim : Sound (stepAt s w (Model.ReadStand g c) .store) → Simulates s m w (Model.ReadStand g c)
   unfolding stepAt readStand handWords
-  read-stand-sim S′ = by (leb (slotAt s c .low) t) refl
+  read-stand-sim S′ = by (leb (slotAt s c .low) t′) refl
     where
-      by : (low : Bool) → leb (slotAt s c .low) t ≡ low → Simulates s m w d
+      by : (low : Bool) → leb (slotAt s c .low) t′ ≡ low → Simulates s m w d
       by true z = found-sim z (g .purpose) refl
       by false z =
           let p : stepAt s w d ≡ record { store = place s w (Model.ReadStand g o); answer = Model·Answer.Going } = rw z in

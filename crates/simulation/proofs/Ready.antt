@@ -1,18 +1,19 @@
 -- Memory in which a sound store lies counts as set up: each entry that has a range is one of the store's, and the store's numbers are in
 -- range.
 use mathlib.Core.Path.{_≡_, refl, sym, ap, _∙_, subst}
-use mathlib.Core.Bool.{true, _&&_}
+use mathlib.Core.Bool.{Bool, true, false, _&&_, _||_}
+use mathlib.Core.Logic.{_⊎_, inl, inr, ⊎-elim}
 use mathlib.Core.List.{List, [], _∷_, map, reverse}
 use Prim.Native.Nat.{ℕ, _+_, _*_, _-_, _≤_, _<_}
 use native.Mathlib.Omega.{arith}
 use lib.Dec.{leb}
 use lib.ListN.{length, getD, drop, length-map, length-append, length-reverse}
 use lib.Seq.{getD-take, getD-drop}
-use borrow.Author.Tests.{ltb-true, lt-ltb, le-leb, lt-leb}
+use borrow.Author.Tests.{ltb-true, lt-ltb, le-leb, lt-leb, eq-eqb}
 use Rattle.lists.specs.Over.{over}
 use Rattle.lists.proofs.Over.{getD-over-in}
 use Rattle.model.specs.Store as Model
-use Rattle.model.specs.Store.{Store, Range, absent, startWorker, workerAt, newestOf}
+use Rattle.model.specs.Store.{Store, Range, absent, markCount, startWorker, workerAt, newestOf}
 use Rattle.model.specs.About.{about}
 use Rattle.model.specs.Batch.{batchOf}
 use Rattle.model.specs.Demand.{All}
@@ -22,7 +23,7 @@ use Rattle.model.specs.Reached.{sumBy, inHand, versionsHeld, TotalFits}
 use Rattle.model.proofs.Basic.{All-map, All-occurrences, getD-map, All-at, and-both}
 use Rattle.model.proofs.Totals.{row-fits}
 use Rattle.model.proofs.Count.{sumBy-one}
-use Rattle.worker.specs.About.{aboutOf}
+use Rattle.worker.specs.About.{markRead, aboutOf}
 use Rattle.worker.specs.Rep.{timesRead, padded, poolRep, purposeRep, doingRep}
 use Rattle.worker.proofs.Rep.{padded-at}
 use Rattle.slots.specs.Slots.{vacantSlot}
@@ -34,7 +35,7 @@ use Rattle.queue.specs.State.{Begins}
 use Rattle.queue.specs.Rep.{joinedRanges}
 use Rattle.queue.proofs.Rep.{lens-held, words-held}
 use Rattle.flush.specs.Flush.{partOf}
-use Rattle.ready.specs.Ready.{poolFits, listFits, rangesFit, handFits, purposeFits, placeFits, workerFits, lensSum}
+use Rattle.ready.specs.Ready.{poolFits, listFits, rangesFit, handFits, namedBelow, readFits, purposeFits, placeFits, workerFits, lensSum}
 use Rattle.simulation.specs.Memory.{Memory, memory, hubRep, handWords, inHandWords, write}
 use Rattle.simulation.specs.Left.{Sized, ready}
 use Rattle.simulation.specs.Shell.{queueIn}
@@ -45,7 +46,7 @@ use Rattle.simulation.proofs.Scans as Scans
 use Rattle.simulation.proofs.Scans.{ranges-below, NearIn, lens-sum}
 use Rattle.simulation.proofs.Ranges.{local, list, worker-tells, ready-exact}
 use Rattle.simulation.proofs.Laws.{getD-inside, slots-long}
-use Rattle.simulation.proofs.Sound.{RangeIn, PlaceIn, Sound}
+use Rattle.simulation.proofs.Sound.{RangeIn, MarkIn, PlaceIn, Sound}
 use Rattle.simulation.proofs.Laid.{memory-path, hub-is, slots-is, newest-is, free-is, queue-is, lens-is, slot-is}
 use Rattle.simulation.proofs.Laid.{worker-at, among, pool-short, list-is}
 
@@ -55,6 +56,7 @@ use Rattle.simulation.proofs.Laid.{worker-at, among, pool-short, list-i
 -- a total's row and sums
 purpose-yes : (rows : List ℕ) (y : Model.Purpose) → TotalFits rows y → purposeFits (purposeRep y) (length rows) ≡ true
 purpose-yes rows Model.Single f = refl
+purpose-yes rows (Model.Marked m) f = refl
 purpose-yes rows (Model.Totaling g i y) f =
     rw (lt-ltb i (length rows) (f .0), le-leb (y .plus) (31 * twelveDigits) (omega (arith, f .2)), le-leb (y .minus) (31 * twelveDigits) (omega (arith, f .2)))
 
@@ -74,8 +76,22 @@ place-yes s t d a f = go d a f
     n = s .site .N
 
     -- where no times are read there is nothing to test
-    none : leb 0 p ≡ true
-    none = le-leb 0 p (omega arith)
+    none : readFits 0 p ≡ true
+    none = rw (le-leb 0 p (omega arith))
+
+    or-true : (t : Bool) → (t || true) ≡ true
+    or-true true = refl
+    or-true false = refl
+
+    -- a flush has read no more than all workers' times, or all
+    some : (j : ℕ) → (j ≤ p) ⊎ (j ≡ p + markCount) → readFits j p ≡ true
+    some j (inl h) = rw (le-leb j p h)
+    some j (inr h) = rw (eq-eqb j (p + markCount) h) (or-true (leb j p))
+
+    mark-yes : (y : Model.Purpose) → MarkIn y → namedBelow (markRead (purposeRep y)) markCount ≡ true
+    mark-yes Model.Single b = refl
+    mark-yes (Model.Marked m) b = lt-ltb m markCount b
+    mark-yes (Model.Totaling g i y) b = refl
 
     k : List ℕ
     k = s .site .rows
@@ -86,11 +102,16 @@ place-yes s t d a f = go d a f
     go (Model.PutStamp r c) a f = rw (lt-ltb r v (a .0), lt-ltb c n (a .1), none)
     go (Model.PutHandIn r c) a f = rw (lt-ltb r v (a .0), lt-ltb c n (a .1), none)
     go Model.FlushTake a f = rw none
-    go (Model.FlushRead m ts) a f = rw (le-leb (length ts) p (a .2))
+    go (Model.FlushRead m ts) a f = rw (some (length ts) (a .2))
     go (Model.FlushFree m) a f = rw none
-    go (Model.OnTime y) a f = rw none
-    go (Model.ReadEnter g) a f = rw (lt-ltb (g .register) v a, none, purpose-yes k (g .purpose) f)
-    go (Model.ReadStand g c) a f = rw (lt-ltb (g .register) v (a .0), lt-ltb c n (a .1), none, purpose-yes k (g .purpose) f)
+    go (Model.OnTime Model.OpenAnnounce) a f = rw none
+    go (Model.OnTime Model.OpenPass) a f = rw none
+    go (Model.OnTime Model.CloseWithdraw) a f = rw none
+    go (Model.OnTime (Model.MarkKeep m)) a f = rw (none, lt-ltb m markCount a)
+    go (Model.OnTime (Model.MarkRelease m)) a f = rw (none, lt-ltb m markCount a)
+    go (Model.ReadEnter g) a f = rw (lt-ltb (g .register) v (a .0), none, purpose-yes k (g .purpose) f, mark-yes (g .purpose) (a .1))
+    go (Model.ReadStand g c) a f =
+        rw (lt-ltb (g .register) v (a .0), lt-ltb c n (a .1), none, purpose-yes k (g .purpose) f, mark-yes (g .purpose) (a .2))
     go (Model.GetShow r) a f = rw (lt-ltb r v a, none)
 
 -- a list of ranges in a worker's part of the memory
@@ -121,7 +142,11 @@ hand-yes s t (Model.FlushFree m) w merged most a h e =
     subst (λ (k : ℕ). listFits k w merged most (s .site .N) ≡ true) (length-reverse m)
     (list-yes (reverse m) (s .site .N) w merged most (omega (arith, length-reverse m, h)) (omega (arith, length-reverse m, a .0))
     (All-reverse (λ (ρ : Range). ρ .slot < s .site .N) m (slots-of s m (a .1))) e)
-hand-yes s t (Model.OnTime y) w merged most a h e = refl
+hand-yes s t (Model.OnTime Model.OpenAnnounce) w merged most a h e = refl
+hand-yes s t (Model.OnTime Model.OpenPass) w merged most a h e = refl
+hand-yes s t (Model.OnTime Model.CloseWithdraw) w merged most a h e = refl
+hand-yes s t (Model.OnTime (Model.MarkKeep m)) w merged most a h e = refl
+hand-yes s t (Model.OnTime (Model.MarkRelease m)) w merged most a h e = refl
 hand-yes s t (Model.ReadEnter g) w merged most a h e = refl
 hand-yes s t (Model.ReadStand g c) w merged most a h e = refl
 hand-yes s t (Model.GetShow r) w merged most a h e = refl
@@ -142,13 +167,14 @@ hand-short s t (Model.ReadStand g c) a = omega arith
 hand-short s t (Model.GetShow r) a = omega arith
 
 -- the times read fit the worker's part
-pub times-short : (s : Store) → Sound s → (t : ℕ) (d : Model.Doing) → PlaceIn s t d → length (timesRead d) ≤ 16
+pub times-short : (s : Store) → Sound s → (t : ℕ) (d : Model.Doing) → PlaceIn s t d → length (timesRead d) ≤ 28
 times-short s S t Model.Idle a = omega arith
 times-short s S t (Model.PutPublish r x) a = omega arith
 times-short s S t (Model.PutStamp r c) a = omega arith
 times-short s S t (Model.PutHandIn r c) a = omega arith
 times-short s S t Model.FlushTake a = omega arith
-times-short s S t (Model.FlushRead m ts) a = omega (arith, a .2, S .bounds .workers .1)
+times-short s S t (Model.FlushRead m ts) a =
+    ⊎-elim (λ u. omega (arith, u, S .bounds .workers .1)) (λ u. omega (arith, u, S .bounds .workers .1)) (a .2)
 times-short s S t (Model.FlushFree m) a = omega arith
 times-short s S t (Model.OnTime y) a = omega arith
 times-short s S t (Model.ReadEnter g) a = omega arith

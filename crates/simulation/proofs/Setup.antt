@@ -51,13 +51,16 @@ command-clock b bytes (suc (suc (suc (suc zero)))) = tt
 command-clock b bytes (suc (suc (suc (suc (suc zero))))) = tt
 command-clock b bytes (suc (suc (suc (suc (suc (suc zero)))))) = tt
 command-clock b bytes (suc (suc (suc (suc (suc (suc (suc zero))))))) = tt
-command-clock b bytes (suc (suc (suc (suc (suc (suc (suc (suc n)))))))) = tt
+command-clock b bytes (suc (suc (suc (suc (suc (suc (suc (suc zero)))))))) = tt
+command-clock b bytes (suc (suc (suc (suc (suc (suc (suc (suc (suc zero))))))))) = tt
+command-clock b bytes (suc (suc (suc (suc (suc (suc (suc (suc (suc (suc zero)))))))))) = tt
+command-clock b bytes (suc (suc (suc (suc (suc (suc (suc (suc (suc (suc (suc n))))))))))) = tt
 
 pub clock-fits : (b : List ℕ) → Bytes b → ClockFits (decode b)
 unfolding decode
 clock-fits b bytes =
     cond-both ClockFits (ltb (length b) 16) _ _ (λ e. tt)
-    (λ e. cond-both ClockFits (ltb 8 (getD b 0 0)) _ _ (λ f. tt)
+    (λ e. cond-both ClockFits (ltb 11 (getD b 0 0)) _ _ (λ f. tt)
     (λ f. cond-both ClockFits (unusedZero b (commandOf b (getD b 0 0))) _ _ (λ g. command-clock b bytes (getD b 0 0)) (λ g. tt)))
 
 ------------------------------------------------------------------------

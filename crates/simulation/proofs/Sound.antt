@@ -4,11 +4,11 @@
 use mathlib.Core.Path.{_≡_, refl, sym, ap, _∙_, subst}
 use mathlib.Core.Logic.{_≢_, _⊎_, inl, inr, ⊎-elim}
 use mathlib.Core.List.{List, [], _∷_, _++_}
-use Prim.Native.Nat.{ℕ, _*_, _≤_, _<_}
+use Prim.Native.Nat.{ℕ, _*_, _≤_, _<_, _+_}
 use native.Mathlib.Omega.{arith}
 use lib.ListN.{length}
 use Rattle.model.specs.Store as Model
-use Rattle.model.specs.Store.{Store, Range, up, absent, lastClock, startWorker, workerAt, slotAt, newestOf}
+use Rattle.model.specs.Store.{markCount, Store, Range, up, absent, lastClock, startWorker, workerAt, slotAt, newestOf}
 use Rattle.model.specs.Batch.{batchOf}
 use Rattle.model.specs.Rules.{Rules, Ruled}
 use Rattle.model.specs.Record.{rowsOf}
@@ -19,7 +19,7 @@ use Rattle.model.specs.Reached.{sumBy, inHand, Bounds}
 use Rattle.model.proofs.Basic.{hit-same, hit-eq, occurrences-head, up-inj, All-at}
 use Rattle.model.proofs.Count.{cnt, sumBy-one}
 use Rattle.model.proofs.Chain.{neighbours}
-use Rattle.model.proofs.Invariant.{ctx, old, chain, inDoing, pendW, pend, Good, PlaceHolds, Inv}
+use Rattle.model.proofs.Invariant.{ctx, old, chain, inDoing, pendW, pend, Good, timeIn, Sourced, PlaceHolds, Inv}
 use Rattle.model.proofs.Apart.{below-in, chain-once, chain-in, free-in, pend-chain}
 use Rattle.model.proofs.Full.{near}
 use Rattle.model.proofs.Setup.{accepts}
@@ -46,6 +46,14 @@ abbrev pub TimeIn : Store → ℕ → Model.TimeStep → Type 0
 TimeIn s t Model.OpenAnnounce = Unit {0}
 TimeIn s t Model.OpenPass = (t ≤ s .clock) × (t < lastClock)
 TimeIn s t Model.CloseWithdraw = Unit {0}
+TimeIn s t (Model.MarkKeep m) = m < markCount
+TimeIn s t (Model.MarkRelease m) = m < markCount
+
+-- the mark as of which a value is read, if any
+abbrev pub MarkIn : Model.Purpose → Type 0
+MarkIn Model.Single = Unit {0}
+MarkIn (Model.Marked m) = m < markCount
+MarkIn (Model.Totaling g i y) = Unit {0}
 
 -- the numbers that a worker's place holds
 abbrev pub PlaceIn : Store → ℕ → Model.Doing → Type 0
@@ -54,11 +62,11 @@ PlaceIn s t (Model.PutPublish r x) = r < s .site .V'
 PlaceIn s t (Model.PutStamp r c) = (r < s .site .V') × (c < s .site .N)
 PlaceIn s t (Model.PutHandIn r c) = (r < s .site .V') × (c < s .site .N) × (slotAt s c .low ≤ lastClock) × (slotAt s c .high ≤ lastClock)
 PlaceIn s t Model.FlushTake = Unit {0}
-PlaceIn s t (Model.FlushRead m ts) = (length m ≤ 256) × All (RangeIn s) m × (length ts ≤ s .site .P)
+PlaceIn s t (Model.FlushRead m ts) = (length m ≤ 256) × All (RangeIn s) m × ((length ts ≤ s .site .P) ⊎ (length ts ≡ s .site .P + markCount))
 PlaceIn s t (Model.FlushFree m) = (length m ≤ 256) × All (RangeIn s) m × All (λ ρ. Apart s (ρ .slot)) m
 PlaceIn s t (Model.OnTime y) = TimeIn s t y
-PlaceIn s t (Model.ReadEnter g) = g .register < s .site .V'
-PlaceIn s t (Model.ReadStand g c) = (g .register < s .site .V') × (c < s .site .N)
+PlaceIn s t (Model.ReadEnter g) = (g .register < s .site .V') × MarkIn (g .purpose)
+PlaceIn s t (Model.ReadStand g c) = (g .register < s .site .V') × (c < s .site .N) × MarkIn (g .purpose)
 PlaceIn s t (Model.GetShow r) = r < s .site .V'
 
 pub record Sound (s : Store) : Type 0 where
@@ -79,6 +87,7 @@ pub record Sound (s : Store) : Type 0 where
   pub pools : (w : ℕ) → w < s .site .P → All (RangeIn s) (workerAt s w .pool)
   pub places : (w : ℕ) → w < s .site .P → PlaceIn s (workerAt s w .announced) (workerAt s w .doing)
   pub queue : All (All (RangeIn s)) (s .queue)
+  pub marks : length (s .marks) ≡ markCount
 
 ------------------------------------------------------------------------
 -- The model's invariant holds of it
@@ -181,6 +190,11 @@ module _ {now : ℕ} {s : Store} {olds : List (List ℕ)} {h : List Call} {o : L
   worker-pends : (w : ℕ) → w < s .site .P → (c : ℕ) → pendW c (workerAt s w) ≤ pend c (s .workers) (s .queue)
   worker-pends w b c = omega (arith, sumBy-one (pendW c) (s .workers) w startWorker (omega (arith, I .workersLength)))
 
+  mark-in : (k t : ℕ) (y : Model.Purpose) → Sourced k t y → MarkIn y
+  mark-in k t Model.Single a = tt
+  mark-in k t (Model.Marked m) a = a .0
+  mark-in k t (Model.Totaling g i y) a = tt
+
   place-in : (w t : ℕ) (d : Model.Doing) → PlaceHolds (ctx s olds) p w t d → inHand (about d .hand) ≤ 256
       → ((c : ℕ) → 0 < inDoing c d → 0 < pend c (s .workers) (s .queue)) → PlaceIn s t d
   place-in w t Model.Idle a n f = tt
@@ -193,15 +207,21 @@ module _ {now : ℕ} {s : Store} {olds : List (List ℕ)} {h : List Call} {o : L
     omega (arith, a .3, I .clockFits),
   )
   place-in w t Model.FlushTake a n f = tt
-  place-in w t (Model.FlushRead m ts) a n f = (n, ranges-in m f (a .1), a .2)
+  place-in w t (Model.FlushRead m ts) a n f = (n, ranges-in m f (a .1), ⊎-elim (λ u. inl (omega (arith, u))) inr (a .2))
   place-in w t (Model.FlushFree m) a n f = (n, ranges-in m f (a .1), apart-all m f)
   place-in w t (Model.OnTime Model.OpenAnnounce) a n f = tt
   place-in w t (Model.OnTime Model.OpenPass) a n f = a
   place-in w t (Model.OnTime Model.CloseWithdraw) a n f = tt
-  place-in w t (Model.ReadEnter g) a n f = a .0
+  place-in w t (Model.OnTime (Model.MarkKeep m)) a n f = a .0
+  place-in w t (Model.OnTime (Model.MarkRelease m)) a n f = a .0
+  place-in w t (Model.ReadEnter g) a n f = (a .0, mark-in (s .clock) t (g .purpose) (a .1))
   place-in w t (Model.ReadStand g c) a n f =
       let r = g .register in
-      (a .0, in-chain r (a .0) c (stands-in (s .slots) t c (a .2 .0 r) (chain (ctx s olds) r) (a .2 .2)))
+      let x = ctx s olds in (
+        a .0,
+        in-chain r (a .0) c (stands-in (s .slots) (timeIn x t (g .purpose)) c (a .2 .1 r) (chain x r) (a .2 .3)),
+        mark-in (s .clock) t (g .purpose) (a .1),
+      )
   place-in w t (Model.GetShow r) a n f = a .0
 
 ------------------------------------------------------------------------
@@ -230,6 +250,7 @@ reached-sound first same s R =
           ))
           (λ c z. omega (arith, z, worker-pends I w b c));
       queue = queue-in I (s .queue) (λ c z. omega (arith, z)) (I .queue);
+      marks = I .marksLength;
     }
   where
     I : Inv (R .now) s (R .olds) (R .calls) (R .order) (R .plain)

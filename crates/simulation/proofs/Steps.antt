@@ -2,6 +2,7 @@
 use mathlib.Core.List.{[], _∷_}
 use Rattle.model.specs.Store as Model
 use Rattle.simulation.proofs.Open.{open-announce-sim, open-pass-sim, close-withdraw-sim}
+use Rattle.simulation.proofs.Marking.{mark-keep-sim, mark-release-sim}
 use Rattle.simulation.proofs.Read.{read-enter-sim, read-stand-sim, get-show-sim}
 use Rattle.simulation.proofs.Put.{put-publish-sim, put-stamp-sim}
 use Rattle.simulation.proofs.Rest.{idle-sim, flush-done-sim}
@@ -23,6 +24,8 @@ steps s m w (Model.FlushFree (ρ ∷ l)) L S Z B laid h e N = freed-sim s m w ρ
 steps s m w (Model.OnTime Model.OpenAnnounce) L S Z B laid h e N = open-announce-sim s m w S Z laid h e
 steps s m w (Model.OnTime Model.OpenPass) L S Z B laid h e N = open-pass-sim s m w S Z laid h e
 steps s m w (Model.OnTime Model.CloseWithdraw) L S Z B laid h e N = close-withdraw-sim s m w S Z laid h e
+steps s m w (Model.OnTime (Model.MarkKeep i)) L S Z B laid h e N = mark-keep-sim s m w S Z laid h i e
+steps s m w (Model.OnTime (Model.MarkRelease i)) L S Z B laid h e N = mark-release-sim s m w S Z laid h i e
 steps s m w (Model.ReadEnter g) L S Z B laid h e N = read-enter-sim s m w S Z laid h g e
 steps s m w (Model.ReadStand g c) L S Z B laid h e N = read-stand-sim s m w g c S Z laid h e N
 steps s m w (Model.GetShow r) L S Z B laid h e N = get-show-sim s m w S Z laid h r e

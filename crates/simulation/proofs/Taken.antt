@@ -16,15 +16,15 @@ use Rattle.slots.specs.Slots.{slotRep}
 use Rattle.worker.specs.declared.Worker.{Worker}
 use Rattle.worker.specs.Rep.{doingRep, announcedRep, poolRep, timesRead, workerRep}
 use Rattle.state.specs.declared.Hub.{Hub}
-use Rattle.state.specs.State.{withWorkerIn, withClockIn, withFreeIn}
+use Rattle.state.specs.State.{withWorkerIn, withClockIn, withFreeIn, withReadingIn}
 use Rattle.step.specs.declared.Next.the-variants.{Taken}
 use Rattle.announcing.specs.Announcing.{outcomeOf}
 use Rattle.simulation.specs.Memory.{Memory, hubRep, inHandWords, write}
 use Rattle.simulation.specs.Left.{Sized}
-use Rattle.simulation.specs.Shell.{takenIn, nextIn, finishIn, stepAtIn, goIn}
+use Rattle.simulation.specs.Shell.{readAfter, takenIn, nextIn, finishIn, stepAtIn, goIn}
 use Rattle.simulation.proofs.Sound.{Sound}
 use Rattle.simulation.proofs.Simulates.{Simulates, recordAt, simulated}
-use Rattle.simulation.proofs.Laid.{write-kept, memory-path, hub-is, queue-is, lens-is, worker-put, list-kept}
+use Rattle.simulation.proofs.Laid.{write-kept, memory-path, hub-is, queue-is, lens-is, worker-taken, list-kept}
 
 -- the store with worker w's record, the clock, the slots, the newest versions and the free slots replaced
 abbrev pub after : Store → ℕ → Model.Worker → ℕ → List Model.Slot → List ℕ → List ℕ → Store
@@ -52,7 +52,8 @@ module _ (s : Store) (m : Memory) (w : ℕ) (d : Model.Doing) (S : Sound s) (Z :
   unfolding goIn nextIn takenIn
   taken-sim x k l newest free y T =
       let X : Worker = recordAt s w d in
-      let left : Hub → Worker → Hub = λ h z. withFreeIn (withClockIn (withWorkerIn h w z) k) (length free) in
+      let left : Hub → Worker → Hub = λ h z.
+      withFreeIn (withClockIn (withReadingIn (withWorkerIn h w z) (readAfter h w X (doingRep (x .doing)))) k) (length free) in
       let Y : Worker = record { doing = doingRep (x .doing); announced = announcedRep (x .announced); pool = X .pool } in
       let record-is : Y ≡ workerRep x = λ i. record {
         doing = doingRep (x .doing);
@@ -63,7 +64,7 @@ module _ (s : Store) (m : Memory) (w : ℕ) (d : Model.Doing) (S : Sound s) (Z :
       (memory-path
       (ap (λ (h : Hub). left h Y) (hub-is s m laid)
       ∙ ap (left (hubRep s (m .hub))) record-is
-      ∙ ap (λ (h : Hub). withFreeIn (withClockIn h k) (length free)) (worker-put s S w wb m Z laid d x [] e (T .times)))
+      ∙ ap (λ (h : Hub). withFreeIn (withClockIn h k) (length free)) (worker-taken s S w wb m Z laid d x [] e (T .times)))
       refl refl (T .freeKept) (queue-is s m laid) (lens-is s m laid)
       (list-kept s S w wb m Z laid d x [] e (T .words))
       ∙ write-kept s (after s w x k l newest free) m (omega arith))

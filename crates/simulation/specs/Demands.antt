@@ -12,7 +12,8 @@ use Rattle.model.specs.Rules.{document01, inForce, Ruled, allUnder}
 use Rattle.model.specs.Answer.{Ok}
 use Rattle.model.specs.Record.{Sizes, SetUp, Asks, decode, recordsOf}
 use Rattle.model.specs.Apply.{apply, applyRuled, answersTo}
-use Rattle.model.specs.Demand.{events, Exchange, exchange, Demand3, rowsIn}
+use Rattle.model.specs.Demand.{events, Exchange, exchange, history, Demand3, rowsIn}
+use Rattle.model.specs.MonthEnd.{SameFigures}
 use Rattle.values.specs.declared.Answer.{Answer}
 use Rattle.slots.specs.Slots.{slotOf}
 use Rattle.queue.specs.State.{Begins}
@@ -131,6 +132,10 @@ pub record Demands : Type 0 where
   -- Demand 3 of the records that left the memory, under whatever rules, and of the calls after them.
   pub demand3Left : (s : Store) (m : Memory) (cs : List CallIn) (L : Left s m) → Calls m cs
       → CodeDemand3 (applyRuled (blank (L .store .row)) (L .store .setup) .hub) (L .store .records) (exchanges cs)
+  -- What billing may rely on (H13.10), wherever demand 3 holds of what was sent and answered: two marked reads of one register and one mark,
+  -- between which the mark was not released, have the same answer.
+  pub monthEnd : (h : Hub) (old : List Ruled) (es : List Exchange) → CodeDemand3 h old es
+      → SameFigures (history 0 (map exchange (events h old) ++ es) [])
   -- Memory that records left before the first change request (H7.10).
   pub earlier : (list : List ℕ) (s : Store) (m : Memory) (E : LeftUnder (document01 list) s) (cs : List CallIn) → Begins (m .hub .window) → m ≡ write s m → Calls m cs
       → OnEarlier list s m E cs

@@ -42,7 +42,9 @@ pub record Left (s : Store) (m : Memory) : Type 0 where
 -- the arrays have the lengths that their types give
 pub record Sized (m : Memory) : Type 0 where
   pub workers : length (m .hub .workers) ≡ 16
-  pub times : length (m .hub .times) ≡ 256
+  pub times : length (m .hub .times) ≡ 448
+  pub marks : length (m .hub .marks) ≡ 12
+  pub reading : length (m .hub .reading) ≡ 16
   pub rows : length (m .hub .rows) ≡ 1024
   pub newest : length (m .newest) ≡ 256
   pub free : length (m .free) ≡ 2048

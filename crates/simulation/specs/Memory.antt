@@ -6,7 +6,8 @@ use Rattle.lists.specs.Over.{over, overAt}
 use Rattle.model.specs.About.{Hand, Empty, Covered, Merged, Needless, about}
 use Rattle.model.specs.Store as Model
 use Rattle.model.specs.Store.{Store, startWorker}
-use Rattle.worker.specs.Rep.{timesRead, workerRep}
+use Rattle.worker.specs.Rep.{timesRead, doingRep, workerRep}
+use Rattle.marks.specs.Marks.{readBy}
 use Rattle.ranges.specs.Words.{flat}
 use Rattle.queue.specs.Rep.{joinedRanges, windowAt, windowAfter}
 use Rattle.slots.specs.declared.Slot.{Slot}
@@ -64,9 +65,17 @@ unfoldable pub partsOver : ℕ → (Model.Worker → List ℕ) → List Model.Wo
 partsOver n f [] d = d
 partsOver n f (x ∷ l) d = over (f x) (take n d) ++ partsOver n f l (drop n d)
 
--- the times that each worker's flush has read, sixteen entries a worker
+-- the times that each worker's flush has read, 28 entries a worker
 abbrev pub timesOver : List Model.Worker → List ℕ → List ℕ
-timesOver ws d = partsOver 16 (λ x. timesRead (x .doing)) ws d
+timesOver ws d = partsOver 28 (λ x. timesRead (x .doing)) ws d
+
+-- what stands for a worker among what is read of marks
+abbrev pub readOf : Model.Worker → ℕ
+readOf x = readBy (doingRep (x .doing))
+
+-- which mark each worker reads, plus one
+abbrev pub readsOver : List Model.Worker → List ℕ
+readsOver ws = over (map readOf ws) (replicate 16 0)
 
 -- the hub by value with a store written over it: the queue's window begins where it did
 abbrev pub hubRep : Store → Hub → Hub
@@ -81,6 +90,8 @@ hubRep s h =
       listed = length (s .site .rows);
       rows = over (s .site .rows) (h .rows);
       times = timesOver (s .workers) (h .times);
+      marks = s .marks;
+      reading = readsOver (s .workers);
       workers = over (map workerRep (s .workers)) (replicate 16 (workerRep startWorker));
     }
 

@@ -5,12 +5,12 @@ use mathlib.Core.Bool.{true}
 use mathlib.Core.Logic.{_⊎_, _↔_}
 use Prim.Native.Nat.{ℕ, _+_, _*_, _-_, _≤_, _<_}
 use lib.ListN.{length, getD}
-use Rattle.model.specs.Store.{absent}
+use Rattle.model.specs.Store.{absent, markCount}
 use Rattle.model.specs.Batch.{batchOf}
 use Rattle.model.specs.Totals.{registerOf, rowAt}
 use Rattle.model.specs.Rules.{twelveDigits}
 use Rattle.worker.specs.declared.Purpose.{Purpose}
-use Rattle.worker.specs.declared.Purpose.the-variants.{Single, Totaling}
+use Rattle.worker.specs.declared.Purpose.the-variants.{Single, Marked, Totaling}
 use Rattle.worker.specs.declared.Facts.{Facts}
 use Rattle.worker.specs.declared.Named.the-variants.{Is}
 use Rattle.worker.specs.declared.Worker.{Worker}
@@ -39,25 +39,32 @@ Neighbour h o = (o ≡ absent) ⊎ (o < h .n)
 abbrev pub lengthIn : Memory → ℕ → ℕ
 lengthIn m i = getD (m .lens) (m .hub .window .first + i) 0
 
+-- so many times were read: at most one of each worker, or those and all marks' (H8.18)
+abbrev pub TimesRead : Hub → ℕ → Type 0
+TimesRead h j = (j ≤ h .p) ⊎ (j ≡ h .p + markCount)
+
 -- what a value is read for: a total's row is one of those listed, and each of its sums is of at most 31 values of twelve digits (H8.24)
 abbrev pub PurposeInRange : Hub → Purpose → Type 0
 PurposeInRange h Single = Unit {0}
+PurposeInRange h (Marked m) = Unit {0}
 PurposeInRange h (Totaling g i plus minus) = (i < h .listed) × (plus ≤ 31 * twelveDigits) × (minus ≤ 31 * twelveDigits)
 
--- what worker w's place names: a register, a slot, a list in hand of so many ranges, a count of times read, a total
+-- what worker w's place names: a register, a slot, a list in hand of so many ranges, a count of times read, a total, a mark
 pub record PlaceInRange (m : Memory) (w : ℕ) (y : Facts) : Type 0 where
   -- its register is one of the V (H8.18)
   pub register : (r : ℕ) → y .register ≡ Is r → r < m .hub .v
   -- its slot is one of the N (H8.17)
   pub slot : (c : ℕ) → y .slot ≡ Is c → c < m .hub .n
-  -- it has read at most P times (H8.18)
-  pub read : y .read ≤ m .hub .p
+  -- it has read so many times (H8.18)
+  pub read : TimesRead (m .hub) (y .read)
   -- its list in hand has at most 4B ranges (H8.16)
   pub list : (k : ℕ) → y .ranges ≡ Is k → FewRanges (m .hub) k (4 * batchIn (m .hub))
   -- their slots are below N (H8.17); worker w's list starts at range 256 w, and a range has three words, the slot first
   pub listSlots : (k : ℕ) → y .ranges ≡ Is k → (j : ℕ) → j < k → getD (m .merged) (3 * (256 * w + j)) 0 < m .hub .n
   -- and what it reads for (H8.24)
   pub purpose : PurposeInRange (m .hub) (y .purpose)
+  -- its mark is one of the twelve (H8.25)
+  pub mark : (i : ℕ) → y .mark ≡ Is i → i < markCount
 
 -- worker w's record
 pub record WorkerInRange (m : Memory) (w : ℕ) (x : Worker) : Type 0 where

@@ -2,29 +2,30 @@
 -- The steps of one place are in step/specs/Step.antt and flush/specs/Flush.antt; here is what each writes where.
 use mathlib.Core.Bool.{Bool}
 use mathlib.Core.List.{List, [], map}
-use Prim.Native.Nat.{ℕ, _+_, _-_, _/_, _%_}
-use lib.ListN.{length, set, take, replicate}
-use Rattle.lists.specs.Over.{over}
+use Prim.Native.Nat.{ℕ, _+_, _*_, _-_, _/_, _%_}
+use lib.ListN.{length, getD, set, take, replicate}
+use Rattle.lists.specs.Over.{over, overAt}
 use Rattle.model.specs.Record.{rowsOf}
 use Rattle.values.specs.declared.Answer.{Answer}
-use Rattle.values.specs.declared.Answer.the-variants.{Ok, Going, Freed, No}
+use Rattle.values.specs.declared.Answer.the-variants.{Ok, Going, Freed, Done, No}
 use Rattle.slots.specs.declared.Slot.{Slot}
 use Rattle.slots.specs.Slots.{madeTo}
 use Rattle.ranges.specs.Words.{flat}
 use Rattle.queue.specs.State.{Queue, taken, rest}
 use Rattle.worker.specs.declared.Doing.{Doing}
-use Rattle.worker.specs.declared.Doing.the-variants.{FlushRead, FlushFree}
+use Rattle.worker.specs.declared.Doing.the-variants.{Idle, FlushRead, FlushFree}
 use Rattle.worker.specs.declared.Worker.{Worker}
 use Rattle.worker.specs.Rep.{poolRep}
+use Rattle.marks.specs.Marks.{readNext}
 use Rattle.state.specs.declared.Hub.{Hub}
-use Rattle.state.specs.State.{freshHub, workerIn, atPlace, withWorkersIn, withWorkerIn, withClockIn, withFreeIn, withWindowIn, withTimesIn}
+use Rattle.state.specs.State.{freshHub, workerIn, atPlace, withWorkersIn, withWorkerIn, withClockIn, withFreeIn, withWindowIn, withTimesIn, withMarksIn, withReadingIn}
 use Rattle.arrays.specs.Arrays.{short, fillTo}
 use Rattle.gate.specs.declared.Gate.{Gate}
 use Rattle.gate.specs.declared.Gate.the-variants.{Refuse, Make, Start, Go}
 use Rattle.gate.specs.Gate.{decodedIn, gateOf, whoOf}
 use Rattle.announcing.specs.declared.Outcome.{Outcome}
 use Rattle.step.specs.declared.Next.{Next}
-use Rattle.step.specs.declared.Next.the-variants.{Taken, HandIn, Take, Read, Split, Free}
+use Rattle.step.specs.declared.Next.the-variants.{Taken, HandIn, Take, Read, ReadMarks, Split, Free, Mark}
 use Rattle.step.specs.Step.{Stepped, stepOf}
 use Rattle.flush.specs.Flush.{putHandInStep, partOf, withPart, flushReadStep}
 use Rattle.splitting.specs.Splitting.{splitLeft, splitQueue, splitMerged}
@@ -62,17 +63,26 @@ answered m y = record { memory = m; answer = y }
 abbrev pub rowsKept : Hub → List ℕ
 rowsKept h = take (h .listed) (h .rows)
 
+-- which mark each of the P workers reads, plus one
+abbrev pub marksRead : Hub → List ℕ
+marksRead h = take (h .p) (h .reading)
+
 abbrev pub queueIn : Memory → Queue
 queueIn m = record { queue = m .queue; lens = m .lens; window = m .hub .window }
 
 ------------------------------------------------------------------------
 -- A step of worker w, whose record is x
 
--- put (1) and (2), open, read, get, close, flush (5)
+-- what stands for the worker among what is read of marks, after its step to the place d
+abbrev pub readAfter : Hub → ℕ → Worker → Doing → List ℕ
+readAfter h w x d = set (h .reading) w (readNext (x .doing) d (getD (h .reading) w 0))
+
+-- put (1) and (2), open, read, get, close, flush (5), and a mark or release that is refused
 unfoldable pub takenIn : Memory → ℕ → Worker → Outcome → Result
 takenIn m w x o =
     let y : Worker = record { doing = o .doing; announced = o .announced; pool = x .pool } in
-    answered (withHub m (withFreeIn (withClockIn (withWorkerIn (m .hub) w y) (o .clock)) (o .free))) (o .answer)
+    let h = withReadingIn (withWorkerIn (m .hub) w y) (readAfter (m .hub) w x (o .doing)) in
+    answered (withHub m (withFreeIn (withClockIn h (o .clock)) (o .free))) (o .answer)
 
 -- put (3), of the covered version in slot c
 unfoldable pub handedIn : Memory → ℕ → Worker → ℕ → Result
@@ -107,13 +117,24 @@ readIn m w x n j =
     let times = flushReadStep (m .hub .times) w j (workerIn (m .hub) (j % 16) .announced) in
     answered (withHub m (withTimesIn (withWorkerIn (m .hub) w y) times)) Going
 
--- flush (3), of a merged list of n ranges
-unfoldable pub splitIn : Memory → ℕ → Worker → ℕ → Result
-splitIn m w x n =
-    let q = splitQueue (queueIn m) (m .merged) w n (m .hub .times) (m .hub .p) (x .pool) in
+-- flush (2), behind the last worker: all marks are read
+unfoldable pub allReadIn : Memory → ℕ → Worker → ℕ → Result
+allReadIn m w x n =
+    let y : Worker = record { doing = FlushRead n ((m .hub .p + 12) % 256); announced = x .announced; pool = x .pool } in
+    let times = overAt (28 * w + m .hub .p) (m .hub .marks) (m .hub .times) in
+    answered (withHub m (withTimesIn (withWorkerIn (m .hub) w y) times)) Going
+
+-- mark and release: mark i holds the time t, or none
+unfoldable pub markedIn : Memory → ℕ → Worker → ℕ → ℕ → Result
+markedIn m w x i t = answered (withHub m (withMarksIn (withWorkerIn (m .hub) w (atPlace x Idle)) (set (m .hub .marks) (i % 12) t))) Done
+
+-- flush (3), of a merged list of n ranges with j times read
+unfoldable pub splitIn : Memory → ℕ → Worker → ℕ → ℕ → Result
+splitIn m w x n j =
+    let q = splitQueue (queueIn m) (m .merged) w n (m .hub .times) j (m .hub .p) (x .pool) in
     let y : Worker =
     record {
-      doing = FlushFree (splitLeft (m .merged) w n (m .hub .times) (m .hub .p) (x .pool));
+      doing = FlushFree (splitLeft (m .merged) w n (m .hub .times) j (x .pool));
       announced = x .announced;
       pool = poolRep [];
     } in
@@ -126,7 +147,7 @@ splitIn m w x n =
             free = m .free;
             queue = q .queue;
             lens = q .lens;
-            merged = splitMerged (m .merged) w n (m .hub .times) (m .hub .p) (x .pool);
+            merged = splitMerged (m .merged) w n (m .hub .times) j (x .pool);
           };
       answer = Going;
     }
@@ -161,8 +182,10 @@ nextIn m w x (Taken o) = takenIn m w x o
 nextIn m w x (HandIn c) = handedIn m w x c
 nextIn m w x Take = tookIn m w x
 nextIn m w x (Read n j) = readIn m w x n j
-nextIn m w x (Split n) = splitIn m w x n
+nextIn m w x (ReadMarks n) = allReadIn m w x n
+nextIn m w x (Split n j) = splitIn m w x n j
 nextIn m w x (Free n) = freedIn m w x n
+nextIn m w x (Mark i t) = markedIn m w x i t
 
 -- on the row and the newest versions as the first part of the step left them
 abbrev pub finishIn : Memory → ℕ → Worker → Stepped → Result
@@ -171,7 +194,8 @@ finishIn m w x s = nextIn (withRow m (s .row) (s .newest)) w x (s .next)
 -- the step at the place d of a worker with the record x
 abbrev pub stepAtIn : Memory → Worker → Doing → Stepped
 stepAtIn m x d =
-    stepOf d (x .announced) (m .hub .clock) (m .hub .free) (m .hub .p) (m .slots) (m .newest) (m .free) (rowsKept (m .hub))
+    stepOf d (x .announced) (m .hub .clock) (m .hub .free) (m .hub .p) (m .slots) (m .newest) (m .free) (rowsKept (m .hub)) (m .hub .marks)
+    (marksRead (m .hub))
 
 unfoldable pub goIn : Memory → ℕ → Worker → Doing → Result
 goIn m w x d = finishIn m w x (stepAtIn m x d)
@@ -204,6 +228,7 @@ abbrev pub gateIn : Bool → Memory → List ℕ → List ℕ → Gate
 gateIn up m list b =
     let x = workerIn (m .hub) (whoOf (decodedIn b)) in
     gateOf (decodedIn b) up (m .hub .p) (m .hub .v) (length (m .slots)) (x .doing) (x .announced) list (rowsKept (m .hub))
+    (m .hub .marks) (marksRead (m .hub))
 
 unfoldable pub doneAs : Bool → Memory → List ℕ → List ℕ → Result
 doneAs up m list b = obeyIn m list (gateIn up m list b)

@@ -27,12 +27,12 @@ use Rattle.splitting.proofs.RequeueLaws.{requeued-pad, joined-pad}
 ------------------------------------------------------------------------
 -- The counts
 
-pub split-facts : (w m p l : ℕ) → mayCut w m p l ≡ true → (w < 16) × (m ≤ 256) × (p ≤ 16) × (l ≤ 64)
-split-facts w m p l e =
-    let a = and-both (ltb w 16 && leb m 256) (leb p 16 && leb l 64) e in
+pub split-facts : (w m t l : ℕ) → mayCut w m t l ≡ true → (w < 16) × (m ≤ 256) × (t ≤ 28) × (l ≤ 64)
+split-facts w m t l e =
+    let a = and-both (ltb w 16 && leb m 256) (leb t 28 && leb l 64) e in
     let b = and-both (ltb w 16) (leb m 256) (a .0) in
-    let c = and-both (leb p 16) (leb l 64) (a .1) in
-    (ltb-true w 16 (b .0), leb-true m 256 (b .1), leb-true p 16 (c .0), leb-true l 64 (c .1))
+    let c = and-both (leb t 28) (leb l 64) (a .1) in
+    (ltb-true w 16 (b .0), leb-true m 256 (b .1), leb-true t 28 (c .0), leb-true l 64 (c .1))
 
 -- the needed and the needless ranges are all ranges
 parts : (p : Range → Bool) (l : List Range) → length (filter p l) + length (filter (λ ρ. not (p ρ)) l) ≡ length l
@@ -55,26 +55,26 @@ needed-long ts s n k e =
 ------------------------------------------------------------------------
 -- What it answers and leaves
 
-module _ (q : Queue) (merged times needed₀ local₀ joined₀ : List ℕ) (w m p : ℕ) (pool : Pool) where
+module _ (q : Queue) (merged times needed₀ local₀ joined₀ : List ℕ) (w m t p : ℕ) (pool : Pool) where
   -- how many ranges are left to free, the queue, the merged lists, and the space for the needed ranges, the local pool and the joined list
   abbrev pub Split : ℕ → Queue → List ℕ → List ℕ → List ℕ → List ℕ → Type 0
   Split left q′ merged′ needed′ local′ joined′ =
-      (left ≡ splitLeft merged w m times p pool)
-      × ((q′ ≡ splitQueue q merged w m times p pool)
-      × ((merged′ ≡ splitMerged merged w m times p pool)
-      × ((needed′ ≡ splitNeeded merged w m times p pool needed₀)
-      × ((local′ ≡ splitLocal w m p pool local₀)
-      × (joined′ ≡ splitJoined merged w m times p pool joined₀)))))
+      (left ≡ splitLeft merged w m times t pool)
+      × ((q′ ≡ splitQueue q merged w m times t p pool)
+      × ((merged′ ≡ splitMerged merged w m times t pool)
+      × ((needed′ ≡ splitNeeded merged w m times t pool needed₀)
+      × ((local′ ≡ splitLocal w m t pool local₀)
+      × (joined′ ≡ splitJoined merged w m times t p pool joined₀)))))
 
   -- the counts allow none
-  pub split-none : mayCut w m p (pool .len) ≡ false → Split 0 q merged needed₀ local₀ joined₀
+  pub split-none : mayCut w m t (pool .len) ≡ false → Split 0 q merged needed₀ local₀ joined₀
   unfolding splitLeft splitQueue splitMerged splitNeeded splitLocal splitJoined
   split-none n = rw n (refl, (refl, (refl, (refl, (refl, refl)))))
 
-  pub split-some : (k size : ℕ) (q′ : Queue) (merged′ needed′ local′ joined′ : List ℕ) → mayCut w m p (pool .len) ≡ true
-      → k ≡ length (needlessBy merged w m times p)
-      → merged′ ≡ withPart merged w (over (flat (reverse (needlessBy merged w m times p))) (partOf merged w))
-      → needed′ ≡ over (flat (neededBy merged w m times p)) needed₀
+  pub split-some : (k size : ℕ) (q′ : Queue) (merged′ needed′ local′ joined′ : List ℕ) → mayCut w m t (pool .len) ≡ true
+      → k ≡ length (needlessBy merged w m times t)
+      → merged′ ≡ withPart merged w (over (flat (reverse (needlessBy merged w m times t))) (partOf merged w))
+      → needed′ ≡ over (flat (neededBy merged w m times t)) needed₀
       → size ≡ batchOf (p % 256)
       → q′ ≡ requeued q pool needed′ (m - k) size
       → local′ ≡ over (flat (rangesIn pool)) local₀
@@ -82,9 +82,9 @@ module _ (q : Queue) (merged times needed₀ local₀ joined₀ : List ℕ) (w m
       → Split (short k) q′ merged′ needed′ local′ joined′
   unfolding splitLeft splitQueue splitMerged splitNeeded splitLocal splitJoined
   split-some k size q′ merged′ needed′ local′ joined′ y ek em en es eq el ej =
-      let words : List ℕ = flat (neededBy merged w m times p) in
+      let words : List ℕ = flat (neededBy merged w m times t) in
       let zeros : List ℕ = replicate 768 0 in
-      let h : 3 * (m - k) ≤ length words = needed-long (take p (timesOf times w)) (partOf merged w) m k ek in
+      let h : 3 * (m - k) ≤ length words = needed-long (take t (timesOf times w)) (partOf merged w) m k ek in
       let queued : q′ ≡ requeued q pool (over words zeros) (m - k) size =
       eq ∙ ap (λ (l : List ℕ). requeued q pool l (m - k) size) en ∙ requeued-pad q pool words needed₀ zeros (m - k) size h in
       let joined : joined′ ≡ joinedAfter pool (over words zeros) (m - k) size joined₀ =

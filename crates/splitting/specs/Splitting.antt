@@ -37,49 +37,49 @@ joinedAfter pool words stay size d =
 
 -- what is needed for a split: a worker, a merged list, times and a local pool within their sizes. Memory that records left has them.
 abbrev pub mayCut : ℕ → ℕ → ℕ → ℕ → Bool
-mayCut w m p len = ltb w 16 && leb m 256 && (leb p 16 && leb len 64)
+mayCut w m t len = ltb w 16 && leb m 256 && (leb t 28 && leb len 64)
 
 abbrev pub maySplit : ℕ → ℕ → ℕ → Pool → Bool
-maySplit w m p pool = mayCut w m p (pool .len)
+maySplit w m t pool = mayCut w m t (pool .len)
 
--- the two lists into which worker w's first m ranges are split by the first p of its times
+-- the two lists into which worker w's first m ranges are split by the first t of its times
 abbrev pub needlessBy : List ℕ → ℕ → ℕ → List ℕ → ℕ → List Range
-needlessBy merged w m times p = needlessOf (take p (timesOf times w)) (rangesAt (partOf merged w) 0 m)
+needlessBy merged w m times t = needlessOf (take t (timesOf times w)) (rangesAt (partOf merged w) 0 m)
 
 abbrev pub neededBy : List ℕ → ℕ → ℕ → List ℕ → ℕ → List Range
-neededBy merged w m times p = neededOf (take p (timesOf times w)) (rangesAt (partOf merged w) 0 m)
+neededBy merged w m times t = neededOf (take t (timesOf times w)) (rangesAt (partOf merged w) 0 m)
 
 -- how many are needless
 abbrev pub needlessCount : List ℕ → ℕ → ℕ → List ℕ → ℕ → ℕ
-needlessCount merged w m times p = length (needlessBy merged w m times p)
+needlessCount merged w m times t = length (needlessBy merged w m times t)
 
 -- the needed ranges as words
 abbrev pub neededWords : List ℕ → ℕ → ℕ → List ℕ → ℕ → List ℕ
-neededWords merged w m times p = over (flat (neededBy merged w m times p)) (replicate 768 0)
+neededWords merged w m times t = over (flat (neededBy merged w m times t)) (replicate 768 0)
 
 -- how many are left to free, the queue and the merged lists after it: the needless ranges stay in the worker's part, the one that is freed
--- first last
+-- first last. The batch size is that of p workers.
 unfoldable pub splitLeft : List ℕ → ℕ → ℕ → List ℕ → ℕ → Pool → ℕ
-splitLeft merged w m times p pool = cond (maySplit w m p pool) (short (needlessCount merged w m times p)) 0
+splitLeft merged w m times t pool = cond (maySplit w m t pool) (short (needlessCount merged w m times t)) 0
 
-unfoldable pub splitQueue : Queue → List ℕ → ℕ → ℕ → List ℕ → ℕ → Pool → Queue
-splitQueue q merged w m times p pool =
-    cond (maySplit w m p pool)
-    (requeued q pool (neededWords merged w m times p) (m - needlessCount merged w m times p) (batchOf (p % 256))) q
+unfoldable pub splitQueue : Queue → List ℕ → ℕ → ℕ → List ℕ → ℕ → ℕ → Pool → Queue
+splitQueue q merged w m times t p pool =
+    cond (maySplit w m t pool)
+    (requeued q pool (neededWords merged w m times t) (m - needlessCount merged w m times t) (batchOf (p % 256))) q
 
 unfoldable pub splitMerged : List ℕ → ℕ → ℕ → List ℕ → ℕ → Pool → List ℕ
-splitMerged merged w m times p pool =
-    cond (maySplit w m p pool)
-    (withPart merged w (over (flat (reverse (needlessBy merged w m times p))) (partOf merged w))) merged
+splitMerged merged w m times t pool =
+    cond (maySplit w m t pool)
+    (withPart merged w (over (flat (reverse (needlessBy merged w m times t))) (partOf merged w))) merged
 
 -- what is left in the space that it works in
 unfoldable pub splitNeeded : List ℕ → ℕ → ℕ → List ℕ → ℕ → Pool → List ℕ → List ℕ
-splitNeeded merged w m times p pool d = cond (maySplit w m p pool) (over (flat (neededBy merged w m times p)) d) d
+splitNeeded merged w m times t pool d = cond (maySplit w m t pool) (over (flat (neededBy merged w m times t)) d) d
 
 unfoldable pub splitLocal : ℕ → ℕ → ℕ → Pool → List ℕ → List ℕ
-splitLocal w m p pool d = cond (maySplit w m p pool) (over (flat (rangesIn pool)) d) d
+splitLocal w m t pool d = cond (maySplit w m t pool) (over (flat (rangesIn pool)) d) d
 
-unfoldable pub splitJoined : List ℕ → ℕ → ℕ → List ℕ → ℕ → Pool → List ℕ → List ℕ
-splitJoined merged w m times p pool d =
-    cond (maySplit w m p pool)
-    (joinedAfter pool (neededWords merged w m times p) (m - needlessCount merged w m times p) (batchOf (p % 256)) d) d
+unfoldable pub splitJoined : List ℕ → ℕ → ℕ → List ℕ → ℕ → ℕ → Pool → List ℕ → List ℕ
+splitJoined merged w m times t p pool d =
+    cond (maySplit w m t pool)
+    (joinedAfter pool (neededWords merged w m times t) (m - needlessCount merged w m times t) (batchOf (p % 256)) d) d

@@ -75,33 +75,33 @@ fn requeue(
     queue::push(queue, lens, window, joined, n + stay)
 }
 
-// The first m ranges of worker w's part of the merged lists, split by the first p of its times.
+// The first m ranges of worker w's part of the merged lists, split by the first `read` of its times.
 fn split_part(
     merged: &mut [u32],
     w: usize,
     m: usize,
-    times: &[u64; 256],
-    p: usize,
+    times: &[u64; 448],
+    read: usize,
     needed: &mut [u32; 768],
 ) -> usize
-    requires { ⌜ (w < 16) × (m ≤ 256) × (p ≤ 16) × (length (now merged) ≡ 12288) ⌝ }
-    ensures { λ r. ⌜ r ≡ length (needlessOf (take p (timesOf (now (times .entry)) w)) (rangesAt (partOf (now (merged .entry)) w) 0 m)) ⌝ }
-    ensures { λ _. ⌜ now (merged .exit) ≡ withPart (now (merged .entry)) w (over (flat (reverse (needlessOf (take p (timesOf (now (times .entry)) w)) (rangesAt (partOf (now (merged .entry)) w) 0 m)))) (partOf (now (merged .entry)) w)) ⌝ }
-    ensures { λ _. ⌜ now (needed .exit) ≡ over (flat (neededOf (take p (timesOf (now (times .entry)) w)) (rangesAt (partOf (now (merged .entry)) w) 0 m))) (now (needed .entry)) ⌝ }
+    requires { ⌜ (w < 16) × (m ≤ 256) × (read ≤ 28) × (length (now merged) ≡ 12288) ⌝ }
+    ensures { λ r. ⌜ r ≡ length (needlessOf (take read (timesOf (now (times .entry)) w)) (rangesAt (partOf (now (merged .entry)) w) 0 m)) ⌝ }
+    ensures { λ _. ⌜ now (merged .exit) ≡ withPart (now (merged .entry)) w (over (flat (reverse (needlessOf (take read (timesOf (now (times .entry)) w)) (rangesAt (partOf (now (merged .entry)) w) 0 m)))) (partOf (now (merged .entry)) w)) ⌝ }
+    ensures { λ _. ⌜ now (needed .exit) ≡ over (flat (neededOf (take read (timesOf (now (times .entry)) w)) (rangesAt (partOf (now (merged .entry)) w) 0 m))) (now (needed .entry)) ⌝ }
 {
     let at = 768 * w;
     let e = at + 768;
     let all = &times[..];
-    let from = 16 * w;
-    let to = from + 16;
-    ranges::split(&mut merged[at..e], m, &all[from..to], p, needed)
+    let from = 28 * w;
+    let to = from + 28;
+    ranges::split(&mut merged[at..e], m, &all[from..to], read, needed)
 }
 
 // Whether the counts allow a split.
-fn may_split(w: usize, m: usize, p: usize, len: usize) -> bool
-    ensures { λ r. ⌜ r ≡ mayCut w m p len ⌝ }
+fn may_split(w: usize, m: usize, read: usize, len: usize) -> bool
+    ensures { λ r. ⌜ r ≡ mayCut w m read len ⌝ }
 {
-    ((w < 16) & (m <= 256)) & ((p <= 16) & (len <= 64))
+    ((w < 16) & (m <= 256)) & ((read <= 28) & (len <= 64))
 }
 
 // How many needless ranges are left to free, and the queue's window.
@@ -110,8 +110,8 @@ pub struct Parted {
     pub window: Window,
 }
 
-// Flush (3), of worker w's first m ranges by the first p of its times: the needless ranges stay in its part, the needed ones and the local pool go
-// to the queue. The last three arrays are space to work in; what they hold at entry does not matter.
+// Flush (3), of worker w's first m ranges by the first `read` of its times: the needless ranges stay in its part, the needed ones and the local
+// pool go to the queue, in batches for p workers. The last three arrays are space to work in; what they hold at entry does not matter.
 pub fn flush_split(
     queue: &mut [u32; 12288],
     lens: &mut [u32; 4096],
@@ -119,26 +119,27 @@ pub fn flush_split(
     merged: &mut [u32; 12288],
     w: usize,
     m: u16,
-    times: &[u64; 256],
+    times: &[u64; 448],
+    read: usize,
     p: usize,
     q: Pool,
     needed: &mut [u32; 768],
     local: &mut [u32; 192],
     joined: &mut [u32; 960],
 ) -> Parted
-    ensures { λ r. ⌜ r .left ≡ splitLeft (now (merged .entry)) w m (now (times .entry)) p q ⌝ }
+    ensures { λ r. ⌜ r .left ≡ splitLeft (now (merged .entry)) w m (now (times .entry)) read q ⌝ }
     ensures { λ r. ⌜
         poolsIn (now (queue .exit)) (now (lens .exit)) (r .window)
-        ≡ splitQueue (poolsIn (now (queue .entry)) (now (lens .entry)) window) (now (merged .entry)) w m (now (times .entry)) p q
+        ≡ splitQueue (poolsIn (now (queue .entry)) (now (lens .entry)) window) (now (merged .entry)) w m (now (times .entry)) read p q
         ⌝ }
-    ensures { λ _. ⌜ now (merged .exit) ≡ splitMerged (now (merged .entry)) w m (now (times .entry)) p q ⌝ }
-    ensures { λ _. ⌜ now (needed .exit) ≡ splitNeeded (now (merged .entry)) w m (now (times .entry)) p q (now (needed .entry)) ⌝ }
-    ensures { λ _. ⌜ now (local .exit) ≡ splitLocal w m p q (now (local .entry)) ⌝ }
-    ensures { λ _. ⌜ now (joined .exit) ≡ splitJoined (now (merged .entry)) w m (now (times .entry)) p q (now (joined .entry)) ⌝ }
+    ensures { λ _. ⌜ now (merged .exit) ≡ splitMerged (now (merged .entry)) w m (now (times .entry)) read q ⌝ }
+    ensures { λ _. ⌜ now (needed .exit) ≡ splitNeeded (now (merged .entry)) w m (now (times .entry)) read q (now (needed .entry)) ⌝ }
+    ensures { λ _. ⌜ now (local .exit) ≡ splitLocal w m read q (now (local .entry)) ⌝ }
+    ensures { λ _. ⌜ now (joined .exit) ≡ splitJoined (now (merged .entry)) w m (now (times .entry)) read p q (now (joined .entry)) ⌝ }
 {
     let n = m as usize;
-    if may_split(w, n, p, q.len) {
-        let k = split_part(merged, w, n, times, p, needed);
+    if may_split(w, n, read, q.len) {
+        let k = split_part(merged, w, n, times, read, needed);
         let size = batch::batch((p % 256) as u8);
         let after = requeue(
             queue,

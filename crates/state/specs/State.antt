@@ -2,7 +2,7 @@
 use mathlib.Core.List.{List, []}
 use Prim.Native.Nat.{ℕ, _-_}
 use lib.ListN.{getD, set, replicate}
-use Rattle.model.specs.Store.{startWorker}
+use Rattle.model.specs.Store.{absent, startWorker}
 use Rattle.values.specs.declared.Window.{Window}
 use Rattle.worker.specs.Rep.{workerRep}
 use Rattle.worker.specs.declared.Worker.{Worker}
@@ -28,7 +28,9 @@ freshHub p v n t k rows =
       window = emptyWindow;
       listed = k;
       rows = rows;
-      times = replicate 256 0;
+      times = replicate 448 0;
+      marks = replicate 12 absent;
+      reading = replicate 16 0;
       workers = replicate 16 (workerRep startWorker);
     }
 
@@ -63,6 +65,8 @@ withWorkersIn h l =
       listed = h .listed;
       rows = h .rows;
       times = h .times;
+      marks = h .marks;
+      reading = h .reading;
       workers = l;
     }
 
@@ -82,6 +86,8 @@ withClockIn h k =
       listed = h .listed;
       rows = h .rows;
       times = h .times;
+      marks = h .marks;
+      reading = h .reading;
       workers = h .workers;
     }
 
@@ -97,6 +103,8 @@ withFreeIn h k =
       listed = h .listed;
       rows = h .rows;
       times = h .times;
+      marks = h .marks;
+      reading = h .reading;
       workers = h .workers;
     }
 
@@ -112,6 +120,8 @@ withWindowIn h w =
       listed = h .listed;
       rows = h .rows;
       times = h .times;
+      marks = h .marks;
+      reading = h .reading;
       workers = h .workers;
     }
 
@@ -127,5 +137,41 @@ withTimesIn h ts =
       listed = h .listed;
       rows = h .rows;
       times = ts;
+      marks = h .marks;
+      reading = h .reading;
+      workers = h .workers;
+    }
+
+abbrev pub withMarksIn : Hub → List ℕ → Hub
+withMarksIn h l =
+    record {
+      p = h .p;
+      v = h .v;
+      n = h .n;
+      clock = h .clock;
+      free = h .free;
+      window = h .window;
+      listed = h .listed;
+      rows = h .rows;
+      times = h .times;
+      marks = l;
+      reading = h .reading;
+      workers = h .workers;
+    }
+
+abbrev pub withReadingIn : Hub → List ℕ → Hub
+withReadingIn h l =
+    record {
+      p = h .p;
+      v = h .v;
+      n = h .n;
+      clock = h .clock;
+      free = h .free;
+      window = h .window;
+      listed = h .listed;
+      rows = h .rows;
+      times = h .times;
+      marks = h .marks;
+      reading = l;
       workers = h .workers;
     }

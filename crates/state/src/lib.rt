@@ -5,7 +5,8 @@ use values::Window;
 use worker::Worker;
 
 // P, V and N (H1.1 to H1.3), the clock, how many slots are free, where the queue lies in its memory, how many rows the list of totals has and
-// the rows, and sixteen times for each worker: those that its flush has read stand first among them.
+// the rows; 28 times for each worker, those of sixteen workers and of twelve marks: those that its flush has read stand first among them. H13: the
+// time that each mark holds, 2^32 where it is empty, and for each worker the mark that it reads plus one, 0 where it reads none.
 pub struct Hub {
     pub p: usize,
     pub v: usize,
@@ -15,7 +16,9 @@ pub struct Hub {
     pub window: Window,
     pub listed: usize,
     pub rows: [u32; 1024],
-    pub times: [u64; 256],
+    pub times: [u64; 448],
+    pub marks: [u64; 12],
+    pub reading: [u8; 16],
     pub workers: [Worker; 16],
 }
 
@@ -44,7 +47,9 @@ impl Hub {
             window,
             listed,
             rows,
-            times: [0u64; 256],
+            times: [0u64; 448],
+            marks: [4294967296u64; 12],
+            reading: [0u8; 16],
             workers: [x; 16],
         }
     }

@@ -15,11 +15,12 @@ use Rattle.versions.specs.Versions.{slotAtIn, stampedIn, linkedIn}
 use Rattle.worker.specs.declared.Announced.{Announced}
 use Rattle.worker.specs.declared.Goal.{Goal}
 use Rattle.worker.specs.declared.Doing.the-variants.{Idle, PutStamp, PutHandIn, ReadStand}
-use Rattle.worker.specs.Rep.{timeOf}
+use Rattle.marks.specs.declared.MarkNeed.{MarkNeed}
+use Rattle.marks.specs.Marks.{refusalIn, timeIn}
 use Rattle.announcing.specs.declared.Outcome.{Outcome}
 use Rattle.step.specs.declared.Next.the-variants.{Taken}
 use Rattle.announcing.specs.Announcing.{outcomeOf}
-use Rattle.step.specs.Step.{Stepped, newestAt, nextFree, putPublishStep, putStampStep, readEnterStep, foundOf, readStandStep, getShowStep}
+use Rattle.step.specs.Step.{Stepped, newestAt, nextFree, putPublishStep, putStampStep, stopped, needOf, readEnterStep, foundOf, readStandStep, getShowStep}
 
 abbrev leaves : Outcome → List Slot → List ℕ → Stepped
 leaves o l newest = record { next = Taken o; row = l; newest = newest }
@@ -49,25 +50,32 @@ pub put-passed : {r c : ℕ} {t : Announced} {k n w : ℕ} {v : Slot} {l : List 
 unfolding putStampStep
 put-passed ew ev already eo = rw (eo, ← ew, ← ev, already)
 
--- read (1)
-pub read-entered : (l : List Slot) {g : Goal} {t : Announced} {k n i : ℕ} {l₁ : List Slot} {newest : List ℕ} {o : Outcome}
-    → i ≡ newestAt newest (g .register) → l₁ ≡ stampedIn l i k → o ≡ outcomeOf (ReadStand g (short i)) t k n Going
-    → leaves o l₁ newest ≡ readEnterStep g t k n l newest
+-- read (1), where the mark that it reads is empty and where there is no refusal
+pub read-stopped : (g : Goal) (l : List Slot) (newest marks reading : List ℕ) {t : Announced} {k n j : ℕ} {y : MarkNeed} {o : Outcome}
+    → y ≡ needOf (g .purpose) → j ≡ refusalIn y marks reading → eqb j 0 ≡ false → o ≡ stopped j t k n
+    → leaves o l newest ≡ readEnterStep g t k n l newest marks reading
 unfolding readEnterStep
-read-entered l ei e₁ eo = rw (eo, e₁, ei)
+read-stopped g l newest marks reading ey ej some eo = rw (eo, ← ey, ← ej, some)
 
--- read (2), where the version's low is at most the worker's time and where it is not
-pub read-found : (g : Goal) (t : Announced) (k n : ℕ) (l : List Slot) (rows : List ℕ) {c w time : ℕ} {v : Slot} {o : Outcome} → w ≡ c
-    → v ≡ slotAtIn l w → time ≡ timeOf t → leb (v .low) time ≡ true → o ≡ foundOf (g .purpose) (v .value) t k n rows
-    → o ≡ readStandStep g c t k n l rows
-unfolding readStandStep
-read-found g t k n l rows ew ev et early eo = rw (← ew, ← ev, ← et, early, eo)
+pub read-entered : (l : List Slot) (marks reading : List ℕ) {g : Goal} {t : Announced} {k n i j : ℕ} {y : MarkNeed} {l₁ : List Slot}
+    {newest : List ℕ} {o : Outcome} → y ≡ needOf (g .purpose) → j ≡ refusalIn y marks reading → eqb j 0 ≡ true
+    → i ≡ newestAt newest (g .register) → l₁ ≡ stampedIn l i k → o ≡ outcomeOf (ReadStand g (short i)) t k n Going
+    → leaves o l₁ newest ≡ readEnterStep g t k n l newest marks reading
+unfolding readEnterStep
+read-entered l marks reading ey ej none ei e₁ eo = rw (eo, e₁, ei, ← ey, ← ej, none)
 
-pub read-moved : (l : List Slot) (rows : List ℕ) {g : Goal} {c : ℕ} {t : Announced} {k n w time : ℕ} {v : Slot} {o : Outcome} → w ≡ c
-    → v ≡ slotAtIn l w → time ≡ timeOf t → leb (v .low) time ≡ false → o ≡ outcomeOf (ReadStand g (short (v .older))) t k n Going
-    → o ≡ readStandStep g c t k n l rows
+-- read (2), where the version's low is at most the time and where it is not
+pub read-found : (g : Goal) (t : Announced) (k n : ℕ) (l : List Slot) (rows marks : List ℕ) {c w time : ℕ} {v : Slot} {o : Outcome} → w ≡ c
+    → v ≡ slotAtIn l w → time ≡ timeIn (g .purpose) t marks → leb (v .low) time ≡ true → o ≡ foundOf (g .purpose) (v .value) t k n rows
+    → o ≡ readStandStep g c t k n l rows marks
 unfolding readStandStep
-read-moved l rows ew ev et late eo = rw (← ew, ← ev, ← et, late, eo)
+read-found g t k n l rows marks ew ev et early eo = rw (← ew, ← ev, ← et, early, eo)
+
+pub read-moved : (l : List Slot) (rows marks : List ℕ) {g : Goal} {c : ℕ} {t : Announced} {k n w time : ℕ} {v : Slot} {o : Outcome} → w ≡ c
+    → v ≡ slotAtIn l w → time ≡ timeIn (g .purpose) t marks → leb (v .low) time ≡ false
+    → o ≡ outcomeOf (ReadStand g (short (v .older))) t k n Going → o ≡ readStandStep g c t k n l rows marks
+unfolding readStandStep
+read-moved l rows marks ew ev et late eo = rw (← ew, ← ev, ← et, late, eo)
 
 -- get
 pub got : (r : ℕ) (l : List Slot) {t : Announced} {k n i : ℕ} {v : Slot} {l₁ : List Slot} {newest : List ℕ} {o : Outcome}

@@ -1,6 +1,7 @@
 -- The steps that are done at once: put (1) and (2), read, total, get and flush (5); open and close are in announcing/specs/Announcing.antt. Each is
 -- the model's step of the same name (model/specs/Steps.antt) in this code's types, on the parts of memory that it uses. The other steps of a
--- flush and put (3) also move pools and times; here they are only named (`Next`), and flush/specs/Flush.antt has what they do.
+-- flush and put (3) also move pools and times, and a mark or a release the time of a mark; here they are only named (`Next`), and
+-- flush/specs/Flush.antt has what the first ones do.
 use mathlib.Core.Bool.{cond}
 use mathlib.Core.List.{List}
 use Prim.Native.Nat.{ℕ, _+_, _-_}
@@ -18,15 +19,20 @@ use Rattle.versions.specs.Versions.{slotAtIn, stampedIn, linkedIn}
 use Rattle.worker.specs.declared.Announced.{Announced}
 use Rattle.worker.specs.declared.Doing.{Doing}
 use Rattle.worker.specs.declared.Doing.the-variants.{Idle, PutPublish, PutStamp, PutHandIn, FlushTake, FlushRead, FlushFree, OnTime, ReadEnter, ReadStand, GetShow}
+use Rattle.worker.specs.declared.TimeStep.{TimeStep}
+use Rattle.worker.specs.declared.TimeStep.the-variants.{OpenAnnounce, OpenPass, CloseWithdraw, MarkKeep, MarkRelease}
 use Rattle.worker.specs.declared.Purpose.{Purpose}
-use Rattle.worker.specs.declared.Purpose.the-variants.{Single, Totaling}
+use Rattle.worker.specs.declared.Purpose.the-variants.{Single, Marked, Totaling}
 use Rattle.worker.specs.declared.Goal.{Goal}
 use Rattle.worker.specs.Rep.{timeOf}
+use Rattle.marks.specs.declared.MarkNeed.{MarkNeed}
+use Rattle.marks.specs.declared.MarkNeed.the-variants.{Nothing, Empty, Held, Unread}
+use Rattle.marks.specs.Marks.{refusalIn, timeIn}
 use Rattle.totals.specs.Rows.{goalIn, addedTo}
 use Rattle.announcing.specs.declared.Outcome.{Outcome}
-use Rattle.announcing.specs.Announcing.{outcomeOf, timeStepOf}
+use Rattle.announcing.specs.Announcing.{outcomeOf, openAnnounceStep, openPassStep, closeWithdrawStep}
 use Rattle.step.specs.declared.Next.{Next}
-use Rattle.step.specs.declared.Next.the-variants.{Taken, HandIn, Take, Read, Split, Free}
+use Rattle.step.specs.declared.Next.the-variants.{Taken, HandIn, Take, Read, ReadMarks, Split, Free, Mark}
 
 -- the step as it is known, and the two parts of lent memory that such a step may change
 pub record Stepped : Type 0 where
@@ -72,17 +78,31 @@ putStampStep r c t k n l newest =
     }
 
 ------------------------------------------------------------------------
--- Read, total, get. The rows are those of the list of totals.
+-- Read, total, get. The rows are those of the list of totals; `marks` are the times of the marks, and `reading` says which mark each worker
+-- reads.
 
--- Read (1) H5.36: the register is stamped, and the read stands on its newest version.
-unfoldable pub readEnterStep : Goal → Announced → ℕ → ℕ → List Slot → List ℕ → Stepped
-readEnterStep g t k n l newest =
+-- H7.5: a refusal j that is met at a step sets the worker idle and changes nothing else
+abbrev pub stopped : ℕ → Announced → ℕ → ℕ → Outcome
+stopped j t k n = outcomeOf Idle t k n (No j)
+
+-- what a read asks of a mark: one as of a mark, that it holds a time
+abbrev pub needOf : Purpose → MarkNeed
+needOf Single = Nothing
+needOf (Marked m) = Held m
+needOf (Totaling g i plus minus) = Nothing
+
+-- Read (1) H5.36: the register is stamped, and the read stands on its newest version. H13.7: 20 where the mark that it reads is empty.
+unfoldable pub readEnterStep : Goal → Announced → ℕ → ℕ → List Slot → List ℕ → List ℕ → List ℕ → Stepped
+readEnterStep g t k n l newest marks reading =
     let i = newestAt newest (g .register) in
-    record {
+    let j = refusalIn (needOf (g .purpose)) marks reading in
+    cond (eqb j 0)
+    (record {
       next = Taken (outcomeOf (ReadStand g (short i)) t k n Going);
       row = stampedIn l i k;
       newest = newest;
-    }
+    })
+    (stillAt (stopped j t k n) l newest)
 
 -- H12.8: what a total answers with the sums of all its rows: what was added less what was subtracted
 abbrev pub signedOf : ℕ → ℕ → Answer
@@ -99,18 +119,19 @@ totalFoundOf g i plus minus x t k n rows =
     let last = outcomeOf Idle t k n (signedOf plus′ minus′) in
     cond (leb x twelveDigits) (cond (goesOn rows g i) next last) (outcomeOf Idle t k n (No 18))
 
--- what follows where the version that the worker's time needs has the reading x
+-- what follows where the version that the time needs has the reading x
 abbrev pub foundOf : Purpose → Reading → Announced → ℕ → ℕ → List ℕ → Outcome
 foundOf Single x t k n rows = outcomeOf Idle t k n (Value x)
+foundOf (Marked m) x t k n rows = outcomeOf Idle t k n (Value x)
 foundOf (Totaling g i plus minus) x t k n rows = totalFoundOf g i plus minus (x .count) t k n rows
 
--- Read (2) H5.37: with a low that is at most the worker's time, the value there is found, which is a read's answer; else the read goes to the
--- older neighbour.
-unfoldable pub readStandStep : Goal → ℕ → Announced → ℕ → ℕ → List Slot → List ℕ → Outcome
-readStandStep g c t k n l rows =
+-- Read (2) H5.37, H13.5: with a low that is at most the worker's time, or the mark's, the value there is found, which is a read's answer; else the
+-- read goes to the older neighbour.
+unfoldable pub readStandStep : Goal → ℕ → Announced → ℕ → ℕ → List Slot → List ℕ → List ℕ → Outcome
+readStandStep g c t k n l rows marks =
     let v = slotAtIn l c in
     let on = outcomeOf (ReadStand g (short (v .older))) t k n Going in
-    cond (leb (v .low) (timeOf t)) (foundOf (g .purpose) (v .value) t k n rows) on
+    cond (leb (v .low) (timeIn (g .purpose) t marks)) (foundOf (g .purpose) (v .value) t k n rows) on
 
 -- Get, H5.39: the register is stamped, and the newest version's value is the answer.
 unfoldable pub getShowStep : ℕ → Announced → ℕ → ℕ → List Slot → List ℕ → Stepped
@@ -122,26 +143,44 @@ getShowStep r t k n l newest =
     }
 
 ------------------------------------------------------------------------
--- One step of a worker at the place given, with the announced time t, of p workers; the last list is that of the rows of totals. An idle worker has
--- none: refusal 11.
+-- Steps that move a time
 
--- flush (2) while times are left to read, then (3)
+-- mark m gets this time unless it meets the refusal j
+abbrev pub markOrStop : ℕ → ℕ → ℕ → Announced → ℕ → ℕ → Next
+markOrStop j m time t k n = cond (eqb j 0) (Mark m time) (Taken (stopped j t k n))
+
+-- Open and close. Mark, H13.3: the mark holds the worker's time; 19 where it holds one. Release, H13.4: the mark is empty; 20 where it is, 21 where
+-- a read of it runs.
+abbrev pub timeStepOf : TimeStep → Announced → ℕ → ℕ → List ℕ → List ℕ → Next
+timeStepOf OpenAnnounce t k n marks reading = Taken (openAnnounceStep t k n)
+timeStepOf OpenPass t k n marks reading = Taken (openPassStep t k n)
+timeStepOf CloseWithdraw t k n marks reading = Taken (closeWithdrawStep k n)
+timeStepOf (MarkKeep m) t k n marks reading = markOrStop (refusalIn (Empty m) marks reading) m (timeOf t) t k n
+timeStepOf (MarkRelease m) t k n marks reading = markOrStop (refusalIn (Unread m) marks reading) m absent t k n
+
+------------------------------------------------------------------------
+-- One step of a worker at the place given, with the announced time t, of p workers; the last three lists are the rows of totals, the times of the
+-- marks, and which mark each worker reads. An idle worker has none: refusal 11.
+
+-- flush (2) while times are left to read: of a worker, and behind the last worker of all marks (H13.2); then (3)
 abbrev pub readOrSplit : ℕ → ℕ → ℕ → Next
-readOrSplit m j p = cond (ltb j p) (Read m j) (Split m)
+readOrSplit m j p = cond (ltb j p) (Read m j) (cond (eqb j p) (ReadMarks m) (Split m j))
 
 -- flush (4) while ranges are left, then (5), H5.29
 abbrev pub freeOrDone : ℕ → Announced → ℕ → ℕ → Next
 freeOrDone m t k n = cond (eqb m 0) (Taken (outcomeOf Idle t k n Done)) (Free m)
 
-unfoldable pub stepOf : Doing → Announced → ℕ → ℕ → ℕ → List Slot → List ℕ → List ℕ → List ℕ → Stepped
-stepOf Idle t k n p l newest free rows = stillAt (outcomeOf Idle t k n (No 11)) l newest
-stepOf (PutPublish r x) t k n p l newest free rows = putPublishStep r x t k n l newest free
-stepOf (PutStamp r c) t k n p l newest free rows = putStampStep r c t k n l newest
-stepOf (PutHandIn r c) t k n p l newest free rows = record { next = HandIn c; row = l; newest = newest }
-stepOf FlushTake t k n p l newest free rows = record { next = Take; row = l; newest = newest }
-stepOf (FlushRead m j) t k n p l newest free rows = record { next = readOrSplit m j p; row = l; newest = newest }
-stepOf (FlushFree m) t k n p l newest free rows = record { next = freeOrDone m t k n; row = l; newest = newest }
-stepOf (OnTime y) t k n p l newest free rows = stillAt (timeStepOf y t k n) l newest
-stepOf (ReadEnter g) t k n p l newest free rows = readEnterStep g t k n l newest
-stepOf (ReadStand g c) t k n p l newest free rows = stillAt (readStandStep g c t k n l rows) l newest
-stepOf (GetShow r) t k n p l newest free rows = getShowStep r t k n l newest
+unfoldable pub stepOf : Doing → Announced → ℕ → ℕ → ℕ → List Slot → List ℕ → List ℕ → List ℕ → List ℕ → List ℕ → Stepped
+stepOf Idle t k n p l newest free rows marks reading = stillAt (outcomeOf Idle t k n (No 11)) l newest
+stepOf (PutPublish r x) t k n p l newest free rows marks reading = putPublishStep r x t k n l newest free
+stepOf (PutStamp r c) t k n p l newest free rows marks reading = putStampStep r c t k n l newest
+stepOf (PutHandIn r c) t k n p l newest free rows marks reading = record { next = HandIn c; row = l; newest = newest }
+stepOf FlushTake t k n p l newest free rows marks reading = record { next = Take; row = l; newest = newest }
+stepOf (FlushRead m j) t k n p l newest free rows marks reading = record { next = readOrSplit m j p; row = l; newest = newest }
+stepOf (FlushFree m) t k n p l newest free rows marks reading = record { next = freeOrDone m t k n; row = l; newest = newest }
+stepOf (OnTime y) t k n p l newest free rows marks reading =
+    record { next = timeStepOf y t k n marks reading; row = l; newest = newest }
+stepOf (ReadEnter g) t k n p l newest free rows marks reading = readEnterStep g t k n l newest marks reading
+stepOf (ReadStand g c) t k n p l newest free rows marks reading =
+    stillAt (readStandStep g c t k n l rows marks) l newest
+stepOf (GetShow r) t k n p l newest free rows marks reading = getShowStep r t k n l newest

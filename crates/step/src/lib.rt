@@ -1,27 +1,32 @@
 // One step of a worker: the place is taken apart once, here. Steps on slots, on the clock and on the announced time are done at once; put (3)
-// and flush (1) to (4), which move pools, times and readers, are named for the caller.
+// and flush (1) to (4), which move pools, times and readers, and the change of a mark, are named for the caller.
 ghost use mathlib.Core.Path.{_≡_};
 ghost use mathlib.Core.Bool.{cond};
 ghost use lib.ListN.{take};
 ghost use Rattle.versions.specs.Versions.{rowOf};
-ghost use Rattle.step.specs.Step.{newestAt, nextFree, putPublishStep, putStampStep, readEnterStep, signedOf, totalFoundOf, foundOf, readStandStep, getShowStep, readOrSplit, freeOrDone, stepOf};
+ghost use Rattle.step.specs.Step.{newestAt, nextFree, putPublishStep, putStampStep, needOf, readEnterStep, signedOf, totalFoundOf, foundOf, readStandStep, getShowStep, markOrStop, timeStepOf, readOrSplit, freeOrDone, stepOf};
 use announcing::Outcome;
+use marks::MarkNeed;
 use values::Answer;
 use values::Reading;
 use worker::Announced;
 use worker::Doing;
 use worker::Goal;
 use worker::Purpose;
+use worker::TimeStep;
 
-// A step that is taken, or one that is still to do: put (3) of a covered version; flush (1); (2), of a merged list with so many times read;
-// (3), of a merged list; (4), with so many ranges left.
+// A step that is taken, or one that is still to do: put (3) of a covered version; flush (1); (2), of a merged list with so many times read, and
+// behind the last worker, of a merged list; (3), of a merged list with so many times read; (4), with so many ranges left; a mark gets a
+// time, or none (4294967296), and the worker is done.
 pub enum Next {
     Taken(Outcome),
     HandIn { covered: u16 },
     Take,
     Read { merged: u16, read: u8 },
-    Split { merged: u16 },
+    ReadMarks { merged: u16 },
+    Split { merged: u16, read: u8 },
     Free { left: u16 },
+    Mark { mark: u16, time: u64 },
 }
 
 fn wide(x: u16) -> usize
@@ -107,20 +112,44 @@ fn put_stamp(
     Next::Taken(announcing::outcome_of(place, t, clock, n, Answer::Going))
 }
 
+// What a read asks of a mark.
+fn need_for(x: Purpose) -> MarkNeed
+    ensures { λ r. ⌜ r ≡ needOf x ⌝ }
+{
+    match x {
+        Purpose::Single => MarkNeed::Nothing,
+        Purpose::Marked(m) => MarkNeed::Held(m),
+        Purpose::Totaling {
+            group: _,
+            row: _,
+            plus: _,
+            minus: _,
+        } => MarkNeed::Nothing,
+    }
+}
+
 // Read (1).
-fn read_enter(
+fn read_enter<'a>(
     row: &mut [[u64; 5]],
     newest: &[u16; 256],
     goal: Goal,
     t: Announced,
     clock: u32,
     n: usize,
+    p: usize,
+    marks: &'a [u64; 12],
+    reading: &'a [u8; 16],
 ) -> Next
     ensures { λ r. ⌜
         record { next = r; row = rowOf (now (row .exit)); newest = now (newest .entry) }
-        ≡ readEnterStep goal t clock n (rowOf (now (row .entry))) (now (newest .entry))
+        ≡ readEnterStep goal t clock n (rowOf (now (row .entry))) (now (newest .entry)) (now (marks .entry)) (take p (now (reading .entry)))
         ⌝ }
 {
+    let purpose = goal.purpose;
+    let k = marks::refusal(need_for(purpose), marks, reading, p);
+    if k != 0 {
+        return Next::Taken(announcing::outcome_of(Doing::Idle, t, clock, n, Answer::No(k)));
+    }
     let i = newest_of(newest, goal.register);
     linking::stamp(row, i, clock);
     let slot = (i % 65536) as u16;
@@ -182,7 +211,7 @@ fn total_found(
     announcing::outcome_of(Doing::Idle, t, clock, n, Answer::No(18))
 }
 
-// What follows where the version that the worker's time needs has the reading x.
+// What follows where the version that the time needs has the reading x.
 fn found(
     purpose: Purpose,
     x: Reading,
@@ -196,6 +225,7 @@ fn found(
 {
     match purpose {
         Purpose::Single => announcing::outcome_of(Doing::Idle, t, clock, n, Answer::Value(x)),
+        Purpose::Marked(_) => announcing::outcome_of(Doing::Idle, t, clock, n, Answer::Value(x)),
         Purpose::Totaling {
             group,
             row,
@@ -215,14 +245,15 @@ fn read_stand(
     n: usize,
     rows: &[u32; 1024],
     listed: usize,
+    marks: &[u64; 12],
 ) -> Outcome
     ensures { λ r. ⌜
-        r ≡ readStandStep goal slot t clock n (rowOf (now (row .entry))) (take listed (now (rows .entry)))
+        r ≡ readStandStep goal slot t clock n (rowOf (now (row .entry))) (take listed (now (rows .entry))) (now (marks .entry))
         ⌝ }
 {
     let v = versions::load(row, wide(slot));
-    if v.low <= worker::time_of(t) {
-        let purpose = goal.purpose;
+    let purpose = goal.purpose;
+    if v.low <= marks::time_for(purpose, t, marks) {
         let x = v.value;
         return found(purpose, x, t, clock, n, rows, listed);
     }
@@ -252,14 +283,55 @@ fn get_show(
     Next::Taken(announcing::outcome_of(Doing::Idle, t, clock, n, Answer::Value(x)))
 }
 
-// Flush (2) while times are left to read, then (3).
+// A mark gets a time, or none, unless it meets the refusal k.
+fn mark_or_stop(k: u8, mark: u16, time: u64, t: Announced, clock: u32, n: usize) -> Next
+    ensures { λ r. ⌜ r ≡ markOrStop k mark time t clock n ⌝ }
+{
+    if k != 0 {
+        return Next::Taken(announcing::outcome_of(Doing::Idle, t, clock, n, Answer::No(k)));
+    }
+    Next::Mark { mark, time }
+}
+
+// A step that moves a time: open, close, mark, release.
+fn time_step<'a>(
+    y: TimeStep,
+    t: Announced,
+    clock: u32,
+    n: usize,
+    p: usize,
+    marks: &'a [u64; 12],
+    reading: &'a [u8; 16],
+) -> Next
+    ensures { λ r. ⌜ r ≡ timeStepOf y t clock n (now (marks .entry)) (take p (now (reading .entry))) ⌝ }
+{
+    match y {
+        TimeStep::OpenAnnounce => Next::Taken(announcing::open_announce(t, clock, n)),
+        TimeStep::OpenPass => Next::Taken(announcing::open_pass(t, clock, n)),
+        TimeStep::CloseWithdraw => Next::Taken(announcing::close_withdraw(clock, n)),
+        TimeStep::MarkKeep(m) => {
+            let k = marks::refusal(MarkNeed::Empty(m), marks, reading, p);
+            mark_or_stop(k, m, worker::time_of(t), t, clock, n)
+        }
+        TimeStep::MarkRelease(m) => {
+            let k = marks::refusal(MarkNeed::Unread(m), marks, reading, p);
+            mark_or_stop(k, m, 4294967296, t, clock, n)
+        }
+    }
+}
+
+// Flush (2) while times are left to read: of a worker, and behind the last worker of all marks. Then (3).
 fn read_or_split(merged: u16, read: u8, p: usize) -> Next
     ensures { λ r. ⌜ r ≡ readOrSplit merged read p ⌝ }
 {
-    if (read as usize) < p {
+    let k = read as usize;
+    if k < p {
         return Next::Read { merged, read };
     }
-    Next::Split { merged }
+    if k == p {
+        return Next::ReadMarks { merged };
+    }
+    Next::Split { merged, read }
 }
 
 // Flush (4) while ranges are left, then (5).
@@ -272,8 +344,9 @@ fn free_or_done(left: u16, t: Announced, clock: u32, n: usize) -> Next
     Next::Free { left }
 }
 
-// A step of a worker at the place d with the announced time t, of p workers, with n slots free, and so many rows of totals.
-pub fn step(
+// A step of a worker at the place d with the announced time t, of p workers, with n slots free, and so many rows of totals. `reading` says of
+// the first p workers which mark each reads.
+pub fn step<'a>(
     row: &mut [[u64; 5]],
     newest: &mut [u16; 256],
     free: &[u16; 2048],
@@ -282,12 +355,16 @@ pub fn step(
     clock: u32,
     n: usize,
     p: usize,
-    rows: &[u32; 1024],
+    rows: &'a [u32; 1024],
     listed: usize,
+    marks: &'a [u64; 12],
+    reading: &'a [u8; 16],
 ) -> Next
     ensures { λ r. ⌜
         record { next = r; row = rowOf (now (row .exit)); newest = now (newest .exit) }
         ≡ stepOf d t clock n p (rowOf (now (row .entry))) (now (newest .entry)) (now (free .entry)) (take listed (now (rows .entry)))
+        (now (marks .entry))
+        (take p (now (reading .entry)))
         ⌝ }
 {
     match d {
@@ -305,10 +382,12 @@ pub fn step(
         Doing::FlushTake => Next::Take,
         Doing::FlushRead { merged, read } => read_or_split(merged, read, p),
         Doing::FlushFree { left } => free_or_done(left, t, clock, n),
-        Doing::OnTime(y) => Next::Taken(announcing::time_step(y, t, clock, n)),
-        Doing::ReadEnter { goal } => read_enter(row, newest, goal, t, clock, n),
+        Doing::OnTime(y) => time_step(y, t, clock, n, p, marks, reading),
+        Doing::ReadEnter { goal } => {
+            read_enter(row, newest, goal, t, clock, n, p, marks, reading)
+        }
         Doing::ReadStand { goal, slot } => {
-            Next::Taken(read_stand(row, goal, slot, t, clock, n, rows, listed))
+            Next::Taken(read_stand(row, goal, slot, t, clock, n, rows, listed, marks))
         }
         Doing::GetShow { register } => get_show(row, newest, register, t, clock, n),
     }

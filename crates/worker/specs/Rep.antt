@@ -27,9 +27,9 @@ use Rattle.worker.specs.declared.Doing.the-variants.{
   GetShow,
 }
 use Rattle.worker.specs.declared.TimeStep.{TimeStep}
-use Rattle.worker.specs.declared.TimeStep.the-variants.{OpenAnnounce, OpenPass, CloseWithdraw}
+use Rattle.worker.specs.declared.TimeStep.the-variants.{OpenAnnounce, OpenPass, CloseWithdraw, MarkKeep, MarkRelease}
 use Rattle.worker.specs.declared.Purpose.{Purpose}
-use Rattle.worker.specs.declared.Purpose.the-variants.{Single, Totaling}
+use Rattle.worker.specs.declared.Purpose.the-variants.{Single, Marked, Totaling}
 use Rattle.worker.specs.declared.Goal.{Goal}
 use Rattle.worker.specs.declared.Worker.{Worker}
 
@@ -63,9 +63,12 @@ abbrev pub timeStepRep : Model.TimeStep → TimeStep
 timeStepRep Model.OpenAnnounce = OpenAnnounce
 timeStepRep Model.OpenPass = OpenPass
 timeStepRep Model.CloseWithdraw = CloseWithdraw
+timeStepRep (Model.MarkKeep m) = MarkKeep m
+timeStepRep (Model.MarkRelease m) = MarkRelease m
 
 abbrev pub purposeRep : Model.Purpose → Purpose
 purposeRep Model.Single = Single
+purposeRep (Model.Marked m) = Marked m
 purposeRep (Model.Totaling g i y) = Totaling g i (y .plus) (y .minus)
 
 abbrev pub goalRep : Model.Goal → Goal

@@ -3,7 +3,7 @@ ghost use mathlib.Core.Path.{_≡_};
 ghost use Rattle.model.specs.Store.{startWorker};
 ghost use Rattle.worker.specs.Rep.{timeOf, workerRep};
 ghost use Rattle.worker.specs.Pool.{placed, oneMore};
-ghost use Rattle.worker.specs.About.{naming, reading, aboutOf};
+ghost use Rattle.worker.specs.About.{naming, markMoved, moving, markRead, reading, aboutOf};
 use values::Reading;
 
 // H1.19: a local pool, of at most 64 ranges: how many, and the slot, the low and the high of each.
@@ -27,17 +27,20 @@ pub enum Announced {
     At(u32),
 }
 
-// A step that moves the worker's time and no version: open (1) and (2), close.
+// A step that moves a time and no version: open (1) and (2), close; mark and release (H13.3, H13.4), of a mark.
 pub enum TimeStep {
     OpenAnnounce,
     OpenPass,
     CloseWithdraw,
+    MarkKeep(u16),
+    MarkRelease(u16),
 }
 
-// What a value is read for: it is the answer; or it goes into a total: the group, the index of the row in the list, and the sums of the
-// rows before it.
+// What a value is read for: it is the answer, as of the worker's time; or as of a mark's (H13.5); or it goes into a total: the group, the index
+// of the row in the list, and the sums of the rows before it.
 pub enum Purpose {
     Single,
+    Marked(u16),
     Totaling {
         group: u16,
         row: u16,
@@ -46,7 +49,7 @@ pub enum Purpose {
     },
 }
 
-// What a read, or a total, is at: the register that it reads, and what for.
+// What a read, a marked read or a total is at: the register that it reads, and what for.
 pub struct Goal {
     pub register: u16,
     pub purpose: Purpose,
@@ -69,7 +72,7 @@ pub enum Doing {
     GetShow { register: u16 },
 }
 
-// A register, a slot or a count that a place names, or none.
+// A register, a slot, a count or a mark that a place names, or none.
 pub enum Named {
     Nothing,
     Is(u16),
@@ -93,6 +96,8 @@ pub struct Facts {
     pub stance: Stance,
     // what it reads for
     pub purpose: Purpose,
+    // the mark that it moves or reads
+    pub mark: Named,
 }
 
 // A worker's record.
@@ -115,7 +120,7 @@ impl Worker {
     }
 }
 
-// A place that names this much and reads nothing.
+// A place that names this much, reads nothing and names no mark.
 fn names(idle: bool, register: Named, slot: Named, ranges: Named, read: u8) -> Facts
     ensures { λ r. ⌜ r ≡ naming idle register slot ranges read ⌝ }
 {
@@ -127,6 +132,53 @@ fn names(idle: bool, register: Named, slot: Named, ranges: Named, read: u8) -> F
         read,
         stance: Stance::Nowhere,
         purpose: Purpose::Single,
+        mark: Named::Nothing,
+    }
+}
+
+// The mark that a step moves, if any.
+fn mark_moved(y: TimeStep) -> Named
+    ensures { λ r. ⌜ r ≡ markMoved y ⌝ }
+{
+    match y {
+        TimeStep::OpenAnnounce => Named::Nothing,
+        TimeStep::OpenPass => Named::Nothing,
+        TimeStep::CloseWithdraw => Named::Nothing,
+        TimeStep::MarkKeep(m) => Named::Is(m),
+        TimeStep::MarkRelease(m) => Named::Is(m),
+    }
+}
+
+// The place of a step that moves a time: the mark, if it moves one's.
+fn moves(y: TimeStep) -> Facts
+    ensures { λ r. ⌜ r ≡ moving y ⌝ }
+{
+    let mark = mark_moved(y);
+    Facts {
+        idle: false,
+        register: Named::Nothing,
+        slot: Named::Nothing,
+        ranges: Named::Nothing,
+        read: 0,
+        stance: Stance::Nowhere,
+        purpose: Purpose::Single,
+        mark,
+    }
+}
+
+// The mark as of which a value is read, if any.
+fn mark_read(x: Purpose) -> Named
+    ensures { λ r. ⌜ r ≡ markRead x ⌝ }
+{
+    match x {
+        Purpose::Single => Named::Nothing,
+        Purpose::Marked(m) => Named::Is(m),
+        Purpose::Totaling {
+            group: _,
+            row: _,
+            plus: _,
+            minus: _,
+        } => Named::Nothing,
     }
 }
 
@@ -135,6 +187,7 @@ fn reads(goal: Goal, slot: Named, stance: Stance) -> Facts
     ensures { λ r. ⌜ r ≡ reading goal slot stance ⌝ }
 {
     let purpose = goal.purpose;
+    let mark = mark_read(purpose);
     Facts {
         idle: false,
         register: Named::Is(goal.register),
@@ -143,6 +196,7 @@ fn reads(goal: Goal, slot: Named, stance: Stance) -> Facts
         read: 0,
         stance,
         purpose,
+        mark,
     }
 }
 
@@ -166,7 +220,7 @@ pub fn about(d: Doing) -> Facts
         Doing::FlushTake => names(false, none, none, none, 0),
         Doing::FlushRead { merged, read } => names(false, none, none, Named::Is(merged), read),
         Doing::FlushFree { left } => names(false, none, none, Named::Is(left), 0),
-        Doing::OnTime(_) => names(false, none, none, none, 0),
+        Doing::OnTime(y) => moves(y),
         Doing::ReadEnter { goal } => reads(goal, none, Stance::Nowhere),
         Doing::ReadStand { goal, slot } => {
             reads(goal, Named::Is(slot), Stance::StandsOn { goal, slot })

@@ -14,7 +14,7 @@ use Rattle.lists.proofs.Mapped.{mapped, length-mapped}
 use Rattle.core.proofs.Moving.{move-one, move-none}
 use Rattle.core.proofs.Tested.{ready-few}
 use Rattle.core.proofs.Loop.{stateOf, SoFar, words-long, named-by, deciding, below, workers, told, on-refuse}
-use Rattle.core.proofs.Loop.{on-make, on-start, on-taken, on-hand-in, on-take, on-read, on-split, on-free, ready-is, finished}
+use Rattle.core.proofs.Loop.{on-make, on-start, on-taken, on-hand-in, on-take, on-read, on-read-marks, on-mark, on-split, on-free, ready-is, finished}
 use Rattle.core.proofs.run.Statement.{statement}
 use Rattle.core.proofs.run.Tie as tie
 
@@ -88,14 +88,14 @@ put-answer-requires c κs = tt
 add-k : tie.Need-add-k Inv-loop2 μ-loop2 Inv-loop μ-loop
 add-k c =
     let I₀ = c .before .before .before .before .before .before .before .before in
-    let I = I₀ .before .before .before .before .before .before .before .before .before in
+    let I = I₀ .before .before .before .before .before .before .before .before .before .before .before in
     let A = I .before .before .before .before .before .before .before .before .before .before .before .before .before .before .before in
     omega (arith, I .loop-test .taken, A .fits)
 
 loop-less : tie.Need-loop-less Inv-loop2 μ-loop2 Inv-loop μ-loop
 loop-less c =
     let I₀ = c .before .before .before .before .before .before .before .before in
-    let I = I₀ .before .before .before .before .before .before .before .before .before in
+    let I = I₀ .before .before .before .before .before .before .before .before .before .before .before in
     omega (arith, I .loop-test .taken)
 
 loop-again : tie.Need-loop-again Inv-loop2 μ-loop2 Inv-loop μ-loop
@@ -103,7 +103,7 @@ loop-again c =
     let P = c .before .before .before .before in
     let K = P .before .before .before .before in
     let G = K .before .before in
-    let G₁ = G .before .before .before in
+    let G₁ = G .before .before .before .before .before in
     let G₂ = G₁ .before .before .before in
     on-refuse (deciding (G₂ .before .before .loop .row) (G₂ .before .before .loop .inv)
     (G₂ .before .loop-test .taken)
@@ -123,14 +123,14 @@ put-answer-requires-2 c κs = tt
 add-k-2 : tie.Need-add-k-2 Inv-loop2 μ-loop2 Inv-loop μ-loop
 add-k-2 c =
     let J = c .before .before .before .before .before .before .before .before .before .before in
-    let I = J .before .before .before .before .before .before .before .before .before .before .before .before .before in
+    let I = J .before .before .before .before .before .before .before .before .before .before .before .before .before .before .before in
     let A = I .before .before .before .before .before .before .before .before .before .before .before .before .before .before .before in
     omega (arith, I .loop-test .taken, A .fits)
 
 loop-less-2 : tie.Need-loop-less-2 Inv-loop2 μ-loop2 Inv-loop μ-loop
 loop-less-2 c =
     let J = c .before .before .before .before .before .before .before .before .before .before in
-    let I = J .before .before .before .before .before .before .before .before .before .before .before .before .before in
+    let I = J .before .before .before .before .before .before .before .before .before .before .before .before .before .before .before in
     omega (arith, I .loop-test .taken)
 
 loop-again-2 : tie.Need-loop-again-2 Inv-loop2 μ-loop2 Inv-loop μ-loop
@@ -139,7 +139,7 @@ loop-again-2 c =
     let M = P .before .before .before .before .before in
     let K = M .before .before .before .before .before in
     let G = K .before .before in
-    let G₁ = G .before .before .before in
+    let G₁ = G .before .before .before .before .before in
     let G₂ = G₁ .before .before .before in
     on-make (deciding (G₂ .before .before .loop .row) (G₂ .before .before .loop .inv)
     (G₂ .before .loop-test .taken)
@@ -157,8 +157,8 @@ mul-y c = omega arith
 element-copy-out-y : tie.Need-element-copy-out-y Inv-loop2 μ-loop2 Inv-loop μ-loop
 element-copy-out-y c = omega arith
 
-mul-t101 : tie.Need-mul-t101 Inv-loop2 μ-loop2 Inv-loop μ-loop
-mul-t101 c = omega arith
+mul-t113 : tie.Need-mul-t113 Inv-loop2 μ-loop2 Inv-loop μ-loop
+mul-t113 c = omega arith
 
 element-set-from-hub : tie.Need-element-set-from-hub Inv-loop2 μ-loop2 Inv-loop μ-loop
 element-set-from-hub c = omega arith
@@ -169,14 +169,14 @@ put-answer-requires-3 c κs = tt
 add-k-3 : tie.Need-add-k-3 Inv-loop2 μ-loop2 Inv-loop μ-loop
 add-k-3 c =
     let J = c .before .before .before .before .before .before .before .before .before .before in
-    let I = J .before .before .before .before .before .before .before .before .before in
+    let I = J .before .before .before .before .before .before .before .before .before .before .before in
     let A = I .before .before .before .before .before .before .before .before .before .before .before .before .before .before .before in
     omega (arith, I .loop-test .taken, A .fits)
 
 loop-less-3 : tie.Need-loop-less-3 Inv-loop2 μ-loop2 Inv-loop μ-loop
 loop-less-3 c =
     let J = c .before .before .before .before .before .before .before .before .before .before in
-    let I = J .before .before .before .before .before .before .before .before .before in
+    let I = J .before .before .before .before .before .before .before .before .before .before .before in
     omega (arith, I .loop-test .taken)
 
 loop-again-3 : tie.Need-loop-again-3 Inv-loop2 μ-loop2 Inv-loop μ-loop
@@ -184,7 +184,7 @@ loop-again-3 c =
     let P = c .before .before .before .before in
     let K = P .before .before .before .before .before .before in
     let G = K .before .before in
-    let G₁ = G .before .before .before in
+    let G₁ = G .before .before .before .before .before in
     let G₂ = G₁ .before .before .before in
     on-start (deciding (G₂ .before .before .loop .row) (G₂ .before .before .loop .inv)
     (G₂ .before .loop-test .taken)
@@ -207,43 +207,52 @@ mul-y-2 c = omega arith
 element-copy-out-y-2 : tie.Need-element-copy-out-y-2 Inv-loop2 μ-loop2 Inv-loop μ-loop
 element-copy-out-y-2 c = omega arith
 
-mul-t123 : tie.Need-mul-t123 Inv-loop2 μ-loop2 Inv-loop μ-loop
-mul-t123 c = omega arith
+mul-t137 : tie.Need-mul-t137 Inv-loop2 μ-loop2 Inv-loop μ-loop
+mul-t137 c = omega arith
 
 element-set-from-hub-2 : tie.Need-element-set-from-hub-2 Inv-loop2 μ-loop2 Inv-loop μ-loop
 element-set-from-hub-2 c = omega arith
+
+element-copy-out-old : tie.Need-element-copy-out-old Inv-loop2 μ-loop2 Inv-loop μ-loop
+element-copy-out-old c = omega arith
+
+read-next-requires : tie.Need-read-next-requires Inv-loop2 μ-loop2 Inv-loop μ-loop
+read-next-requires c κs = tt
+
+element-write-hub : tie.Need-element-write-hub Inv-loop2 μ-loop2 Inv-loop μ-loop
+element-write-hub c = omega arith
 
 put-answer-requires-4 : tie.Need-put-answer-requires-4 Inv-loop2 μ-loop2 Inv-loop μ-loop
 put-answer-requires-4 c κs = tt
 
 add-k-4 : tie.Need-add-k-4 Inv-loop2 μ-loop2 Inv-loop μ-loop
 add-k-4 c =
-    let J = c .before .before .before .before .before .before .before .before .before .before .before .before .before in
-    let I = J .before .before .before .before .before .before .before .before .before .before .before .before .before .before .before in
+    let J = c .before .before .before .before .before .before .before .before .before .before .before .before .before .before .before in
+    let I = J .before .before .before .before .before .before .before .before .before .before .before .before .before .before .before .before .before .before .before in
     let A = I .before .before .before .before .before .before .before .before .before .before .before .before .before .before .before in
     omega (arith, I .loop-test .taken, A .fits)
 
 loop-less-4 : tie.Need-loop-less-4 Inv-loop2 μ-loop2 Inv-loop μ-loop
 loop-less-4 c =
-    let J = c .before .before .before .before .before .before .before .before .before .before .before .before .before in
-    let I = J .before .before .before .before .before .before .before .before .before .before .before .before .before .before .before in
+    let J = c .before .before .before .before .before .before .before .before .before .before .before .before .before .before .before in
+    let I = J .before .before .before .before .before .before .before .before .before .before .before .before .before .before .before .before .before .before .before in
     omega (arith, I .loop-test .taken)
 
 loop-again-4 : tie.Need-loop-again-4 Inv-loop2 μ-loop2 Inv-loop μ-loop
 loop-again-4 c =
     let P = c .before .before .before .before in
-    let K = P .before .before .before .before .before .before in
+    let K = P .before .before .before .before .before .before .before .before in
     let T = K .before .before .before in
-    let E = T .before .before .before .before .before .before in
+    let E = T .before .before .before .before .before .before .before .before in
     let G = E .before .before in
-    let G₁ = G .before .before .before in
+    let G₁ = G .before .before .before .before .before in
     let G₂ = G₁ .before .before .before in
     on-taken (deciding (G₂ .before .before .loop .row) (G₂ .before .before .loop .inv)
     (G₂ .before .loop-test .taken)
     (G₁ .decode .ensures ∙ ap Model.decode (G₂ .record-at .ensures))
     (named-by (G₁ .before .before .worker-byte .ensures .0) (G₂ .record-at .ensures)) (G .gate-for .ensures))
     _ (E .enum-told .given .1) _ _ _ (T .step .ensures)
-    _ _ _ _ (K .s .given .1) (P .put-answer4 .ensures)
+    _ _ _ _ _ (K .s .given .1) (P .before .before .before .read-next .ensures) (P .put-answer4 .ensures)
 
 enum-known-s-2 : tie.Need-enum-known-s-2 Inv-loop2 μ-loop2 Inv-loop μ-loop
 enum-known-s-2 c = search needs
@@ -266,8 +275,8 @@ put-time-requires c κs = tt
 put-time-requires-2 : tie.Need-put-time-requires-2 Inv-loop2 μ-loop2 Inv-loop μ-loop
 put-time-requires-2 c κs = tt
 
-mul-t134 : tie.Need-mul-t134 Inv-loop2 μ-loop2 Inv-loop μ-loop
-mul-t134 c = omega arith
+mul-t153 : tie.Need-mul-t153 Inv-loop2 μ-loop2 Inv-loop μ-loop
+mul-t153 c = omega arith
 
 element-set-from-hub-3 : tie.Need-element-set-from-hub-3 Inv-loop2 μ-loop2 Inv-loop μ-loop
 element-set-from-hub-3 c = omega arith
@@ -278,16 +287,16 @@ put-answer-requires-5 c κs = tt
 add-k-5 : tie.Need-add-k-5 Inv-loop2 μ-loop2 Inv-loop μ-loop
 add-k-5 c =
     let J = c .before .before .before .before .before .before .before .before .before .before .before .before .before .before .before .before in
-    let I₀ = J .before .before .before .before .before .before .before .before .before .before in
-    let I = I₀ .before .before .before .before .before .before .before .before .before .before in
+    let I₀ = J .before .before .before .before .before .before .before .before .before .before .before .before in
+    let I = I₀ .before .before .before .before .before .before .before .before .before .before .before .before in
     let A = I .before .before .before .before .before .before .before .before .before .before .before .before .before .before .before in
     omega (arith, I .loop-test .taken, A .fits)
 
 loop-less-5 : tie.Need-loop-less-5 Inv-loop2 μ-loop2 Inv-loop μ-loop
 loop-less-5 c =
     let J = c .before .before .before .before .before .before .before .before .before .before .before .before .before .before .before .before in
-    let I₀ = J .before .before .before .before .before .before .before .before .before .before in
-    let I = I₀ .before .before .before .before .before .before .before .before .before .before in
+    let I₀ = J .before .before .before .before .before .before .before .before .before .before .before .before in
+    let I = I₀ .before .before .before .before .before .before .before .before .before .before .before .before in
     omega (arith, I .loop-test .taken)
 
 loop-again-5 : tie.Need-loop-again-5 Inv-loop2 μ-loop2 Inv-loop μ-loop
@@ -299,9 +308,9 @@ loop-again-5 c =
     let H = O .before .before in
     let K = H .before .before .before .before .before in
     let T = K .before .before .before in
-    let E = T .before .before .before .before .before .before in
+    let E = T .before .before .before .before .before .before .before .before in
     let G = E .before .before in
-    let G₁ = G .before .before .before in
+    let G₁ = G .before .before .before .before .before in
     let G₂ = G₁ .before .before .before in
     on-hand-in (deciding (G₂ .before .before .loop .row) (G₂ .before .before .loop .inv)
     (G₂ .before .loop-test .taken)
@@ -317,9 +326,9 @@ enum-told-2 c = search needs
 flush-take-requires : tie.Need-flush-take-requires Inv-loop2 μ-loop2 Inv-loop μ-loop
 flush-take-requires c κs =
     let T = c .before .before .before .before .before .before in
-    let E = T .before .before .before .before .before .before in
+    let E = T .before .before .before .before .before .before .before .before in
     let G = E .before .before in
-    let G₁ = G .before .before .before in
+    let G₁ = G .before .before .before .before .before in
     let G₂ = G₁ .before .before .before in
     below (deciding (G₂ .before .before .loop .row) (G₂ .before .before .loop .inv)
     (G₂ .before .loop-test .taken)
@@ -333,11 +342,11 @@ mul-y-4 c = omega arith
 element-copy-out-y-4 : tie.Need-element-copy-out-y-4 Inv-loop2 μ-loop2 Inv-loop μ-loop
 element-copy-out-y-4 c = omega arith
 
-cast-t159 : tie.Need-cast-t159 Inv-loop2 μ-loop2 Inv-loop μ-loop
-cast-t159 c = omega arith
+cast-t178 : tie.Need-cast-t178 Inv-loop2 μ-loop2 Inv-loop μ-loop
+cast-t178 c = omega arith
 
-mul-t163 : tie.Need-mul-t163 Inv-loop2 μ-loop2 Inv-loop μ-loop
-mul-t163 c = omega arith
+mul-t182 : tie.Need-mul-t182 Inv-loop2 μ-loop2 Inv-loop μ-loop
+mul-t182 c = omega arith
 
 element-set-from-hub-4 : tie.Need-element-set-from-hub-4 Inv-loop2 μ-loop2 Inv-loop μ-loop
 element-set-from-hub-4 c = omega arith
@@ -348,16 +357,16 @@ put-answer-requires-6 c κs = tt
 add-k-6 : tie.Need-add-k-6 Inv-loop2 μ-loop2 Inv-loop μ-loop
 add-k-6 c =
     let J = c .before .before .before .before .before .before .before .before .before .before .before .before .before .before .before in
-    let I₀ = J .before .before .before .before .before .before .before .before .before in
-    let I = I₀ .before .before .before .before .before .before .before .before .before in
+    let I₀ = J .before .before .before .before .before .before .before .before .before .before .before in
+    let I = I₀ .before .before .before .before .before .before .before .before .before .before .before in
     let A = I .before .before .before .before .before .before .before .before .before .before .before .before .before .before .before in
     omega (arith, I .loop-test .taken, A .fits)
 
 loop-less-6 : tie.Need-loop-less-6 Inv-loop2 μ-loop2 Inv-loop μ-loop
 loop-less-6 c =
     let J = c .before .before .before .before .before .before .before .before .before .before .before .before .before .before .before in
-    let I₀ = J .before .before .before .before .before .before .before .before .before in
-    let I = I₀ .before .before .before .before .before .before .before .before .before in
+    let I₀ = J .before .before .before .before .before .before .before .before .before .before .before in
+    let I = I₀ .before .before .before .before .before .before .before .before .before .before .before in
     omega (arith, I .loop-test .taken)
 
 loop-again-6 : tie.Need-loop-again-6 Inv-loop2 μ-loop2 Inv-loop μ-loop
@@ -366,9 +375,9 @@ loop-again-6 c =
     let H = P .before .before .before .before .before .before .before in
     let K = H .before .before .before .before in
     let T = K .before .before .before in
-    let E = T .before .before .before .before .before .before in
+    let E = T .before .before .before .before .before .before .before .before in
     let G = E .before .before in
-    let G₁ = G .before .before .before in
+    let G₁ = G .before .before .before .before .before in
     let G₂ = G₁ .before .before .before in
     on-take (deciding (G₂ .before .before .loop .row) (G₂ .before .before .loop .inv)
     (G₂ .before .loop-test .taken)
@@ -389,12 +398,6 @@ mul-z c = omega arith
 element-copy-out-z : tie.Need-element-copy-out-z Inv-loop2 μ-loop2 Inv-loop μ-loop
 element-copy-out-z c = omega arith
 
-mul-y-5 : tie.Need-mul-y-5 Inv-loop2 μ-loop2 Inv-loop μ-loop
-mul-y-5 c = omega arith
-
-element-copy-out-y-5 : tie.Need-element-copy-out-y-5 Inv-loop2 μ-loop2 Inv-loop μ-loop
-element-copy-out-y-5 c = omega arith
-
 time-of-requires : tie.Need-time-of-requires Inv-loop2 μ-loop2 Inv-loop μ-loop
 time-of-requires c κs = tt
 
@@ -407,16 +410,22 @@ add-hub c = omega arith
 mul-hub-2 : tie.Need-mul-hub-2 Inv-loop2 μ-loop2 Inv-loop μ-loop
 mul-hub-2 c = omega arith
 
-element-write-hub : tie.Need-element-write-hub Inv-loop2 μ-loop2 Inv-loop μ-loop
-element-write-hub c = omega arith
+element-write-hub-2 : tie.Need-element-write-hub-2 Inv-loop2 μ-loop2 Inv-loop μ-loop
+element-write-hub-2 c = omega arith
 
-add-t171 : tie.Need-add-t171 Inv-loop2 μ-loop2 Inv-loop μ-loop
-add-t171 c =
+mul-y-5 : tie.Need-mul-y-5 Inv-loop2 μ-loop2 Inv-loop μ-loop
+mul-y-5 c = omega arith
+
+element-copy-out-y-5 : tie.Need-element-copy-out-y-5 Inv-loop2 μ-loop2 Inv-loop μ-loop
+element-copy-out-y-5 c = omega arith
+
+add-t190 : tie.Need-add-t190 Inv-loop2 μ-loop2 Inv-loop μ-loop
+add-t190 c =
     let K = c .before .before .before .before in
     let T = K .before .before .before in
-    let E = T .before .before .before .before .before .before in
+    let E = T .before .before .before .before .before .before .before .before in
     let G = E .before .before in
-    let G₁ = G .before .before .before in
+    let G₁ = G .before .before .before .before .before in
     let G₂ = G₁ .before .before .before in
     let D = (deciding (G₂ .before .before .loop .row) (G₂ .before .before .loop .inv)
     (G₂ .before .loop-test .taken)
@@ -426,8 +435,8 @@ add-t171 c =
     let p = workers D _ (E .enum-told .given .1) _ _ _ (T .step .ensures) in
     omega (arith, l, p)
 
-mul-t180 : tie.Need-mul-t180 Inv-loop2 μ-loop2 Inv-loop μ-loop
-mul-t180 c = omega arith
+mul-t191 : tie.Need-mul-t191 Inv-loop2 μ-loop2 Inv-loop μ-loop
+mul-t191 c = omega arith
 
 element-set-from-hub-5 : tie.Need-element-set-from-hub-5 Inv-loop2 μ-loop2 Inv-loop μ-loop
 element-set-from-hub-5 c = omega arith
@@ -438,25 +447,25 @@ put-answer-requires-7 c κs = tt
 add-k-7 : tie.Need-add-k-7 Inv-loop2 μ-loop2 Inv-loop μ-loop
 add-k-7 c =
     let J = c .before .before .before .before .before .before .before .before .before .before .before .before .before .before in
-    let I = J .before .before .before .before .before .before .before .before .before .before .before .before .before .before .before .before in
+    let I = J .before .before .before .before .before .before .before .before .before .before .before .before .before .before .before .before .before .before .before .before in
     let A = I .before .before .before .before .before .before .before .before .before .before .before .before .before .before .before in
     omega (arith, I .loop-test .taken, A .fits)
 
 loop-less-7 : tie.Need-loop-less-7 Inv-loop2 μ-loop2 Inv-loop μ-loop
 loop-less-7 c =
     let J = c .before .before .before .before .before .before .before .before .before .before .before .before .before .before in
-    let I = J .before .before .before .before .before .before .before .before .before .before .before .before .before .before .before .before in
+    let I = J .before .before .before .before .before .before .before .before .before .before .before .before .before .before .before .before .before .before .before .before in
     omega (arith, I .loop-test .taken)
 
 loop-again-7 : tie.Need-loop-again-7 Inv-loop2 μ-loop2 Inv-loop μ-loop
 loop-again-7 c =
     let P = c .before .before .before .before in
-    let H = P .before .before .before .before in
-    let K = H .before .before .before .before in
+    let H = P .before .before .before .before .before in
+    let K = H .before .before .before in
     let T = K .before .before .before in
-    let E = T .before .before .before .before .before .before in
+    let E = T .before .before .before .before .before .before .before .before in
     let G = E .before .before in
-    let G₁ = G .before .before .before in
+    let G₁ = G .before .before .before .before .before in
     let G₂ = G₁ .before .before .before in
     on-read (deciding (G₂ .before .before .loop .row) (G₂ .before .before .loop .inv)
     (G₂ .before .loop-test .taken)
@@ -468,17 +477,43 @@ loop-again-7 c =
 enum-known-s-4 : tie.Need-enum-known-s-4 Inv-loop2 μ-loop2 Inv-loop μ-loop
 enum-known-s-4 c = search needs
 
+read-all-requires : tie.Need-read-all-requires Inv-loop2 μ-loop2 Inv-loop μ-loop
+read-all-requires c κs =
+    let T = c .before .before .before .before .before .before .before in
+    let E = T .before .before .before .before .before .before .before .before in
+    let G = E .before .before in
+    let G₁ = G .before .before .before .before .before in
+    let G₂ = G₁ .before .before .before in
+    let D = (deciding (G₂ .before .before .loop .row) (G₂ .before .before .loop .inv)
+    (G₂ .before .loop-test .taken)
+    (G₁ .decode .ensures ∙ ap Model.decode (G₂ .record-at .ensures))
+    (named-by (G₁ .before .before .worker-byte .ensures .0) (G₂ .record-at .ensures)) (G .gate-for .ensures)) in
+    (below D _ (E .enum-told .given .1) _ _ _ (T .step .ensures), workers D _ (E .enum-told .given .1) _ _ _ (T .step .ensures))
+
 mul-y-6 : tie.Need-mul-y-6 Inv-loop2 μ-loop2 Inv-loop μ-loop
 mul-y-6 c = omega arith
 
 element-copy-out-y-6 : tie.Need-element-copy-out-y-6 Inv-loop2 μ-loop2 Inv-loop μ-loop
 element-copy-out-y-6 c = omega arith
 
-flush-split-requires : tie.Need-flush-split-requires Inv-loop2 μ-loop2 Inv-loop μ-loop
-flush-split-requires c κs = tt
+add-t216 : tie.Need-add-t216 Inv-loop2 μ-loop2 Inv-loop μ-loop
+add-t216 c =
+    let T = c .before .before .before .before .before .before .before .before .before in
+    let E = T .before .before .before .before .before .before .before .before in
+    let G = E .before .before in
+    let G₁ = G .before .before .before .before .before in
+    let G₂ = G₁ .before .before .before in
+    let D = (deciding (G₂ .before .before .loop .row) (G₂ .before .before .loop .inv)
+    (G₂ .before .loop-test .taken)
+    (G₁ .decode .ensures ∙ ap Model.decode (G₂ .record-at .ensures))
+    (named-by (G₁ .before .before .worker-byte .ensures .0) (G₂ .record-at .ensures)) (G .gate-for .ensures)) in
+    omega (arith, workers D _ (E .enum-told .given .1) _ _ _ (T .step .ensures))
 
-mul-t193 : tie.Need-mul-t193 Inv-loop2 μ-loop2 Inv-loop μ-loop
-mul-t193 c = omega arith
+cast-t221 : tie.Need-cast-t221 Inv-loop2 μ-loop2 Inv-loop μ-loop
+cast-t221 c = omega arith
+
+mul-t225 : tie.Need-mul-t225 Inv-loop2 μ-loop2 Inv-loop μ-loop
+mul-t225 c = omega arith
 
 element-set-from-hub-6 : tie.Need-element-set-from-hub-6 Inv-loop2 μ-loop2 Inv-loop μ-loop
 element-set-from-hub-6 c = omega arith
@@ -488,55 +523,34 @@ put-answer-requires-8 c κs = tt
 
 add-k-8 : tie.Need-add-k-8 Inv-loop2 μ-loop2 Inv-loop μ-loop
 add-k-8 c =
-    let J₀ = c .before .before .before .before .before .before .before .before in
-    let J = J₀ .before .before .before .before .before .before .before .before .before in
-    let I₀ = J .before .before .before .before .before .before .before .before .before .before in
-    let I = I₀ .before .before .before .before .before .before .before .before .before .before .before in
+    let I = c .before .before .before .before .before .before .before .before .before .before .before .before .before .before .before .before .before .before .before .before .before .before .before .before .before .before .before .before .before .before .before .before .before .before .before .before in
     let A = I .before .before .before .before .before .before .before .before .before .before .before .before .before .before .before in
     omega (arith, I .loop-test .taken, A .fits)
 
 loop-less-8 : tie.Need-loop-less-8 Inv-loop2 μ-loop2 Inv-loop μ-loop
 loop-less-8 c =
-    let J₀ = c .before .before .before .before .before .before .before .before in
-    let J = J₀ .before .before .before .before .before .before .before .before .before in
-    let I₀ = J .before .before .before .before .before .before .before .before .before .before in
-    let I = I₀ .before .before .before .before .before .before .before .before .before .before .before in
+    let I = c .before .before .before .before .before .before .before .before .before .before .before .before .before .before .before .before .before .before .before .before .before .before .before .before .before .before .before .before .before .before .before .before .before .before .before .before in
     omega (arith, I .loop-test .taken)
 
 loop-again-8 : tie.Need-loop-again-8 Inv-loop2 μ-loop2 Inv-loop μ-loop
 loop-again-8 c =
     let P = c .before .before .before .before in
-    let H = P .before .before .before .before in
-    let K = H .before .before .before .before .before .before .before .before .before .before .before .before in
+    let H = P .before .before .before .before .before in
+    let K = H .before .before .before .before .before in
     let T = K .before .before .before in
-    let E = T .before .before .before .before .before .before in
+    let E = T .before .before .before .before .before .before .before .before in
     let G = E .before .before in
-    let G₁ = G .before .before .before in
+    let G₁ = G .before .before .before .before .before in
     let G₂ = G₁ .before .before .before in
-    on-split (deciding (G₂ .before .before .loop .row) (G₂ .before .before .loop .inv)
+    on-read-marks (deciding (G₂ .before .before .loop .row) (G₂ .before .before .loop .inv)
     (G₂ .before .loop-test .taken)
     (G₁ .decode .ensures ∙ ap Model.decode (G₂ .record-at .ensures))
     (named-by (G₁ .before .before .worker-byte .ensures .0) (G₂ .record-at .ensures)) (G .gate-for .ensures))
     _ (E .enum-told .given .1) _ _ _ (T .step .ensures)
-    _ _ _ _ _ _ _ _ (K .s4 .given .1) (H .flush-split .ensures .0) (H .flush-split .ensures .1 .0) (H .flush-split .ensures .1 .1 .0)
-    (P .put-answer8 .ensures)
+    _ _ _ _ _ (K .s4 .given .1) (H .read-all .ensures) (P .put-answer8 .ensures)
 
 enum-known-s-5 : tie.Need-enum-known-s-5 Inv-loop2 μ-loop2 Inv-loop μ-loop
 enum-known-s-5 c = search needs
-
-flush-free-requires : tie.Need-flush-free-requires Inv-loop2 μ-loop2 Inv-loop μ-loop
-flush-free-requires c κs =
-    let K = c .before .before .before .before in
-    let T = K .before .before .before in
-    let E = T .before .before .before .before .before .before in
-    let G = E .before .before in
-    let G₁ = G .before .before .before in
-    let G₂ = G₁ .before .before .before in
-    let D = (deciding (G₂ .before .before .loop .row) (G₂ .before .before .loop .inv)
-    (G₂ .before .loop-test .taken)
-    (G₁ .decode .ensures ∙ ap Model.decode (G₂ .record-at .ensures))
-    (named-by (G₁ .before .before .worker-byte .ensures .0) (G₂ .record-at .ensures)) (G .gate-for .ensures)) in
-    (below D _ (E .enum-told .given .1) _ _ _ (T .step .ensures), told D _ (E .enum-told .given .1) _ _ _ (T .step .ensures) _ (K .s5 .given .1))
 
 mul-y-7 : tie.Need-mul-y-7 Inv-loop2 μ-loop2 Inv-loop μ-loop
 mul-y-7 c = omega arith
@@ -544,32 +558,105 @@ mul-y-7 c = omega arith
 element-copy-out-y-7 : tie.Need-element-copy-out-y-7 Inv-loop2 μ-loop2 Inv-loop μ-loop
 element-copy-out-y-7 c = omega arith
 
-sub-t225 : tie.Need-sub-t225 Inv-loop2 μ-loop2 Inv-loop μ-loop
-sub-t225 c =
+cast-flush-split : tie.Need-cast-flush-split Inv-loop2 μ-loop2 Inv-loop μ-loop
+cast-flush-split c = omega arith
+
+flush-split-requires : tie.Need-flush-split-requires Inv-loop2 μ-loop2 Inv-loop μ-loop
+flush-split-requires c κs = tt
+
+mul-t241 : tie.Need-mul-t241 Inv-loop2 μ-loop2 Inv-loop μ-loop
+mul-t241 c = omega arith
+
+element-set-from-hub-7 : tie.Need-element-set-from-hub-7 Inv-loop2 μ-loop2 Inv-loop μ-loop
+element-set-from-hub-7 c = omega arith
+
+put-answer-requires-9 : tie.Need-put-answer-requires-9 Inv-loop2 μ-loop2 Inv-loop μ-loop
+put-answer-requires-9 c κs = tt
+
+add-k-9 : tie.Need-add-k-9 Inv-loop2 μ-loop2 Inv-loop μ-loop
+add-k-9 c =
+    let J₀ = c .before .before .before .before .before .before .before .before in
+    let J = J₀ .before .before .before .before .before .before .before .before .before in
+    let I₀ = J .before .before .before .before .before .before .before .before .before .before .before .before in
+    let I = I₀ .before .before .before .before .before .before .before .before .before .before .before .before .before in
+    let A = I .before .before .before .before .before .before .before .before .before .before .before .before .before .before .before in
+    omega (arith, I .loop-test .taken, A .fits)
+
+loop-less-9 : tie.Need-loop-less-9 Inv-loop2 μ-loop2 Inv-loop μ-loop
+loop-less-9 c =
+    let J₀ = c .before .before .before .before .before .before .before .before in
+    let J = J₀ .before .before .before .before .before .before .before .before .before in
+    let I₀ = J .before .before .before .before .before .before .before .before .before .before .before .before in
+    let I = I₀ .before .before .before .before .before .before .before .before .before .before .before .before .before in
+    omega (arith, I .loop-test .taken)
+
+loop-again-9 : tie.Need-loop-again-9 Inv-loop2 μ-loop2 Inv-loop μ-loop
+loop-again-9 c =
+    let P = c .before .before .before .before in
+    let H = P .before .before .before .before in
+    let K = H .before .before .before .before .before .before .before .before .before .before .before .before in
+    let T = K .before .before .before in
+    let E = T .before .before .before .before .before .before .before .before in
+    let G = E .before .before in
+    let G₁ = G .before .before .before .before .before in
+    let G₂ = G₁ .before .before .before in
+    on-split (deciding (G₂ .before .before .loop .row) (G₂ .before .before .loop .inv)
+    (G₂ .before .loop-test .taken)
+    (G₁ .decode .ensures ∙ ap Model.decode (G₂ .record-at .ensures))
+    (named-by (G₁ .before .before .worker-byte .ensures .0) (G₂ .record-at .ensures)) (G .gate-for .ensures))
+    _ (E .enum-told .given .1) _ _ _ (T .step .ensures)
+    _ _ _ _ _ _ _ _ _ (K .s5 .given .1) (H .flush-split .ensures .0) (H .flush-split .ensures .1 .0) (H .flush-split .ensures .1 .1 .0)
+    (P .put-answer9 .ensures)
+
+enum-known-s-6 : tie.Need-enum-known-s-6 Inv-loop2 μ-loop2 Inv-loop μ-loop
+enum-known-s-6 c = search needs
+
+flush-free-requires : tie.Need-flush-free-requires Inv-loop2 μ-loop2 Inv-loop μ-loop
+flush-free-requires c κs =
+    let K = c .before .before .before .before in
+    let T = K .before .before .before in
+    let E = T .before .before .before .before .before .before .before .before in
+    let G = E .before .before in
+    let G₁ = G .before .before .before .before .before in
+    let G₂ = G₁ .before .before .before in
+    let D = (deciding (G₂ .before .before .loop .row) (G₂ .before .before .loop .inv)
+    (G₂ .before .loop-test .taken)
+    (G₁ .decode .ensures ∙ ap Model.decode (G₂ .record-at .ensures))
+    (named-by (G₁ .before .before .worker-byte .ensures .0) (G₂ .record-at .ensures)) (G .gate-for .ensures)) in
+    (below D _ (E .enum-told .given .1) _ _ _ (T .step .ensures), told D _ (E .enum-told .given .1) _ _ _ (T .step .ensures) _ (K .s6 .given .1))
+
+mul-y-8 : tie.Need-mul-y-8 Inv-loop2 μ-loop2 Inv-loop μ-loop
+mul-y-8 c = omega arith
+
+element-copy-out-y-8 : tie.Need-element-copy-out-y-8 Inv-loop2 μ-loop2 Inv-loop μ-loop
+element-copy-out-y-8 c = omega arith
+
+sub-t266 : tie.Need-sub-t266 Inv-loop2 μ-loop2 Inv-loop μ-loop
+sub-t266 c =
     let K = c .before .before .before .before .before .before .before in
     let T = K .before .before .before in
-    let E = T .before .before .before .before .before .before in
+    let E = T .before .before .before .before .before .before .before .before in
     let G = E .before .before in
-    let G₁ = G .before .before .before in
+    let G₁ = G .before .before .before .before .before in
     let G₂ = G₁ .before .before .before in
     let l = told
     (deciding (G₂ .before .before .loop .row) (G₂ .before .before .loop .inv)
     (G₂ .before .loop-test .taken)
     (G₁ .decode .ensures ∙ ap Model.decode (G₂ .record-at .ensures))
     (named-by (G₁ .before .before .worker-byte .ensures .0) (G₂ .record-at .ensures)) (G .gate-for .ensures))
-    _ (E .enum-told .given .1) _ _ _ (T .step .ensures) _ (K .s5 .given .1) in
+    _ (E .enum-told .given .1) _ _ _ (T .step .ensures) _ (K .s6 .given .1) in
     omega (arith, l)
 
-mul-t221 : tie.Need-mul-t221 Inv-loop2 μ-loop2 Inv-loop μ-loop
-mul-t221 c = omega arith
+mul-t262 : tie.Need-mul-t262 Inv-loop2 μ-loop2 Inv-loop μ-loop
+mul-t262 c = omega arith
 
-element-set-from-hub-7 : tie.Need-element-set-from-hub-7 Inv-loop2 μ-loop2 Inv-loop μ-loop
-element-set-from-hub-7 c = omega arith
+element-set-from-hub-8 : tie.Need-element-set-from-hub-8 Inv-loop2 μ-loop2 Inv-loop μ-loop
+element-set-from-hub-8 c = omega arith
 
 loop2-holds : tie.Need-loop2-holds Inv-loop2 μ-loop2 Inv-loop μ-loop
 loop2-holds c =
     let J = c .before .before .before .before .before .before .before .before .before .before in
-    let W = J .before .before .before .before .before .before .before .before .before .before .before .before .before in
+    let W = J .before .before .before .before .before .before .before .before .before .before .before .before .before .before .before .before .before in
     let I = W .before .before .before .before in
     (omega arith, refl, length-set (I .loop .hub .workers) (W .before .worker-byte .result % 16) _ ∙ I .loop .inv .sixteen)
 
@@ -585,11 +672,11 @@ stands-on-requires c κs = tt
 off-requires : tie.Need-off-requires Inv-loop2 μ-loop2 Inv-loop μ-loop
 off-requires c κs = tt
 
-mul-t240 : tie.Need-mul-t240 Inv-loop2 μ-loop2 Inv-loop μ-loop
-mul-t240 c = omega arith
+mul-t281 : tie.Need-mul-t281 Inv-loop2 μ-loop2 Inv-loop μ-loop
+mul-t281 c = omega arith
 
-element-set-from-hub-8 : tie.Need-element-set-from-hub-8 Inv-loop2 μ-loop2 Inv-loop μ-loop
-element-set-from-hub-8 c = omega arith
+element-set-from-hub-9 : tie.Need-element-set-from-hub-9 Inv-loop2 μ-loop2 Inv-loop μ-loop
+element-set-from-hub-9 c = omega arith
 
 add-j : tie.Need-add-j Inv-loop2 μ-loop2 Inv-loop μ-loop
 add-j c = omega arith
@@ -627,66 +714,120 @@ loop2-again-2 c =
       J .loop2 .inv .2,
     )
 
-put-answer-requires-9 : tie.Need-put-answer-requires-9 Inv-loop2 μ-loop2 Inv-loop μ-loop
-put-answer-requires-9 c κs = tt
+put-answer-requires-10 : tie.Need-put-answer-requires-10 Inv-loop2 μ-loop2 Inv-loop μ-loop
+put-answer-requires-10 c κs = tt
 
-add-k-9 : tie.Need-add-k-9 Inv-loop2 μ-loop2 Inv-loop μ-loop
-add-k-9 c =
+add-k-10 : tie.Need-add-k-10 Inv-loop2 μ-loop2 Inv-loop μ-loop
+add-k-10 c =
     let J₀ = c .before .before .before .before .before .before .before .before in
     let J = J₀ .before .before .before .before .before .before .before .before .before in
-    let I₀ = J .before .before .before .before .before .before .before .before .before in
-    let I = I₀ .before .before .before .before .before .before .before .before .before in
+    let I₀ = J .before .before .before .before .before .before .before .before .before .before .before in
+    let I = I₀ .before .before .before .before .before .before .before .before .before .before .before in
     let A = I .before .before .before .before .before .before .before .before .before .before .before .before .before .before .before in
     omega (arith, I .loop-test .taken, A .fits)
 
-loop-less-9 : tie.Need-loop-less-9 Inv-loop2 μ-loop2 Inv-loop μ-loop
-loop-less-9 c =
+loop-less-10 : tie.Need-loop-less-10 Inv-loop2 μ-loop2 Inv-loop μ-loop
+loop-less-10 c =
     let J₀ = c .before .before .before .before .before .before .before .before in
     let J = J₀ .before .before .before .before .before .before .before .before .before in
-    let I₀ = J .before .before .before .before .before .before .before .before .before in
-    let I = I₀ .before .before .before .before .before .before .before .before .before in
+    let I₀ = J .before .before .before .before .before .before .before .before .before .before .before in
+    let I = I₀ .before .before .before .before .before .before .before .before .before .before .before in
     omega (arith, I .loop-test .taken)
 
-loop-again-9 : tie.Need-loop-again-9 Inv-loop2 μ-loop2 Inv-loop μ-loop
-loop-again-9 c =
+loop-again-10 : tie.Need-loop-again-10 Inv-loop2 μ-loop2 Inv-loop μ-loop
+loop-again-10 c =
     let P = c .before .before .before .before in
     let X = P .before .before .before in
     let J = X .before in
     let H = J .before .before .before .before in
     let K = H .before .before .before .before .before in
     let T = K .before .before .before in
-    let E = T .before .before .before .before .before .before in
+    let E = T .before .before .before .before .before .before .before .before in
     let G = E .before .before in
-    let G₁ = G .before .before .before in
+    let G₁ = G .before .before .before .before .before in
     let G₂ = G₁ .before .before .before in
     on-free (deciding (G₂ .before .before .loop .row) (G₂ .before .before .loop .inv)
     (G₂ .before .loop-test .taken)
     (G₁ .decode .ensures ∙ ap Model.decode (G₂ .record-at .ensures))
     (named-by (G₁ .before .before .worker-byte .ensures .0) (G₂ .record-at .ensures)) (G .gate-for .ensures))
     _ (E .enum-told .given .1) _ _ _ (T .step .ensures)
-    _ _ _ _ _ _ _ _ _ (K .s5 .given .1) (H .flush-free .ensures .0) (H .flush-free .ensures .1 .0) (H .flush-free .ensures .1 .1)
+    _ _ _ _ _ _ _ _ _ (K .s6 .given .1) (H .flush-free .ensures .0) (H .flush-free .ensures .1 .0) (H .flush-free .ensures .1 .1)
     (J .loop2 .inv .0) (X .loop2-test .left)
-    (ap (λ (z : Hub). withWindowIn z (G₂ .before .before .loop .window)) (J .loop2 .inv .1)) (P .put-answer9 .ensures)
+    (ap (λ (z : Hub). withWindowIn z (G₂ .before .before .loop .window)) (J .loop2 .inv .1)) (P .put-answer10 .ensures)
+
+enum-known-s-7 : tie.Need-enum-known-s-7 Inv-loop2 μ-loop2 Inv-loop μ-loop
+enum-known-s-7 c = search needs
+
+cast-i : tie.Need-cast-i Inv-loop2 μ-loop2 Inv-loop μ-loop
+cast-i c = omega arith
+
+mul-y-9 : tie.Need-mul-y-9 Inv-loop2 μ-loop2 Inv-loop μ-loop
+mul-y-9 c = omega arith
+
+element-copy-out-y-9 : tie.Need-element-copy-out-y-9 Inv-loop2 μ-loop2 Inv-loop μ-loop
+element-copy-out-y-9 c = omega arith
+
+mul-hub-3 : tie.Need-mul-hub-3 Inv-loop2 μ-loop2 Inv-loop μ-loop
+mul-hub-3 c = omega arith
+
+element-write-hub-3 : tie.Need-element-write-hub-3 Inv-loop2 μ-loop2 Inv-loop μ-loop
+element-write-hub-3 c = omega arith
+
+mul-t290 : tie.Need-mul-t290 Inv-loop2 μ-loop2 Inv-loop μ-loop
+mul-t290 c = omega arith
+
+element-set-from-hub-10 : tie.Need-element-set-from-hub-10 Inv-loop2 μ-loop2 Inv-loop μ-loop
+element-set-from-hub-10 c = omega arith
+
+put-answer-requires-11 : tie.Need-put-answer-requires-11 Inv-loop2 μ-loop2 Inv-loop μ-loop
+put-answer-requires-11 c κs = tt
+
+add-k-11 : tie.Need-add-k-11 Inv-loop2 μ-loop2 Inv-loop μ-loop
+add-k-11 c =
+    let I = c .before .before .before .before .before .before .before .before .before .before .before .before .before .before .before .before .before .before .before .before .before .before .before .before .before .before .before .before .before .before .before .before in
+    let A = I .before .before .before .before .before .before .before .before .before .before .before .before .before .before .before in
+    omega (arith, I .loop-test .taken, A .fits)
+
+loop-less-11 : tie.Need-loop-less-11 Inv-loop2 μ-loop2 Inv-loop μ-loop
+loop-less-11 c =
+    let I = c .before .before .before .before .before .before .before .before .before .before .before .before .before .before .before .before .before .before .before .before .before .before .before .before .before .before .before .before .before .before .before .before in
+    omega (arith, I .loop-test .taken)
+
+loop-again-11 : tie.Need-loop-again-11 Inv-loop2 μ-loop2 Inv-loop μ-loop
+loop-again-11 c =
+    let P = c .before .before .before .before in
+    let K = P .before .before .before .before .before .before in
+    let T = K .before .before .before in
+    let E = T .before .before .before .before .before .before .before .before in
+    let G = E .before .before in
+    let G₁ = G .before .before .before .before .before in
+    let G₂ = G₁ .before .before .before in
+    on-mark (deciding (G₂ .before .before .loop .row) (G₂ .before .before .loop .inv)
+    (G₂ .before .loop-test .taken)
+    (G₁ .decode .ensures ∙ ap Model.decode (G₂ .record-at .ensures))
+    (named-by (G₁ .before .before .worker-byte .ensures .0) (G₂ .record-at .ensures)) (G .gate-for .ensures))
+    _ (E .enum-told .given .1) _ _ _ (T .step .ensures)
+    _ _ _ _ _ (K .s7 .given .1) (P .put-answer11 .ensures)
 
 same-length : tie.Need-same-length Inv-loop2 μ-loop2 Inv-loop μ-loop
 same-length c =
-    let L = c .before .before .before .before in
+    let L = c .before .before .before .before .before .before in
     let A = L .before .before .before .before .before .before .before .before .before .before .before .before .before .before in
     words-long (L .loop .row) (A .args .row .now) (L .loop .inv .row)
 
 same-length-2 : tie.Need-same-length-2 Inv-loop2 μ-loop2 Inv-loop μ-loop
-same-length-2 c = c .before .before .before .before .loop .inv .kinds-long
+same-length-2 c = c .before .before .before .before .before .before .loop .inv .kinds-long
 
 same-length-3 : tie.Need-same-length-3 Inv-loop2 μ-loop2 Inv-loop μ-loop
-same-length-3 c = c .before .before .before .before .loop .inv .numbers-long
+same-length-3 c = c .before .before .before .before .before .before .loop .inv .numbers-long
 
 returns : tie.Need-returns Inv-loop2 μ-loop2 Inv-loop μ-loop
 returns c =
-    let L = c .before .before .before .before in
+    let L = c .before .before .before .before .before .before in
     let Q = L .before .before in
     let B = Q .before .before .before .before .before .before in
     let A = B .before .before .before .before .before .before in
-    finished _ _ _ _ _ _ _ _ _ (L .loop .inv) (c .before .before .before .loop-test .left)
+    finished _ _ _ _ _ _ _ _ _ (L .loop .inv) (c .before .before .before .before .before .loop-test .left)
     (ready-is _ (A .args .row .now) _ _ _ _ _ _ _ (B .all-linked .ensures) (Q .ready .ensures))
 
 pub run-spec : {M : Type 1} → statement M
@@ -720,7 +861,7 @@ run-spec =
     enum-known-g-3
     mul-y
     element-copy-out-y
-    mul-t101
+    mul-t113
     element-set-from-hub
     put-answer-requires-3
     add-k-3
@@ -731,8 +872,11 @@ run-spec =
     enum-known-s
     mul-y-2
     element-copy-out-y-2
-    mul-t123
+    mul-t137
     element-set-from-hub-2
+    element-copy-out-old
+    read-next-requires
+    element-write-hub
     put-answer-requires-4
     add-k-4
     loop-less-4
@@ -744,7 +888,7 @@ run-spec =
     put-slot-requires
     put-time-requires
     put-time-requires-2
-    mul-t134
+    mul-t153
     element-set-from-hub-3
     put-answer-requires-5
     add-k-5
@@ -754,8 +898,8 @@ run-spec =
     flush-take-requires
     mul-y-4
     element-copy-out-y-4
-    cast-t159
-    mul-t163
+    cast-t178
+    mul-t182
     element-set-from-hub-4
     put-answer-requires-6
     add-k-6
@@ -765,54 +909,79 @@ run-spec =
     cast-j
     mul-z
     element-copy-out-z
-    mul-y-5
-    element-copy-out-y-5
     time-of-requires
     mul-hub
     add-hub
     mul-hub-2
-    element-write-hub
-    add-t171
-    mul-t180
+    element-write-hub-2
+    mul-y-5
+    element-copy-out-y-5
+    add-t190
+    mul-t191
     element-set-from-hub-5
     put-answer-requires-7
     add-k-7
     loop-less-7
     loop-again-7
     enum-known-s-4
+    read-all-requires
     mul-y-6
     element-copy-out-y-6
-    flush-split-requires
-    mul-t193
+    add-t216
+    cast-t221
+    mul-t225
     element-set-from-hub-6
     put-answer-requires-8
     add-k-8
     loop-less-8
     loop-again-8
     enum-known-s-5
-    flush-free-requires
     mul-y-7
     element-copy-out-y-7
-    sub-t225
-    mul-t221
+    cast-flush-split
+    flush-split-requires
+    mul-t241
     element-set-from-hub-7
+    put-answer-requires-9
+    add-k-9
+    loop-less-9
+    loop-again-9
+    enum-known-s-6
+    flush-free-requires
+    mul-y-8
+    element-copy-out-y-8
+    sub-t266
+    mul-t262
+    element-set-from-hub-8
     loop2-holds
     mul-z-2
     element-copy-out-z-2
     stands-on-requires
     off-requires
-    mul-t240
-    element-set-from-hub-8
+    mul-t281
+    element-set-from-hub-9
     add-j
     loop2-less
     loop2-again
     add-j-2
     loop2-less-2
     loop2-again-2
-    put-answer-requires-9
-    add-k-9
-    loop-less-9
-    loop-again-9
+    put-answer-requires-10
+    add-k-10
+    loop-less-10
+    loop-again-10
+    enum-known-s-7
+    cast-i
+    mul-y-9
+    element-copy-out-y-9
+    mul-hub-3
+    element-write-hub-3
+    mul-t290
+    element-set-from-hub-10
+    put-answer-requires-11
+    add-k-11
+    loop-less-11
+    loop-again-11
     same-length
     same-length-2
     same-length-3

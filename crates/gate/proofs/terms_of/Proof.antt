@@ -48,6 +48,21 @@ goal-at-requires c κs = search needs
 cast-row : tie.Need-cast-row
 cast-row c = search needs
 
+enum-known-o-5 : tie.Need-enum-known-o-5
+enum-known-o-5 c = search needs
+
+on-mark-requires : tie.Need-on-mark-requires
+on-mark-requires c κs = search needs
+
+enum-known-o-6 : tie.Need-enum-known-o-6
+enum-known-o-6 c = search needs
+
+on-mark-requires-2 : tie.Need-on-mark-requires-2
+on-mark-requires-2 c κs = search needs
+
+enum-known-o-7 : tie.Need-enum-known-o-7
+enum-known-o-7 c = search needs
+
 returns : tie.Need-returns
 returns c = rw (c .before .o .given .1)
 
@@ -69,6 +84,15 @@ returns-6 c = rw (c .before .enum-told3 .given .1) (c .bare3 .ensures)
 returns-7 : tie.Need-returns-7
 returns-7 c = rw (c .before .before .before .o4 .given .1, c .goal-at .ensures, c .before .first-of .ensures .0)
 
+returns-8 : tie.Need-returns-8
+returns-8 c = rw (c .before .before .o5 .given .1) (c .on-mark .ensures)
+
+returns-9 : tie.Need-returns-9
+returns-9 c = rw (c .before .before .o6 .given .1) (c .on-mark2 .ensures)
+
+returns-10 : tie.Need-returns-10
+returns-10 c = rw (c .before .o7 .given .1)
+
 pub terms-of-spec : {M : Type 1} → statement M
 terms-of-spec =
     tie.close
@@ -88,10 +112,18 @@ terms-of-spec =
     first-of-requires
     goal-at-requires
     cast-row
+    enum-known-o-5
+    on-mark-requires
+    enum-known-o-6
+    on-mark-requires-2
+    enum-known-o-7
     returns
     returns-2
     returns-3
     returns-4
     returns-5
     returns-6
-    returns-7)
+    returns-7
+    returns-8
+    returns-9
+    returns-10)

@@ -28,8 +28,14 @@ workers-long c = search (needs, length-mapped)
 rows-long : (c : tie.Start) → length (c .args .hub .rows) ≡ 1024
 rows-long c = search needs
 
-times-long : (c : tie.Start) → length (c .args .hub .times) ≡ 256
+times-long : (c : tie.Start) → length (c .args .hub .times) ≡ 448
 times-long c = search needs
+
+marks-long : (c : tie.Start) → length (c .args .hub .marks) ≡ 12
+marks-long c = search needs
+
+reading-long : (c : tie.Start) → length (c .args .hub .reading) ≡ 16
+reading-long c = search needs
 
 returns : tie.Need-returns
 returns c =
@@ -44,6 +50,8 @@ returns c =
     (record {
       workers = workers-long (known .before .before);
       times = times-long (known .before .before);
+      marks = marks-long (known .before .before);
+      reading = reading-long (known .before .before);
       rows = rows-long (known .before .before);
       newest = n .lengths-told-arg2 .given .0;
       free = f .lengths-told-arg4 .given .0;

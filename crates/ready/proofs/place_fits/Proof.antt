@@ -10,12 +10,28 @@ below-requires c κs = search needs
 below-requires-2 : tie.Need-below-requires-2
 below-requires-2 c κs = search needs
 
+read-fits-requires : tie.Need-read-fits-requires
+read-fits-requires c κs = search needs
+
 purpose-fits-requires : tie.Need-purpose-fits-requires
 purpose-fits-requires c κs = search needs
 
+below-requires-3 : tie.Need-below-requires-3
+below-requires-3 c κs = search needs
+
 returns : tie.Need-returns
 unfolding placeFits
-returns c = rw (c .before .before .before .below .ensures, c .before .before .below2 .ensures, c .purpose-fits .ensures)
+returns c =
+    let r = c .before .before in
+    rw (r .before .before .below .ensures, r .before .below2 .ensures, r .read-fits .ensures, c .before .purpose-fits .ensures, c .below3 .ensures)
 
 pub place-fits-spec : {M : Type 1} → statement M
-place-fits-spec = tie.close (tie.spec below-requires below-requires-2 purpose-fits-requires returns)
+place-fits-spec =
+    tie.close
+    (tie.spec
+    below-requires
+    below-requires-2
+    read-fits-requires
+    purpose-fits-requires
+    below-requires-3
+    returns)

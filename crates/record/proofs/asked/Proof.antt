@@ -1,4 +1,4 @@
--- `asked` meets its contract: each arm rewrites with its operation, and the last has an operation above 8.
+-- `asked` meets its contract: each arm rewrites with its operation, and the last has an operation above 11.
 use Prim.Native.Nat.{_<_, zero-le}
 use lib.ListN.{getD}
 use borrow.Author.Tests.{lt-ltb}
@@ -74,6 +74,39 @@ none-from-4-requires-3 c κs = search needs
 begin-requires-7 : tie.Need-begin-requires-7
 begin-requires-7 c κs = search needs
 
+two-requires-5 : tie.Need-two-requires-5
+two-requires-5 c κs = search needs
+
+none-from-4-requires-4 : tie.Need-none-from-4-requires-4
+none-from-4-requires-4 c κs = search needs
+
+begin-requires-8 : tie.Need-begin-requires-8
+begin-requires-8 c κs = search needs
+
+two-requires-6 : tie.Need-two-requires-6
+two-requires-6 c κs = search needs
+
+none-from-4-requires-5 : tie.Need-none-from-4-requires-5
+none-from-4-requires-5 c κs = search needs
+
+begin-requires-9 : tie.Need-begin-requires-9
+begin-requires-9 c κs = search needs
+
+two-requires-7 : tie.Need-two-requires-7
+two-requires-7 c κs = search needs
+
+one-requires : tie.Need-one-requires
+one-requires c κs = search needs
+
+wide16-requires : tie.Need-wide16-requires
+wide16-requires c κs = search needs
+
+none-from-5-requires : tie.Need-none-from-5-requires
+none-from-5-requires c κs = search needs
+
+begin-requires-10 : tie.Need-begin-requires-10
+begin-requires-10 c κs = search needs
+
 returns : tie.Need-returns
 returns c = rw (c .before .match .keys1) (c .set-up .ensures)
 
@@ -114,13 +147,32 @@ returns-9 c =
     rw (c .before .before .before .match .keys9, ← c .before .before .two4 .ensures, ← c .before .none-from-43 .ensures) (c .begin7 .ensures)
 
 returns-10 : tie.Need-returns-10
+unfolding commandOf unusedZero
 returns-10 c =
+    rw (c .before .before .before .match .keys10, ← c .before .before .two5 .ensures, ← c .before .none-from-44 .ensures) (c .begin8 .ensures)
+
+returns-11 : tie.Need-returns-11
+unfolding commandOf unusedZero
+returns-11 c =
+    rw (c .before .before .before .match .keys11, ← c .before .before .two6 .ensures, ← c .before .none-from-45 .ensures) (c .begin9 .ensures)
+
+returns-12 : tie.Need-returns-12
+unfolding commandOf unusedZero
+returns-12 c =
+    let o = c .before .before .before in
+    let r = o .before in
+    rw (r .before .match .keys12, ← r .two7 .ensures, ← o .one .ensures, ← c .before .before .wide16 .ensures .0, ← c .before .none-from-5 .ensures)
+    (c .begin10 .ensures)
+
+returns-13 : tie.Need-returns-13
+returns-13 c =
     let o = getD (c .before .before .before .args .rec .now) 0 0 in
     let r = c .match .rest in
-    let a = past-three 0 zero-le (r .0 .0 .0 .0 .0 .0 .0 .0 .1) (r .0 .0 .0 .0 .0 .0 .0 .1) (r .0 .0 .0 .0 .0 .0 .1) in
-    let b = past-three 3 a (r .0 .0 .0 .0 .0 .1) (r .0 .0 .0 .0 .1) (r .0 .0 .0 .1) in
-    let h : 8 < o = past-three 6 b (r .0 .0 .1) (r .0 .1) (r .1) in
-    rw (lt-ltb 8 o h)
+    let a = past-three 0 zero-le (r .0 .0 .0 .0 .0 .0 .0 .0 .0 .0 .0 .1) (r .0 .0 .0 .0 .0 .0 .0 .0 .0 .0 .1) (r .0 .0 .0 .0 .0 .0 .0 .0 .0 .1) in
+    let b = past-three 3 a (r .0 .0 .0 .0 .0 .0 .0 .0 .1) (r .0 .0 .0 .0 .0 .0 .0 .1) (r .0 .0 .0 .0 .0 .0 .1) in
+    let d = past-three 6 b (r .0 .0 .0 .0 .0 .1) (r .0 .0 .0 .0 .1) (r .0 .0 .0 .1) in
+    let h : 11 < o = past-three 9 d (r .0 .0 .1) (r .0 .1) (r .1) in
+    rw (lt-ltb 11 o h)
 
 pub asked-spec : {M : Type 1} → statement M
 asked-spec =
@@ -148,6 +200,17 @@ asked-spec =
     two-requires-4
     none-from-4-requires-3
     begin-requires-7
+    two-requires-5
+    none-from-4-requires-4
+    begin-requires-8
+    two-requires-6
+    none-from-4-requires-5
+    begin-requires-9
+    two-requires-7
+    one-requires
+    wide16-requires
+    none-from-5-requires
+    begin-requires-10
     returns
     returns-2
     returns-3
@@ -157,4 +220,7 @@ asked-spec =
     returns-7
     returns-8
     returns-9
-    returns-10)
+    returns-10
+    returns-11
+    returns-12
+    returns-13)

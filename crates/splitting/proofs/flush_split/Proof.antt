@@ -15,11 +15,11 @@ use Rattle.splitting.proofs.flush_split.Tie as tie
 
 -- past the test the counts allow a split
 told : (c : tie.Then1)
-    → mayCut (c .before .before .args .w) (c .before .before .args .m) (c .before .before .args .p) (c .before .before .args .q .len) ≡ true
+    → mayCut (c .before .before .args .w) (c .before .before .args .m) (c .before .before .args .read) (c .before .before .args .q .len) ≡ true
 told c = sym (c .before .may-split .ensures) ∙ c .if1 .taken
 
 allowed : (c : tie.Then1)
-    → (c .before .before .args .w < 16) × (c .before .before .args .m ≤ 256) × (c .before .before .args .p ≤ 16)
+    → (c .before .before .args .w < 16) × (c .before .before .args .m ≤ 256) × (c .before .before .args .read ≤ 28)
     × (c .before .before .args .q .len ≤ 64)
 allowed c = split-facts _ _ _ _ (told c)
 
@@ -54,15 +54,15 @@ requeue-requires c κs =
     let h = allowed (c .before .before .before .before .before .before .before .before .before) in
     omega (arith, c .before .before .before .before .before .batch .ok)
 
-cast-t29 : tie.Need-cast-t29
-cast-t29 c = search needs
+cast-t30 : tie.Need-cast-t30
+cast-t30 c = search needs
 
 returns : tie.Need-returns
 returns c =
     let d = c .before .before .before .before .before .before .before in
     let a = d .before .before .before .before .before .args in
     split-some (poolsIn (a .queue .now) (a .lens .now) (a .window)) (a .merged .now) (a .times .now) (a .needed .now) (a .local .now) (a .joined .now)
-    (a .w) (a .m) (a .p) (a .q) (d .split-part .result) (c .before .before .before .before .before .before .batch .result) _ _ _ _ _
+    (a .w) (a .m) (a .read) (a .p) (a .q) (d .split-part .result) (c .before .before .before .before .before .before .batch .result) _ _ _ _ _
     (told (d .before .before .before)) (d .split-part .ensures .0) (d .split-part .ensures .1 .0) (d .split-part .ensures .1 .1)
     (c .before .before .before .before .before .before .batch .ensures)
     (c .requeue .ensures .0) (c .requeue .ensures .1 .0) (c .requeue .ensures .1 .1)
@@ -71,7 +71,7 @@ returns-2 : tie.Need-returns-2
 returns-2 c =
     let a = c .before .before .args in
     split-none (poolsIn (a .queue .now) (a .lens .now) (a .window)) (a .merged .now) (a .times .now) (a .needed .now) (a .local .now) (a .joined .now)
-    (a .w) (a .m) (a .p) (a .q) (sym (c .before .may-split .ensures) ∙ c .if1 .left)
+    (a .w) (a .m) (a .read) (a .p) (a .q) (sym (c .before .may-split .ensures) ∙ c .if1 .left)
 
 pub flush-split-spec : {M : Type 1} → statement M
 flush-split-spec =
@@ -84,6 +84,6 @@ flush-split-spec =
     sub-requeue
     cast-requeue
     requeue-requires
-    cast-t29
+    cast-t30
     returns
     returns-2)

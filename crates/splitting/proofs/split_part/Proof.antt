@@ -52,7 +52,7 @@ same-length c = search needs
 returns : tie.Need-returns
 returns c =
     let a = c .before .before .before .before .before .before .before .before .args in
-    let e : 16 * a .w + 16 - 16 * a .w ≡ 16 = omega arith in
+    let e : 28 * a .w + 28 - 28 * a .w ≡ 28 = omega arith in
     rw e at (split-part (a .merged .now) (a .w) _ (a .m) _ _ _ _ (c .before .before .split .ensures))
 
 pub split-part-spec : {M : Type 1} → statement M

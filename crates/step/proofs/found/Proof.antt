@@ -9,6 +9,12 @@ enum-told c = search needs
 outcome-of-requires : tie.Need-outcome-of-requires
 outcome-of-requires c κs = search needs
 
+enum-told-2 : tie.Need-enum-told-2
+enum-told-2 c = search needs
+
+outcome-of-requires-2 : tie.Need-outcome-of-requires-2
+outcome-of-requires-2 c κs = search needs
+
 enum-known-purpose : tie.Need-enum-known-purpose
 enum-known-purpose c = search needs
 
@@ -19,7 +25,10 @@ returns : tie.Need-returns
 returns c = rw (c .before .enum-told .given .1) (c .outcome-of .ensures)
 
 returns-2 : tie.Need-returns-2
-returns-2 c = rw (c .before .before .purpose .given .1) (c .total-found .ensures)
+returns-2 c = rw (c .before .enum-told2 .given .1) (c .outcome-of2 .ensures)
+
+returns-3 : tie.Need-returns-3
+returns-3 c = rw (c .before .before .purpose .given .1) (c .total-found .ensures)
 
 pub found-spec : {M : Type 1} → statement M
 found-spec =
@@ -27,7 +36,10 @@ found-spec =
     (tie.spec
     enum-told
     outcome-of-requires
+    enum-told-2
+    outcome-of-requires-2
     enum-known-purpose
     total-found-requires
     returns
-    returns-2)
+    returns-2
+    returns-3)

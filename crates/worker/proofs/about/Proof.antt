@@ -45,29 +45,29 @@ enum-known-d-5 c = search needs
 names-requires-7 : tie.Need-names-requires-7
 names-requires-7 c κs = search needs
 
-enum-told-3 : tie.Need-enum-told-3
-enum-told-3 c = search needs
-
-names-requires-8 : tie.Need-names-requires-8
-names-requires-8 c κs = search needs
-
 enum-known-d-6 : tie.Need-enum-known-d-6
 enum-known-d-6 c = search needs
 
-reads-requires : tie.Need-reads-requires
-reads-requires c κs = search needs
+moves-requires : tie.Need-moves-requires
+moves-requires c κs = search needs
 
 enum-known-d-7 : tie.Need-enum-known-d-7
 enum-known-d-7 c = search needs
 
-reads-requires-2 : tie.Need-reads-requires-2
-reads-requires-2 c κs = search needs
+reads-requires : tie.Need-reads-requires
+reads-requires c κs = search needs
 
 enum-known-d-8 : tie.Need-enum-known-d-8
 enum-known-d-8 c = search needs
 
-names-requires-9 : tie.Need-names-requires-9
-names-requires-9 c κs = search needs
+reads-requires-2 : tie.Need-reads-requires-2
+reads-requires-2 c κs = search needs
+
+enum-known-d-9 : tie.Need-enum-known-d-9
+enum-known-d-9 c = search needs
+
+names-requires-8 : tie.Need-names-requires-8
+names-requires-8 c κs = search needs
 
 returns : tie.Need-returns
 returns c = rw (c .before .enum-told .given .1) (c .names .ensures)
@@ -91,16 +91,16 @@ returns-7 : tie.Need-returns-7
 returns-7 c = rw (c .before .before .d5 .given .1) (c .names7 .ensures)
 
 returns-8 : tie.Need-returns-8
-returns-8 c = rw (c .before .enum-told3 .given .1) (c .names8 .ensures)
+returns-8 c = rw (c .before .before .d6 .given .1) (c .moves .ensures)
 
 returns-9 : tie.Need-returns-9
-returns-9 c = rw (c .before .before .d6 .given .1) (c .reads .ensures)
+returns-9 c = rw (c .before .before .d7 .given .1) (c .reads .ensures)
 
 returns-10 : tie.Need-returns-10
-returns-10 c = rw (c .before .before .d7 .given .1) (c .reads2 .ensures)
+returns-10 c = rw (c .before .before .d8 .given .1) (c .reads2 .ensures)
 
 returns-11 : tie.Need-returns-11
-returns-11 c = rw (c .before .before .d8 .given .1) (c .names9 .ensures)
+returns-11 c = rw (c .before .before .d9 .given .1) (c .names8 .ensures)
 
 pub about-spec : {M : Type 1} → statement M
 about-spec =
@@ -120,14 +120,14 @@ about-spec =
     names-requires-6
     enum-known-d-5
     names-requires-7
-    enum-told-3
-    names-requires-8
     enum-known-d-6
-    reads-requires
+    moves-requires
     enum-known-d-7
-    reads-requires-2
+    reads-requires
     enum-known-d-8
-    names-requires-9
+    reads-requires-2
+    enum-known-d-9
+    names-requires-8
     returns
     returns-2
     returns-3
