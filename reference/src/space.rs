@@ -1,24 +1,30 @@
 //! Long random runs with long-lived snapshots: how many old versions the hub keeps in them.
 
 use crate::census::{bound, Census, Counts};
+use crate::marks::MARKS;
 use crate::store::MAX_SLOTS;
 use crate::table::Table;
 use crate::workload::{Records, Role, Shape, Weights};
 
 /// A random run: half of the workers, rounded up, hold each snapshot for `life` operations of
-/// their own on average, the others for ten. All put.
+/// their own on average, the others for ten. All put. In a run with marks they mark their
+/// snapshots too and seldom release one, so that mostly all marks are held.
 #[derive(Clone, Copy, Debug)]
 pub struct Run {
     pub workers: u8,
     pub registers: u16,
     pub life: u64,
+    pub marks: bool,
 }
 
 impl Run {
     /// The runs of the table.
-    pub const ALL: [Run; 12] = {
+    pub const ALL: [Run; 17] = {
         const fn run(workers: u8, registers: u16, life: u64) -> Run {
-            Run { workers, registers, life }
+            Run { workers, registers, life, marks: false }
+        }
+        const fn marking(workers: u8, registers: u16, life: u64) -> Run {
+            Run { workers, registers, life, marks: true }
         }
         [
             run(1, 64, 100),
@@ -33,17 +39,25 @@ impl Run {
             run(8, 128, 1000),
             run(16, 64, 100),
             run(16, 64, 1000),
+            marking(1, 64, 100),
+            marking(1, 96, 100),
+            marking(2, 96, 100),
+            marking(4, 64, 100),
+            marking(16, 32, 100),
         ]
     };
 
     /// The hub and its workers' habits.
     pub fn shape(self) -> Shape {
+        let marks = u64::from(self.marks);
         let weights = |life| Weights {
             put: 8 * life,
             open: 10 * life,
             read: life,
             close: 10,
             get: life,
+            mark: marks * life,
+            release: marks,
             ..Weights::NONE
         };
         let holders = self.workers.div_ceil(2);
@@ -66,6 +80,7 @@ impl Run {
                 peak.at = counts;
             }
             peak.newer_than_oldest = peak.newer_than_oldest.max(counts.newer_than_oldest);
+            peak.pools = peak.pools.max(records.store().queue.len());
             let bound = bound(usize::from(self.workers), census.most_needed);
             peak.beyond_bound |= counts.kept > bound;
             (peak.most_needed, peak.bound) = (census.most_needed, bound);
@@ -84,6 +99,8 @@ pub struct Peak {
     pub bound: usize,
     /// The most that the old rule would have kept.
     pub newer_than_oldest: usize,
+    /// The most pools on the queue.
+    pub pools: usize,
     /// Did the hub ever keep more than the bound with H as it was then?
     pub beyond_bound: bool,
 }
@@ -98,6 +115,7 @@ pub fn table() -> (Table, bool) {
     let mut table = Table::new(&[
         "P",
         "V",
+        "marks",
         "snapshot life",
         "kept at most",
         "needed then",
@@ -105,6 +123,7 @@ pub fn table() -> (Table, bool) {
         "2H + 25 P² log P",
         "old rule then",
         "old rule at most",
+        "pools at most",
     ]);
     let mut within = true;
     for run in Run::ALL {
@@ -114,6 +133,7 @@ pub fn table() -> (Table, bool) {
         let cells = [
             usize::from(run.workers),
             usize::from(run.registers),
+            usize::from(run.marks) * MARKS,
             run.life as usize,
             peak.at.kept,
             peak.at.needed,
@@ -121,6 +141,7 @@ pub fn table() -> (Table, bool) {
             peak.bound,
             peak.at.newer_than_oldest,
             peak.newer_than_oldest,
+            peak.pools,
         ];
         table.row(cells.iter().map(usize::to_string).collect());
     }

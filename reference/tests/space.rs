@@ -77,7 +77,7 @@ fn bounds() {
 /// So the bound says something.
 #[test]
 fn the_old_rule_breaks_the_bound() {
-    let run = Run { workers: 2, registers: 64, life: 1000 };
+    let run = Run { workers: 2, registers: 64, life: 1000, marks: false };
     let mut hub = Hub::<NewerThanOldest>::with_row(usize::from(MAX_SLOTS));
     let mut records = Records::new(&run.shape(), &[], 1);
     records.next().map(|setup| hub.take(&setup, &[]));
