@@ -31,7 +31,8 @@ use Rattle.marks.specs.Marks.{readNext}
 use Rattle.record.specs.declared.Decoded.{Decoded}
 use Rattle.record.specs.Meaning.{decodedOf}
 use Rattle.state.specs.declared.Hub.{Hub}
-use Rattle.state.specs.State.{freshHub, nobody, workerIn, atPlace, withWorkersIn, withClockIn, withFreeIn, withWindowIn, withTimesIn, withMarksIn, withReadingIn}
+use Rattle.state.specs.State.{freshHub, nobody, workerIn, atPlace, withWorkersIn, withClockIn, withFreeIn, withWindowIn, withTimesIn}
+use Rattle.state.specs.State.{withMarksIn, withReadingIn}
 use Rattle.arrays.specs.Arrays.{short, fillTo}
 use Rattle.versions.specs.Versions.{slotIn, rowOf}
 use Rattle.gate.specs.declared.Gate.{Gate}
@@ -54,7 +55,8 @@ use Rattle.splitting.specs.Splitting.{splitLeft, splitQueue, splitMerged}
 use Rattle.freeing.specs.Freeing.{freedStep, freedRow, freedFree}
 use Rattle.simulation.specs.Memory.{Memory, memory, withHub}
 use Rattle.simulation.specs.Left.{ready}
-use Rattle.simulation.specs.Shell.{Result, withRow, rowsKept, marksRead, queueIn, takenIn, handedIn, tookIn, readIn, allReadIn, markedIn, splitIn, freedIn, offWorker, nextIn, finishIn, stepAtIn, goIn, setUpIn, obeyIn, gateIn, doneAs}
+use Rattle.simulation.specs.Shell.{Result, withRow, rowsKept, marksRead, queueIn, takenIn, handedIn, tookIn, readIn, allReadIn, markedIn}
+use Rattle.simulation.specs.Shell.{splitIn, freedIn, offWorker, nextIn, finishIn, stepAtIn, goIn, setUpIn, obeyIn, gateIn, doneAs}
 use Rattle.simulation.specs.Records.{recordAt}
 use Rattle.simulation.specs.Loop.{makes, State, next, after, before, Ran}
 use Rattle.core.proofs.Lengths.{length-freed}

@@ -2,7 +2,8 @@
 ghost use mathlib.Core.Path.{_≡_};
 ghost use Prim.Native.Nat.{_≤_};
 ghost use lib.ListN.{take};
-ghost use Rattle.gate.specs.Gate.{bare, onRegister, onMark, termsOf, markOf, namedOk, groupOk, valueOk, hasTime, openOk, timeOk, beginGate, sizesOk, setupOk, gateOf};
+ghost use Rattle.gate.specs.Gate.{bare, onRegister, onMark, termsOf, markOf, namedOk, groupOk, valueOk, hasTime, openOk, timeOk};
+ghost use Rattle.gate.specs.Gate.{beginGate, sizesOk, setupOk, gateOf};
 use marks::MarkNeed;
 use record::Command;
 use record::Decoded;

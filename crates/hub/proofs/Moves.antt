@@ -15,7 +15,8 @@ use prog.Routine.{Routine}
 use prog.Wp.{Heap, Env, Calls, Loops}
 use ghost.Atoms.{Atoms, sem}
 use contract.Monad.{Fun, fact, fact-mono}
-use types.Kit.{Given, Item, mean, Post, Seq, runs, lands, ‵, _⊛_, _$_, _∵_, !, qed, move, keep, drop, split, join, fsplit, fjoin, frame, done}
+use types.Kit.{Given, Item, mean, Post, Seq, runs, lands, ‵, _⊛_, _$_, _∵_, !, qed, move, keep, drop, split, join, fsplit, fjoin, frame}
+use types.Kit.{done}
 use types.Run.{Opds}
 use sound.WpLaws.{FmC}
 use denote.RattleType.{RattleType, owns}

@@ -42,7 +42,8 @@ use Rattle.runs.proofs.Applied.Laws as P′
 use Rattle.runs.proofs.Counted as L
 use Rattle.runs.proofs.Counted.Laws as L′
 use Rattle.hub.proofs.Lends.{Ends, call-on}
-use Rattle.hub.proofs.Passed.{Single, SingleLeft, single-vals, single-list, single-own, single-end, OneDone, Buffer, BufferLeft, buffer-vals}
+use Rattle.hub.proofs.Passed.{Single, SingleLeft, single-vals, single-list, single-own, single-end, OneDone, Buffer, BufferLeft}
+use Rattle.hub.proofs.Passed.{buffer-vals}
 use Rattle.hub.proofs.Passed.{buffer-list, buffer-own, buffer-end, buffer-ends, AllDone, SameLong}
 use Rattle.hub.proofs.Values.{hub-vals, applied-vals, left-vals}
 use Rattle.hub.proofs.Words.{Words, Row}

@@ -12,7 +12,8 @@ use lib.ListN.{length, getD}
 use lib.Seq.{take-all}
 use Rattle.lists.specs.Over.{overAt}
 use Rattle.lines.specs.Words.{lineFrom}
-use Rattle.lines.specs.Written.{Spills, LineAppended, longest, room, writtenLine, afterLine, nextLine, counted, writtenLines, LinesWritten, Partly}
+use Rattle.lines.specs.Written.{Spills, LineAppended, longest, room, writtenLine, afterLine, nextLine, counted, writtenLines}
+use Rattle.lines.specs.Written.{LinesWritten, Partly}
 use Rattle.lines.proofs.Appending.{overAt-nil}
 use Rattle.lines.proofs.Inside.{lines-inside}
 use Rattle.lines.proofs.Longest.{line-length, line-least}

@@ -1,6 +1,7 @@
 // What the steps do to version lists in the row of words: stamp, link, unlink.
 ghost use mathlib.Core.Path.{_≡_};
-ghost use Rattle.versions.specs.Versions.{rowOf, aloneSlot, publishedSlot, changeIn, stampedIn, linkedIn, unlinkedIn, withLow, withHigh, withOlder, withNewer};
+ghost use Rattle.versions.specs.Versions.{rowOf, aloneSlot, publishedSlot, changeIn, stampedIn, linkedIn, unlinkedIn, withLow, withHigh};
+ghost use Rattle.versions.specs.Versions.{withOlder, withNewer};
 use slots::Slot;
 use values::Reading;
 

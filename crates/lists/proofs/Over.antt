@@ -5,7 +5,8 @@ use Prim.Native.Nat.{ℕ, suc, _+_, _-_, _≤_, _<_}
 use native.Mathlib.Numerals.{add-one}
 use native.Mathlib.Omega.{arith}
 use lib.ListN.{length, take, drop, getD, set, length-append, length-drop, List·getD-append}
-use lib.Seq.{drop-cons, drop-drop, drop-append-add, set-at, append-snoc, getD-append-add, getD-drop, getD-take, take-at, take-suc, length-take-le}
+use lib.Seq.{drop-cons, drop-drop, drop-append-add, set-at, append-snoc, getD-append-add, getD-drop, getD-take, take-at, take-suc}
+use lib.Seq.{length-take-le}
 use Rattle.lists.specs.Over.{over, shifted}
 
 module _ {A : Type 0} where

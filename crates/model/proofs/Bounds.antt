@@ -8,12 +8,16 @@ use native.Mathlib.Omega.{arith}
 use lib.Dec.{ltb, leb, eqb}
 use lib.ListN.{length, set, take, drop, length-append, length-take, length-drop}
 use borrow.Author.Tests as Tests
-use Rattle.model.specs.Store.{OnTime, absent, Reading, Range, OpenAnnounce, OpenPass, CloseWithdraw, MarkKeep, MarkRelease, Doing, Idle, PutPublish, PutStamp, PutHandIn, FlushTake, FlushRead, FlushFree, OnTime, ReadEnter, ReadStand, GetShow, Worker, startWorker, Store, workerAt, slotAt, rangeOf, withWorker, withDoing, place}
+use Rattle.model.specs.Store.{OnTime, absent, Reading, Range, OpenAnnounce, OpenPass, CloseWithdraw, MarkKeep, MarkRelease, Doing}
+use Rattle.model.specs.Store.{Idle, PutPublish, PutStamp, PutHandIn, FlushTake, FlushRead, FlushFree, OnTime, ReadEnter, ReadStand}
+use Rattle.model.specs.Store.{GetShow, Worker, startWorker, Store, workerAt, slotAt, rangeOf, withWorker, withDoing, place}
 use Rattle.model.specs.Marks.{timeFor}
 use Rattle.model.specs.Answer.{Stepped}
 use Rattle.model.specs.Versions.{stamp}
 use Rattle.model.specs.Ranges.{needed, filter, mergeInto, merge, firstTwo, neededPools, joining, queuedPool}
-use Rattle.model.specs.Steps.{putPublish, putStamp, putHandIn, flushTake, readTimes, flushSplit, flushRead, moveOff, workerOff, flushFree, openAnnounce, openPass, readEnter, readStand, getShow, closeWithdraw, markKeep, markRelease, timeStep, stepAt}
+use Rattle.model.specs.Steps.{putPublish, putStamp, putHandIn, flushTake, readTimes, flushSplit, flushRead, moveOff, workerOff}
+use Rattle.model.specs.Steps.{flushFree, openAnnounce, openPass, readEnter, readStand, getShow, closeWithdraw, markKeep, markRelease}
+use Rattle.model.specs.Steps.{timeStep, stepAt}
 use Rattle.model.specs.Record.{Operation, Put, Open, Read, Close, Get, Collect, Total, Mark, Release, MarkedRead}
 use Rattle.model.specs.Apply.{terms}
 use Rattle.model.specs.Demand.{All}

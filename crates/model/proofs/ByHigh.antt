@@ -11,13 +11,17 @@ use lib.Dec.{ltb, leb, eqb}
 use lib.ListN.{length, getD, set, take, drop, replicate}
 use lib.Seq.{getD-set-same, getD-set-other, set-out}
 use borrow.Author.Tests as Tests
-use Rattle.model.specs.Store.{absent, Reading, Slot, Range, OpenAnnounce, OpenPass, CloseWithdraw, MarkKeep, MarkRelease, Doing, Idle, PutPublish, PutStamp, PutHandIn, FlushTake, FlushRead, FlushFree, OnTime, ReadEnter, ReadStand, GetShow, Worker, startWorker, Store, workerAt, slotAt, newestOf, rangeOf, withWorker, withDoing, place}
+use Rattle.model.specs.Store.{absent, Reading, Slot, Range, OpenAnnounce, OpenPass, CloseWithdraw, MarkKeep, MarkRelease, Doing, Idle}
+use Rattle.model.specs.Store.{PutPublish, PutStamp, PutHandIn, FlushTake, FlushRead, FlushFree, OnTime, ReadEnter, ReadStand, GetShow}
+use Rattle.model.specs.Store.{Worker, startWorker, Store, workerAt, slotAt, newestOf, rangeOf, withWorker, withDoing, place}
 use Rattle.model.specs.About.{Hand, Empty, Covered, Merged, Needless, about}
 use Rattle.model.specs.Marks.{timeFor}
 use Rattle.model.specs.Answer.{Stepped}
 use Rattle.model.specs.Versions.{setLow, setHigh, setNewer, change, published, stampSlots, stamp, linkSlots, unlinkSlots}
 use Rattle.model.specs.Ranges.{needed, filter, mergeInto, merge, firstTwo, neededPools, joining}
-use Rattle.model.specs.Steps.{putPublish, putStamp, putHandIn, flushTake, readTimes, flushSplit, flushRead, moveOff, workerOff, flushFree, openAnnounce, openPass, readEnter, readStand, getShow, closeWithdraw, markKeep, markRelease, timeStep, stepAt}
+use Rattle.model.specs.Steps.{putPublish, putStamp, putHandIn, flushTake, readTimes, flushSplit, flushRead, moveOff, workerOff}
+use Rattle.model.specs.Steps.{flushFree, openAnnounce, openPass, readEnter, readStand, getShow, closeWithdraw, markKeep, markRelease}
+use Rattle.model.specs.Steps.{timeStep, stepAt}
 use Rattle.model.specs.Record.{Operation}
 use Rattle.model.specs.Apply.{terms}
 use Rattle.model.specs.Demand.{Call, Plain, All}

@@ -13,7 +13,8 @@ use Rattle.model.specs.Store.{absent, Reading, Slot}
 use Rattle.model.specs.Versions.{linkSlots, unlinkSlots}
 use Rattle.model.specs.Demand.{occurrences, All}
 use Rattle.model.proofs.Basic.{hit, hit-same, hit-eq, hit-other, eq-cases}
-use Rattle.model.proofs.Slots.{nth, link-new, link-part, link-newer-own, link-newer-other, unlink-older-own, unlink-older-other, unlink-newer-own, unlink-newer-other}
+use Rattle.model.proofs.Slots.{nth, link-new, link-part, link-newer-own, link-newer-other, unlink-older-own, unlink-older-other}
+use Rattle.model.proofs.Slots.{unlink-newer-own, unlink-newer-other}
 
 abbrev pub headOr : ℕ → List ℕ → ℕ
 headOr d [] = d

@@ -12,7 +12,8 @@ use borrow.Author.Tests as Tests
 use Rattle.model.specs.Store.{absent, PutStamp, Store, workerAt, slotAt}
 use Rattle.model.specs.About.{Effect, NoEffect, ByStamp, ByClock, about}
 use Rattle.model.specs.Answer.{Answer}
-use Rattle.model.specs.Demand.{Ending, Unfinished, RefusedAt, FinishedAt, Call, isUnfinished, runningOf, stampedOver, passed, comes, takesEffect, filterBelow, changeEffects, atEnd, finishes, endEffects, callAt}
+use Rattle.model.specs.Demand.{Ending, Unfinished, RefusedAt, FinishedAt, Call, isUnfinished, runningOf, stampedOver, passed, comes}
+use Rattle.model.specs.Demand.{takesEffect, filterBelow, changeEffects, atEnd, finishes, endEffects, callAt}
 use Rattle.model.proofs.Basic.{eq-cases, le-cases, and-both}
 use Rattle.model.proofs.View.{stamp-is}
 use Rattle.model.proofs.Invariant.{Running}

@@ -11,9 +11,11 @@ use lib.ListN.{length, length-append, List·getD-append}
 use lib.Seq.{getD-append-seam}
 use Rattle.model.specs.Answer.{Answer, said}
 use Rattle.model.specs.Record.{Operation}
-use Rattle.model.specs.Demand.{Ending, Unfinished, RefusedAt, FinishedAt, Call, endAs, endOnce, endFor, Plain, feed, shows, call₀, occurrences, Stands, Agrees, callAt, endBy}
+use Rattle.model.specs.Demand.{Ending, Unfinished, RefusedAt, FinishedAt, Call, endAs, endOnce, endFor, Plain, feed, shows, call₀}
+use Rattle.model.specs.Demand.{occurrences, Stands, Agrees, callAt, endBy}
 use Rattle.model.proofs.Basic.{hit-other, lt-cases, eq-cases, occurrences-snoc}
-use Rattle.model.proofs.Linear.{Lin, lin-skip, lin-begin, lin-end, lin-end-agree, endOnce-keep, ended-length, ended-same, ended-own, ended-other}
+use Rattle.model.proofs.Linear.{Lin, lin-skip, lin-begin, lin-end, lin-end-agree, endOnce-keep, ended-length, ended-same, ended-own}
+use Rattle.model.proofs.Linear.{ended-other}
 use Rattle.model.proofs.Invariant.{Running, NoneRunning}
 
 pub record Hist (rows : List ℕ) (now w : ℕ) (h : List Call) (o : List ℕ) (p : Plain) (h′ : List Call) (o′ : List ℕ) (p′ : Plain) : Type 0 where

@@ -16,7 +16,10 @@ use lib.ListN.{length, getD, take}
 use borrow.Author.Tests as Tests
 use Rattle.model.specs.Totals.{groupOf, registerOf, rowAt, ofGroup, follow}
 use Rattle.model.specs.Rules.{twelveDigits}
-use Rattle.model.specs.Store.{absent, Reading, Slot, Range, TimeStep, OpenAnnounce, OpenPass, CloseWithdraw, MarkKeep, MarkRelease, Purpose, Single, Marked, Totaling, Goal, Doing, Idle, PutPublish, PutStamp, PutHandIn, FlushTake, FlushRead, FlushFree, OnTime, ReadEnter, ReadStand, GetShow, Worker, Store, workerAt, newestOf, markCount, markAt, holders, held}
+use Rattle.model.specs.Store.{absent, Reading, Slot, Range, TimeStep, OpenAnnounce, OpenPass, CloseWithdraw, MarkKeep, MarkRelease}
+use Rattle.model.specs.Store.{Purpose, Single, Marked, Totaling, Goal, Doing, Idle, PutPublish, PutStamp, PutHandIn, FlushTake}
+use Rattle.model.specs.Store.{FlushRead, FlushFree, OnTime, ReadEnter, ReadStand, GetShow, Worker, Store, workerAt, newestOf}
+use Rattle.model.specs.Store.{markCount, markAt, holders, held}
 use Rattle.model.specs.Marks.{timeFor}
 use Rattle.model.specs.About.{Hand, Empty, Covered, Merged, Needless, about}
 use Rattle.model.specs.Record.{Operation, Put, Open, Read, Close, Get, Collect, Total, Mark, Release, MarkedRead}

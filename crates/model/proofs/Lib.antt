@@ -15,6 +15,8 @@ pub mod Transport
 pub mod Stamp
 pub mod History
 pub mod Work
+pub mod Looks
+pub mod ReadTimes
 pub mod Places
 pub mod Marking
 pub mod Stamping

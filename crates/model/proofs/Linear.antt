@@ -12,7 +12,9 @@ use lib.Seq.{getD-append-seam}
 use borrow.Author.Tests.{eqb-true, eq-eqb}
 use Rattle.model.specs.Answer.{Answer, said}
 use Rattle.model.specs.Record.{Operation}
-use Rattle.model.specs.Demand.{Ending, Unfinished, RefusedAt, FinishedAt, Call, endAs, endOnce, endFor, Plain, plain₀, feed, shows, call₀, occurrences, All, Stands, EndsBefore, Ordered, FinishedBefore, FinishedBy, ByEnds, atEnd, Agrees, RegistersAgree, IsOrder, callAt, endBy, showing, AgreesIf}
+use Rattle.model.specs.Demand.{Ending, Unfinished, RefusedAt, FinishedAt, Call, endAs, endOnce, endFor, Plain, plain₀, feed, shows}
+use Rattle.model.specs.Demand.{call₀, occurrences, All, Stands, EndsBefore, Ordered, FinishedBefore, FinishedBy, ByEnds, atEnd}
+use Rattle.model.specs.Demand.{Agrees, RegistersAgree, IsOrder, callAt, endBy, showing, AgreesIf}
 use Rattle.model.proofs.Basic.{hit-same, hit-other, occurrences-snoc, eq-cases, lt-cases, All-append, getD-map}
 
 unfoldable pub after : List Call → Plain → List ℕ → Plain

@@ -7,7 +7,8 @@ use native.Mathlib.Nat.{not-suc-le-zero, le-of-suc-le-suc}
 use native.Mathlib.Omega.{arith}
 use lib.ListN.{length, getD, set, length-set}
 use lib.Seq.{getD-set-same, getD-set-other}
-use Rattle.model.specs.Store.{absent, Reading, Slot, Range, PutPublish, PutStamp, Worker, startWorker, Store, workerAt, newestOf, markAt, withDoing, place, withSlots, withNewest, withFree}
+use Rattle.model.specs.Store.{absent, Reading, Slot, Range, PutPublish, PutStamp, Worker, startWorker, Store, workerAt, newestOf}
+use Rattle.model.specs.Store.{markAt, withDoing, place, withSlots, withNewest, withFree}
 use Rattle.model.specs.Versions.{linkSlots}
 use Rattle.model.specs.Demand.{Call, Plain, occurrences, All, callAt}
 use Rattle.model.specs.Reached.{sumBy}

@@ -11,7 +11,8 @@ use Rattle.model.specs.Rules.{Ruled}
 use Rattle.model.specs.Answer.{Answer, Freed}
 use Rattle.model.specs.Record.{decode, rowsOf}
 use Rattle.model.specs.Apply.{fresh, applyRuled, answersTo}
-use Rattle.model.specs.Demand.{Event, events, Call, observe, history, StepsTaken, Plain, plain₀, effects, order, occurrences, All, IsOrder, FreesNothingNeeded, TookBy, Took, event₀, FreedOnce, Demand3, rowsIn, Demand, exchange}
+use Rattle.model.specs.Demand.{Event, events, Call, observe, history, StepsTaken, Plain, plain₀, effects, order, occurrences, All}
+use Rattle.model.specs.Demand.{IsOrder, FreesNothingNeeded, TookBy, Took, event₀, FreedOnce, Demand3, rowsIn, Demand, exchange}
 use Rattle.model.proofs.Invariant.{Inv}
 use Rattle.model.proofs.Record.{Holds, apply-holds, step-taken}
 use Rattle.model.proofs.Setup.{accepts, accepted-inv}

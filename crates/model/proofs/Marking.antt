@@ -11,12 +11,14 @@ use lib.Dec.{ltb}
 use lib.ListN.{length, getD, set, length-set}
 use lib.Seq.{getD-set-same, getD-set-other}
 use borrow.Author.Tests as Tests
-use Rattle.model.specs.Store.{absent, markCount, Reading, MarkKeep, MarkRelease, Purpose, Single, Marked, Totaling, Goal, Doing, Idle, PutStamp, OnTime, ReadStand, Worker, startWorker, Store, workerAt, markAt, withDoing, withMarks, place}
+use Rattle.model.specs.Store.{absent, markCount, Reading, MarkKeep, MarkRelease, Purpose, Single, Marked, Totaling, Goal, Doing, Idle}
+use Rattle.model.specs.Store.{PutStamp, OnTime, ReadStand, Worker, startWorker, Store, workerAt, markAt, withDoing, withMarks, place}
 use Rattle.model.specs.About.{about}
 use Rattle.model.specs.Marks.{EmptyMark, HeldMark, UnreadMark, reads, isRead, markRefusal, needFor}
 use Rattle.model.specs.Answer.{Done}
 use Rattle.model.specs.Record.{Operation, Mark, Release}
-use Rattle.model.specs.Demand.{FinishedAt, Call, endFor, Plain, update, feed, noCopy, inCopy, shows, atEnd, endEffects, occurrences, showing, AgreesIf, Agrees, callAt}
+use Rattle.model.specs.Demand.{FinishedAt, Call, endFor, Plain, update, feed, noCopy, inCopy, shows, atEnd, endEffects, occurrences}
+use Rattle.model.specs.Demand.{showing, AgreesIf, Agrees, callAt}
 use Rattle.model.proofs.Basic.{cond-both, eq-cases}
 use Rattle.model.proofs.Effect.{own-is}
 use Rattle.model.proofs.Slots.{nth}

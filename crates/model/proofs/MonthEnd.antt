@@ -12,7 +12,9 @@ use Rattle.model.specs.Store.{Reading}
 use Rattle.model.specs.Answer.{Answer, Done}
 use Rattle.model.specs.Steps.{answerFor}
 use Rattle.model.specs.Record.{Operation, Put, Open, Read, Close, Get, Collect, Total, Mark, Release, MarkedRead}
-use Rattle.model.specs.Demand.{Ending, Unfinished, RefusedAt, FinishedAt, Call, Plain, plain₀, feed, inCopy, noCopy, shows, atEnd, occurrences, All, Stands, FinishedBefore, FinishedBy, ByEnds, AnswersWith, Agrees, RegistersAgree, IsOrder, callAt}
+use Rattle.model.specs.Demand.{Ending, Unfinished, RefusedAt, FinishedAt, Call, Plain, plain₀, feed, inCopy, noCopy, shows, atEnd}
+use Rattle.model.specs.Demand.{occurrences, All, Stands, FinishedBefore, FinishedBy, ByEnds, AnswersWith, Agrees, RegistersAgree}
+use Rattle.model.specs.Demand.{IsOrder, callAt}
 use Rattle.model.specs.MonthEnd.{Finished, ReleasedBetween, SameFigures, MonthEnd}
 use Rattle.model.proofs.Basic.{hit-same, hit-other, eq-cases, lt-cases, All-get}
 use Rattle.model.proofs.Stamp.{put-at-other}

@@ -4,13 +4,16 @@ use mathlib.Core.Bool.{Bool, true, false, not, _&&_, true≢false}
 use mathlib.Core.Logic.{_≢_, _⊎_, inl, inr, ⊎-elim}
 use mathlib.Core.List.{List, [], _∷_, _++_, map, append-nil}
 use mathlib.Core.Option.{Option, some}
-use Prim.Native.Nat.{ℕ, zero, suc, _+_, _*_, _-_, _≤_, _<_}
+use Prim.Native.Nat.{ℕ, _+_, _*_, _-_, _≤_, _<_}
 use native.Mathlib.Omega.{arith}
 use native.Mathlib.Nat.{not-suc-le-zero}
 use lib.Dec.{ltb, leb}
 use lib.ListN.{length, getD, take, drop, length-append}
 use borrow.Author.Tests as Tests
-use Rattle.model.specs.Store.{absent, Reading, Slot, Range, markCount, OpenAnnounce, OpenPass, CloseWithdraw, MarkKeep, MarkRelease, Purpose, Single, Marked, Totaling, Goal, Doing, Idle, PutPublish, PutStamp, PutHandIn, FlushTake, FlushRead, FlushFree, OnTime, ReadEnter, ReadStand, GetShow, Worker, Store, workerAt, slotAt, newestOf, holders, held, rangeOf, withQueue, withWorker, withDoing, place}
+use Rattle.model.specs.Store.{absent, Reading, Slot, Range, markCount, OpenAnnounce, OpenPass, CloseWithdraw, MarkKeep, MarkRelease}
+use Rattle.model.specs.Store.{Single, Marked, Totaling, Goal, Doing, Idle, PutPublish, PutStamp, PutHandIn, FlushTake}
+use Rattle.model.specs.Store.{FlushRead, FlushFree, OnTime, ReadEnter, ReadStand, GetShow, Worker, Store, workerAt, slotAt, newestOf}
+use Rattle.model.specs.Store.{holders, held, rangeOf, withQueue, withWorker, withDoing, place}
 use Rattle.model.specs.Marks.{markOf}
 use Rattle.model.specs.About.{Effect, NoEffect, ByStamp, ByClock, about}
 use Rattle.model.specs.Answer.{Answer, Done, No}
@@ -20,20 +23,27 @@ use Rattle.model.specs.Rules.{twelveDigits}
 use Rattle.model.specs.Steps.{readTimes, answerFor, signed, goalAt}
 use Rattle.model.specs.Record.{Operation, Put, Open, Read, Close, Get, Collect, Total, Mark, Release, MarkedRead}
 use Rattle.model.specs.Apply.{terms, namedBelow, groupThere, mayOpen, mayUseTime}
-use Rattle.model.specs.Demand.{Ending, Unfinished, FinishedAt, Call, endFor, Plain, feed, inCopy, sumOver, shows, atEnd, endEffects, occurrences, All, Stands, showing, AgreesIf, Agrees, callAt}
+use Rattle.model.specs.Demand.{Ending, Unfinished, FinishedAt, Call, endFor, Plain, feed, inCopy, sumOver, shows, atEnd, endEffects}
+use Rattle.model.specs.Demand.{occurrences, All, Stands, AgreesIf, Agrees, callAt}
 use Rattle.model.specs.Reached.{sumBy}
-use Rattle.model.proofs.Basic.{and-both, cond-both, eq-cases, lt-cases, All-append, All-get, All-map, All-take, All-drop, occurrences-append, occurrences-at}
+use Rattle.model.proofs.Basic.{and-both, eq-cases, lt-cases, All-append, All-get, All-map, All-take, All-drop}
+use Rattle.model.proofs.Basic.{occurrences-append, occurrences-at}
 use Rattle.model.proofs.Totals.{own-next, first-none, first-own, sum-next, sum-grows, row-fits, last-own, goes, goes-not}
 use Rattle.model.proofs.Found.{Tells, answerFor-tells, signed-tells, tells-finishes, tells-end}
 use Rattle.model.proofs.Linear.{agrees-refused}
 use Rattle.model.proofs.Slots.{nth}
 use Rattle.model.proofs.Chain.{On-found, On-on, Fine, Past}
-use Rattle.model.proofs.Count.{cnt, sumBy-append, cnt-append, cnt-merge, cnt-split, cnt-queued, cnt-firstTwo, cnt-sent, All-merge, All-keep, firstTwo-has, pools-have, joining-has, queued-has, All-kept, not-needed}
-use Rattle.model.proofs.Invariant.{Ctx, ctx, old, chain, inDoing, pendW, Good, Settled, Asked, AskedOf, Spared, timeIn, copyFor, Sourced, Summed, PlaceHolds, Running, NoneRunning, IsPut, Serves, Fits, Busy, Current, Works, Inv, held-worker, held-mark, held-same}
+use Rattle.model.proofs.Count.{cnt, sumBy-append, cnt-append, cnt-merge, cnt-split, cnt-queued, cnt-firstTwo, cnt-sent, All-merge}
+use Rattle.model.proofs.Count.{All-keep, firstTwo-has, pools-have, joining-has, queued-has, All-kept, not-needed}
+use Rattle.model.proofs.Invariant.{Ctx, ctx, old, chain, inDoing, pendW, Good, Settled, Asked, Spared, timeIn, copyFor}
+use Rattle.model.proofs.Invariant.{Sourced, Summed, PlaceHolds, Running, NoneRunning, IsPut, Serves, Fits, Busy, Current, Works, Inv}
+use Rattle.model.proofs.Invariant.{held-same}
 use Rattle.model.proofs.Effect.{own-not, own-is}
 use Rattle.model.proofs.Transport.{Came, asked, asked-of, spared, sourced-settled}
 use Rattle.model.proofs.Stamp.{put-at-other, next-open, next-low, next-high}
 use Rattle.model.proofs.History.{Hist, hist-skip, hist-begin, begin-running, begin-call, begin-not, hist-end, hist-show, end-shut}
+use Rattle.model.proofs.Looks.{Looks, looks-read, looks-marked, looks-total}
+use Rattle.model.proofs.ReadTimes.{Reads, reads}
 use Rattle.model.proofs.Work.{at-own, at-other, work-inv, came}
 
 -- the invariant after a record
@@ -58,54 +68,8 @@ fine-high s t x n c l f z e =
     ⊎-elim (λ u. All-get (Past s t) l (u .2) c z .1)
     (λ u. next-high s t x c l (u .1) z (λ v. e (ap (λ (i : ℕ). nth s i .high) (sym v) ∙ next-open s t x l (u .1)))) (f .1)
 
--- an operation that shows something and changes nothing
-pub record Looks (c : Operation) : Type 0 where
-  pub end : atEnd c ≡ true
-  pub shown : showing c ≡ true
-  pub feeds : (p : Plain) (w : ℕ) → feed p w c ≡ p
-
-pub looks-read : (r : ℕ) → Looks (Read r)
-unfolding atEnd feed
-looks-read r = record { end = refl; shown = refl; feeds = λ p w. refl }
-
-pub looks-get : (r : ℕ) → Looks (Get r)
-unfolding atEnd feed
-looks-get r = record { end = refl; shown = refl; feeds = λ p w. refl }
-
-pub looks-marked : (r m : ℕ) → Looks (MarkedRead r m)
-unfolding atEnd feed
-looks-marked r m = record { end = refl; shown = refl; feeds = λ p w. refl }
-
-pub looks-total : (g : ℕ) → Looks (Total g)
-unfolding atEnd feed
-looks-total g = record { end = refl; shown = refl; feeds = λ p w. refl }
-
 some-inj : {f g : ℕ → Reading} → some f ≡ some g → f ≡ g
 some-inj e = cc
-
--- a flush's step reads the next holders' times: those of a list that starts with holder k
-abbrev ReadAs : Store → ℕ → List ℕ → Type 0
-ReadAs s k l =
-    ((k + length l + markCount ≤ holders s) ⊎ (k + length l ≡ holders s)) × ((i : ℕ) → i < length l → getD l i absent ≡ held s (k + i))
-
-abbrev Reads : Store → ℕ → Type 0
-Reads s k = ReadAs s k (readTimes s k)
-
-reads : (s : Store) (k : ℕ) → length (s .marks) ≡ markCount → k ≤ s .site .P → Reads s k
-unfolding readTimes
-reads s k lm b = cond-both (ReadAs s k) (ltb k (s .site .P)) _ _ worker marks
-  where
-    worker : ltb k (s .site .P) ≡ true → ReadAs s k (workerAt s k .announced ∷ [])
-    worker u = (inl (omega (arith, Tests.ltb-true k (s .site .P) u)), go)
-      where
-        go : (i : ℕ) → i < 1 → getD (workerAt s k .announced ∷ []) i absent ≡ held s (k + i)
-        go zero z = sym (held-worker s k (Tests.ltb-true k (s .site .P) u)) ∙ ap (held s) (let e : k ≡ k + 0 = omega arith in e)
-        go (suc i) z = absurd (omega (arith, z))
-
-    marks : ltb k (s .site .P) ≡ false → ReadAs s k (s .marks)
-    marks u =
-        let e : k ≡ s .site .P = omega (arith, Tests.ltb-false k (s .site .P) u) in
-        (inr (omega (arith, e, lm)), λ i z. sym (held-mark s i) ∙ ap (λ (j : ℕ). held s (j + i)) (sym e))
 
 module _ (now : ℕ) (s : Store) (olds : List (List ℕ)) (h : List Call) (o : List ℕ) (p : Plain) (I : Inv now s olds h o p) (w : ℕ)
     (wb : w < s .site .P) where

@@ -8,13 +8,16 @@ use native.Mathlib.Omega.{arith}
 use lib.Dec.{ltb, leb, eqb}
 use lib.ListN.{length, getD, take, replicate, length-append}
 use borrow.Author.Tests as Tests
-use Rattle.model.specs.Store.{absent, lastClock, Reading, Slot, Range, OpenAnnounce, OpenPass, CloseWithdraw, Purpose, Single, Marked, Totaling, Doing, Idle, PutPublish, PutStamp, PutHandIn, FlushTake, FlushRead, FlushFree, OnTime, ReadEnter, ReadStand, GetShow, startWorker, Site, Store, Hub, blank, up, workerAt, slotAt, place}
+use Rattle.model.specs.Store.{absent, lastClock, Reading, Slot, Range, OpenAnnounce, OpenPass, CloseWithdraw, Purpose, Single, Marked}
+use Rattle.model.specs.Store.{Totaling, Doing, Idle, PutPublish, PutStamp, PutHandIn, FlushTake, FlushRead, FlushFree, OnTime}
+use Rattle.model.specs.Store.{ReadEnter, ReadStand, GetShow, startWorker, Site, Store, Hub, blank, up, workerAt, slotAt, place}
 use Rattle.model.specs.Totals.{rowAt, ofGroup}
 use Rattle.model.specs.About.{about}
 use Rattle.model.specs.Rules.{Rules, Allowed, Ruled}
 use Rattle.model.specs.Answer.{Ok, Stepped, Applied}
 use Rattle.model.specs.Versions.{stamp}
-use Rattle.model.specs.Steps.{putPublish, putStamp, putHandIn, flushTake, flushSplit, flushRead, flushFree, openAnnounce, openPass, readEnter, readStand, getShow, closeWithdraw, timeStep, stepAt}
+use Rattle.model.specs.Steps.{putPublish, putStamp, putHandIn, flushTake, flushSplit, flushRead, flushFree, openAnnounce, openPass}
+use Rattle.model.specs.Steps.{readEnter, readStand, getShow, closeWithdraw, timeStep, stepAt}
 use Rattle.model.specs.Record.{SetUp, Begin, Step, Decoded, Asks, Refuses, decode, rowsOf}
 use Rattle.model.specs.Apply.{refuse, fresh, setUp, terms, step, obey, applyDecoded, apply, applyRuled}
 use Rattle.model.specs.Demand.{Call, Plain, plain₀, events, observe, effects, All}

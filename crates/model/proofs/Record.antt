@@ -12,7 +12,8 @@ use Rattle.model.specs.Answer.{Freed, No, Applied}
 use Rattle.model.specs.Steps.{stepAt}
 use Rattle.model.specs.Record.{Operation, SetUp, Begin, Step, Decoded, Asks, Refuses, decode}
 use Rattle.model.specs.Apply.{refuse, setUp, isIdle, terms, begin, step, takesStep, obey, applyDecoded, apply}
-use Rattle.model.specs.Demand.{Call, observe, Performs, StepTaken, Plain, endEffects, stepEffects, effects, occurrences, FreesNothingNeeded, TookBy}
+use Rattle.model.specs.Demand.{Call, observe, Performs, StepTaken, Plain, endEffects, stepEffects, effects, occurrences}
+use Rattle.model.specs.Demand.{FreesNothingNeeded, TookBy}
 use Rattle.model.proofs.Basic.{cond-both}
 use Rattle.model.proofs.Begin.{begin-by}
 use Rattle.model.proofs.Site.{SameSite, step-site}

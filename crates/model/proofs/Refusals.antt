@@ -6,11 +6,15 @@ use Prim.Native.Nat.{ℕ, _<_}
 use native.Mathlib.Omega.{arith}
 use lib.Dec.{ltb, leb, eqb}
 use lib.ListN.{length, getD}
-use Rattle.model.specs.Store.{lastClock, Reading, Slot, Range, OpenAnnounce, OpenPass, CloseWithdraw, MarkKeep, MarkRelease, Doing, Idle, PutPublish, PutStamp, PutHandIn, FlushTake, FlushRead, FlushFree, OnTime, ReadEnter, ReadStand, GetShow, Store, Hub, blank, up, workerAt, slotAt, rangeOf, withWorker, place}
+use Rattle.model.specs.Store.{lastClock, Reading, Slot, Range, OpenAnnounce, OpenPass, CloseWithdraw, MarkKeep, MarkRelease, Doing}
+use Rattle.model.specs.Store.{Idle, PutPublish, PutStamp, PutHandIn, FlushTake, FlushRead, FlushFree, OnTime, ReadEnter, ReadStand}
+use Rattle.model.specs.Store.{GetShow, Store, Hub, blank, up, workerAt, slotAt, rangeOf, withWorker, place}
 use Rattle.model.specs.Marks.{MarkNeed, EmptyMark, UnreadMark, markRefusal, needFor, timeFor}
 use Rattle.model.specs.Rules.{Rules}
 use Rattle.model.specs.Answer.{Going, Done, No, Stepped, Applied}
-use Rattle.model.specs.Steps.{putPublish, putStamp, putHandIn, flushTake, flushSplit, flushRead, flushFree, openAnnounce, openPass, answerFor, stoppedBy, readEnter, readStand, getShow, closeWithdraw, markKeep, markRelease, timeStep, stepAt}
+use Rattle.model.specs.Steps.{putPublish, putStamp, putHandIn, flushTake, flushSplit, flushRead, flushFree, openAnnounce, openPass}
+use Rattle.model.specs.Steps.{answerFor, stoppedBy, readEnter, readStand, getShow, closeWithdraw, markKeep, markRelease, timeStep}
+use Rattle.model.specs.Steps.{stepAt}
 use Rattle.model.specs.Record.{Operation, Sizes, SetUp, Begin, Step, Decoded, Asks, Refuses, decode, commandOf, unusedZero, listFits}
 use Rattle.model.specs.Apply.{inRanges, setUp, isIdle, begin, step, takesStep, obey, applyDecoded, apply}
 use Rattle.model.specs.Demand.{occurrences}

@@ -8,17 +8,20 @@ use native.Mathlib.Omega.{arith}
 use lib.Dec.{eqb}
 use lib.ListN.{length}
 use borrow.Author.Tests as Tests
-use Rattle.model.specs.Store.{absent, markCount, Reading, Slot, Range, Doing, PutStamp, startWorker, Store, workerAt, newestOf, markAt, withSlots}
+use Rattle.model.specs.Store.{absent, markCount, Reading, Slot, Range, Doing, PutStamp, startWorker, Store, workerAt, newestOf}
+use Rattle.model.specs.Store.{markAt, withSlots}
 use Rattle.model.specs.Versions.{stampSlots, stamp}
 use Rattle.model.specs.Record.{Operation, Put}
 use Rattle.model.specs.Demand.{Call, Plain, update, feed, runningOf, changeEffects, atEnd, occurrences, callAt}
 use Rattle.model.proofs.Basic.{hit, hit-same, hit-eq, hit-other, eq-cases, All-map, All-get, All-occurrences, occurrences-snoc}
 use Rattle.model.proofs.Effect.{running-is, change-none, below-one, takes, takes-same, takes-self}
 use Rattle.model.proofs.Linear.{Lin, lin-effect}
-use Rattle.model.proofs.Slots.{nth, stamp-not, stamp-length, stamp-value, stamp-older, stamp-newer, stamp-low-other, stamp-low-own, stamp-high-other, stamp-high-own}
+use Rattle.model.proofs.Slots.{nth, stamp-not, stamp-length, stamp-value, stamp-older, stamp-newer, stamp-low-other, stamp-low-own}
+use Rattle.model.proofs.Slots.{stamp-high-other, stamp-high-own}
 use Rattle.model.proofs.Chain.{Linked-same, Sees-mono, On-mono, Fine, Past, Next, headOr}
 use Rattle.model.proofs.Count.{cnt, sumBy-two}
-use Rattle.model.proofs.Invariant.{Ctx, ctx, top, old, chain, inDoing, pendW, Good, MarkHolds, PlaceHolds, Running, Current, Works, Inv}
+use Rattle.model.proofs.Invariant.{Ctx, ctx, top, old, chain, inDoing, pendW, Good, MarkHolds, PlaceHolds, Running, Current, Works}
+use Rattle.model.proofs.Invariant.{Inv}
 use Rattle.model.proofs.Apart.{below≤1, chain-once, chain-in, chain-apart}
 use Rattle.model.proofs.Transport.{stays, Moves, same-copy, doing-map, fits-map, current-map, Covers, Fine-same}
 

@@ -2,27 +2,29 @@
 use mathlib.Core.Path.{_≡_, refl, sym, ap, _∙_, subst}
 use mathlib.Core.Bool.{cond}
 use mathlib.Core.Logic.{_≢_, inl, ⊎-elim}
-use mathlib.Core.List.{List, [], _∷_, _++_, map, append-assoc}
+use mathlib.Core.List.{List, _∷_, _++_, map, append-assoc}
 use mathlib.Core.Option.{none, some}
 use Prim.Native.Nat.{ℕ, _≤_, _<_}
 use native.Mathlib.Omega.{arith}
 use lib.Dec.{eqb}
-use Rattle.model.specs.Store.{absent, Reading, Purpose, Single, Marked, Totaling, Idle, PutStamp, PutHandIn, Goal, ReadEnter, ReadStand, GetShow, Store, workerAt, slotAt, newestOf, place}
+use Rattle.model.specs.Store.{absent, Reading, Purpose, Single, Marked, Totaling, Idle, PutStamp, PutHandIn, Goal, ReadEnter}
+use Rattle.model.specs.Store.{ReadStand, GetShow, Store, workerAt, slotAt, newestOf, place}
 use Rattle.model.specs.Marks.{markRefusal, needFor}
 use Rattle.model.specs.Versions.{stamp}
 use Rattle.model.specs.Steps.{answerFor}
-use Rattle.model.specs.Record.{Operation}
-use Rattle.model.specs.Demand.{Ending, FinishedAt, Call, endFor, Plain, feed, shows, changeEffects, atEnd, endEffects, Stands, Agrees, callAt}
+use Rattle.model.specs.Demand.{Call, endFor, Plain, shows, changeEffects, endEffects}
 use Rattle.model.proofs.Basic.{eq-cases, All-get}
-use Rattle.model.proofs.Effect.{own-is, change-none}
+use Rattle.model.proofs.Effect.{change-none}
 use Rattle.model.proofs.Found.{answerFor-tells}
 use Rattle.model.proofs.Slots.{nth, stamp-value}
 use Rattle.model.proofs.Chain.{Past}
 use Rattle.model.proofs.Invariant.{ctx, old, PlaceHolds, Inv}
 use Rattle.model.proofs.Marking.{Source, source}
 use Rattle.model.proofs.Stamp.{Stamped, stamp-inv}
-use Rattle.model.proofs.History.{hist-skip, hist-show, end-shut}
-use Rattle.model.proofs.Places.{Kept, none-more, one-more, place-inv, doing-is, cur-is, calm, fine-high, Looks, looks-get, shown-kept}
+use Rattle.model.proofs.History.{hist-skip}
+use Rattle.model.proofs.Looks.{Looks, looks-get}
+use Rattle.model.proofs.Places.{Kept, none-more, place-inv, doing-is, cur-is, calm, fine-high}
+use Rattle.model.proofs.Places.{shown-kept}
 
 -- the covered version is stamped: on to the hand-in
 cover-on : (now : ℕ) (s : Store) (olds : List (List ℕ)) (h : List Call) (o : List ℕ) (p : Plain) → Inv now s olds h o p → (w : ℕ) → w < s .site .P

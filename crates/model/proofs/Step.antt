@@ -10,13 +10,18 @@ use lib.Dec.{ltb, leb, eqb}
 use lib.ListN.{length}
 use lib.Seq.{getD-set-same}
 use borrow.Author.Tests as Tests
-use Rattle.model.specs.Store.{absent, Reading, Slot, Range, OpenAnnounce, OpenPass, CloseWithdraw, MarkKeep, MarkRelease, Purpose, Single, Marked, Totaling, Goal, Doing, Idle, PutPublish, PutStamp, PutHandIn, FlushTake, FlushRead, FlushFree, OnTime, ReadEnter, ReadStand, GetShow, Store, workerAt, slotAt, newestOf, held, rangeOf, withWorker, place, up}
+use Rattle.model.specs.Store.{absent, Reading, Slot, Range, OpenAnnounce, OpenPass, CloseWithdraw, MarkKeep, MarkRelease, Purpose}
+use Rattle.model.specs.Store.{Single, Marked, Totaling, Goal, Doing, Idle, PutPublish, PutStamp, PutHandIn, FlushTake, FlushRead}
+use Rattle.model.specs.Store.{FlushFree, OnTime, ReadEnter, ReadStand, GetShow, Store, workerAt, slotAt, newestOf, held, rangeOf}
+use Rattle.model.specs.Store.{withWorker, place, up}
 use Rattle.model.specs.Marks.{timeFor}
 use Rattle.model.specs.Totals.{goesOn}
 use Rattle.model.specs.Rules.{twelveDigits}
 use Rattle.model.specs.Answer.{Answer, Going, Freed, Done, No, Stepped, said}
 use Rattle.model.specs.Versions.{stamp}
-use Rattle.model.specs.Steps.{putPublish, putStamp, putHandIn, flushTake, flushSplit, flushRead, flushFree, openAnnounce, openPass, answerFor, totalFound, found, readEnter, readStand, getShow, closeWithdraw, markKeep, markRelease, timeStep, stepAt}
+use Rattle.model.specs.Steps.{putPublish, putStamp, putHandIn, flushTake, flushSplit, flushRead, flushFree, openAnnounce, openPass}
+use Rattle.model.specs.Steps.{answerFor, totalFound, found, readEnter, readStand, getShow, closeWithdraw, markKeep, markRelease}
+use Rattle.model.specs.Steps.{timeStep, stepAt}
 use Rattle.model.specs.Demand.{Call, endFor, Plain, changeEffects, endEffects, occurrences, FreesNothingNeeded, TookIn}
 use Rattle.model.proofs.Basic.{hit-same, hit-other, eq-cases, cond-both}
 use Rattle.model.proofs.Slots.{nth, link-new, unlink-part}
@@ -27,7 +32,9 @@ use Rattle.model.proofs.Invariant.{ctx, Settled, Running, Inv, inDoing,
 use Rattle.model.proofs.History.{ended-none}
 use Rattle.model.proofs.Apart.{below≤1, free-in}
 use Rattle.model.proofs.Stamp.{Stamped, stamp-inv}
-use Rattle.model.proofs.Places.{Kept, none-more, doing-is, cur-is, Plainly, refuse-kept, refuse-put, refuse-open, flush-done, hand-done, hand-full, take-kept, ask-kept, split-kept, announce-kept, withdraw-kept, found-kept, found-marked, over-kept, total-kept, next-kept, on-kept}
+use Rattle.model.proofs.Places.{Kept, none-more, doing-is, cur-is, Plainly, refuse-kept, refuse-put, refuse-open, flush-done}
+use Rattle.model.proofs.Places.{hand-done, hand-full, take-kept, ask-kept, split-kept, announce-kept, withdraw-kept, found-kept}
+use Rattle.model.proofs.Places.{found-marked, over-kept, total-kept, next-kept, on-kept}
 use Rattle.model.proofs.Transport.{sourced-settled}
 use Rattle.model.proofs.Marking.{keep-kept, release-kept}
 use Rattle.model.proofs.Stamping.{cover-kept, enter-kept, show-kept}

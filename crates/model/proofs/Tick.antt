@@ -9,11 +9,14 @@ use native.Mathlib.Omega.{arith}
 use lib.Dec.{ltb, eqb}
 use lib.ListN.{getD}
 use borrow.Author.Tests as Tests
-use Rattle.model.specs.Store.{absent, Reading, Slot, Range, markCount, OpenAnnounce, OpenPass, CloseWithdraw, MarkKeep, MarkRelease, Doing, Idle, PutPublish, PutStamp, PutHandIn, FlushTake, FlushRead, FlushFree, OnTime, ReadEnter, ReadStand, GetShow, Store, workerAt, slotAt, withClock, place}
+use Rattle.model.specs.Store.{absent, Reading, Slot, Range, markCount, OpenAnnounce, OpenPass, CloseWithdraw, MarkKeep, MarkRelease}
+use Rattle.model.specs.Store.{Doing, Idle, PutPublish, PutStamp, PutHandIn, FlushTake, FlushRead, FlushFree, OnTime, ReadEnter}
+use Rattle.model.specs.Store.{ReadStand, GetShow, Store, workerAt, slotAt, withClock, place}
 use Rattle.model.specs.About.{Effect, NoEffect, ByStamp, ByClock, about}
 use Rattle.model.specs.Answer.{At}
 use Rattle.model.specs.Record.{Operation, Open}
-use Rattle.model.specs.Demand.{FinishedAt, Call, endFor, Plain, feed, runningOf, stampedOver, passed, comes, filterBelow, changeEffects, atEnd, endEffects, occurrences, Agrees, callAt}
+use Rattle.model.specs.Demand.{FinishedAt, Call, endFor, Plain, feed, runningOf, stampedOver, passed, comes, filterBelow}
+use Rattle.model.specs.Demand.{changeEffects, atEnd, endEffects, occurrences, Agrees, callAt}
 use Rattle.model.proofs.Basic.{hit-same, hit-other, eq-cases, lt-cases, le-cases, All-map, occurrences-snoc, map-app}
 use Rattle.model.proofs.Effect.{running-is, own-not, takes, never, change-none}
 use Rattle.model.proofs.Linear.{Lin, lin-effect}

@@ -6,7 +6,9 @@ use mathlib.Core.List.{List, [], _∷_}
 use Prim.Native.Nat.{ℕ, _+_, _≤_, _<_}
 use native.Mathlib.Omega.{arith}
 use lib.ListN.{length}
-use Rattle.model.specs.Store.{absent, markCount, Reading, Slot, Range, TimeStep, OpenAnnounce, OpenPass, CloseWithdraw, MarkKeep, MarkRelease, Purpose, Single, Marked, Totaling, Goal, Doing, Idle, PutPublish, PutStamp, PutHandIn, FlushTake, FlushRead, FlushFree, OnTime, ReadEnter, ReadStand, GetShow}
+use Rattle.model.specs.Store.{absent, markCount, Reading, Slot, Range, TimeStep, OpenAnnounce, OpenPass, CloseWithdraw, MarkKeep}
+use Rattle.model.specs.Store.{MarkRelease, Purpose, Single, Marked, Totaling, Goal, Doing, Idle, PutPublish, PutStamp, PutHandIn}
+use Rattle.model.specs.Store.{FlushTake, FlushRead, FlushFree, OnTime, ReadEnter, ReadStand, GetShow}
 use Rattle.model.specs.About.{about}
 use Rattle.model.specs.Record.{Operation}
 use Rattle.model.specs.Demand.{Call, Plain, occurrences, All, callAt}
@@ -14,7 +16,9 @@ use Rattle.model.proofs.Basic.{hit-same}
 use Rattle.model.proofs.Slots.{nth}
 use Rattle.model.proofs.Chain.{On, Fine, Past, Next}
 use Rattle.model.proofs.Count.{cnt}
-use Rattle.model.proofs.Invariant.{Ctx, top, old, chain, inDoing, Good, Settled, Asked, AskedOf, Spared, timeIn, copyFor, Sourced, Summed, TimeHolds, PlaceHolds, Running, NoneRunning, FitsTime, FitsFlush, Fits, CurrentOf, Current}
+use Rattle.model.proofs.Invariant.{Ctx, top, old, chain, inDoing, Good, Settled, Asked, AskedOf, Spared, timeIn, copyFor, Sourced}
+use Rattle.model.proofs.Invariant.{Summed, TimeHolds, PlaceHolds, Running, NoneRunning, FitsTime, FitsFlush, Fits, CurrentOf}
+use Rattle.model.proofs.Invariant.{Current}
 
 -- what holds of the ranges of a list may be shown of each with its slot counted
 pub All-cnt : {P Q : Range → Type 0} (m : List Range) → ((ρ : Range) → 0 < cnt (ρ .slot) m → P ρ → Q ρ) → All P m → All Q m

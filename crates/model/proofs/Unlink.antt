@@ -9,7 +9,9 @@ use lib.Dec.{eqb}
 use lib.ListN.{length, set, length-set, length-map}
 use lib.Seq.{getD-set-same, getD-set-other}
 use borrow.Author.Tests as Tests
-use Rattle.model.specs.Store.{absent, markCount, Reading, Slot, Range, Purpose, Single, Marked, Totaling, Goal, Doing, PutStamp, FlushFree, ReadStand, Worker, startWorker, Store, workerAt, markAt, holders, held, withDoing, withSlots, withFree, withWorkers}
+use Rattle.model.specs.Store.{absent, markCount, Reading, Slot, Range, Purpose, Single, Marked, Totaling, Goal, Doing, PutStamp}
+use Rattle.model.specs.Store.{FlushFree, ReadStand, Worker, startWorker, Store, workerAt, markAt, holders, held, withDoing, withSlots}
+use Rattle.model.specs.Store.{withFree, withWorkers}
 use Rattle.model.specs.About.{Stance, Nowhere, StandsOn, about}
 use Rattle.model.specs.Versions.{unlinkSlots}
 use Rattle.model.specs.Steps.{moveOff, workerOff}
@@ -17,10 +19,12 @@ use Rattle.model.specs.Demand.{Call, Plain, occurrences, All, callAt}
 use Rattle.model.proofs.Basic.{hit, hit-same, hit-eq, hit-other, eq-cases, getD-map, All-map}
 use Rattle.model.proofs.Linear.{lin-skip}
 use Rattle.model.proofs.Slots.{nth, unlink-length, unlink-own, unlink-part, unlink-older-other, unlink-newer-other}
-use Rattle.model.proofs.Chain.{Linked, Linked-same, Linked-unlink, neighbours, remove, remove-own, remove-other, remove-times, Sees, Sees-mono, Sees-remove, On, On-mono, On-remove, On-moves, Fine, Past, Next}
+use Rattle.model.proofs.Chain.{Linked, Linked-same, Linked-unlink, neighbours, remove, remove-own, remove-other, remove-times, Sees}
+use Rattle.model.proofs.Chain.{Sees-mono, Sees-remove, On, On-mono, On-remove, On-moves, Fine, Past, Next}
 use Rattle.model.proofs.Count.{cnt, sumBy-set, sumBy-one, sumBy-two, sumBy-map}
 use Rattle.model.proofs.View.{off-cases, off-keeps}
-use Rattle.model.proofs.Invariant.{Ctx, ctx, top, old, chain, inDoing, pendW, pend, Good, Spared, timeIn, Sourced, PlaceHolds, Current, Works, Inv, held-worker, held-mark, held-same}
+use Rattle.model.proofs.Invariant.{Ctx, ctx, top, old, chain, inDoing, pendW, pend, Good, Spared, timeIn, Sourced, PlaceHolds}
+use Rattle.model.proofs.Invariant.{Current, Works, Inv, held-worker, held-mark, held-same}
 use Rattle.model.proofs.Apart.{below≤1, chain-once, chain-in, chain-apart, free-in, pend-chain, pend-top}
 use Rattle.model.proofs.Transport.{stays, Moves, doing-map, fits-map, current-map, Fine-same, spared}
 use Rattle.model.proofs.Places.{Kept, doing-is, cur-is}

@@ -4,7 +4,8 @@ use mathlib.Core.Bool.{true, false, true≢false}
 use mathlib.Core.Logic.{_⊎_, inl, inr, ⊎-elim}
 use mathlib.Core.List.{List}
 use Prim.Native.Nat.{ℕ}
-use Rattle.model.specs.Store.{OpenAnnounce, OpenPass, CloseWithdraw, MarkKeep, MarkRelease, Goal, Doing, Idle, PutPublish, PutStamp, PutHandIn, FlushTake, FlushRead, FlushFree, OnTime, ReadEnter, ReadStand, GetShow}
+use Rattle.model.specs.Store.{OpenAnnounce, OpenPass, CloseWithdraw, MarkKeep, MarkRelease, Goal, Doing, Idle, PutPublish, PutStamp}
+use Rattle.model.specs.Store.{PutHandIn, FlushTake, FlushRead, FlushFree, OnTime, ReadEnter, ReadStand, GetShow}
 use Rattle.model.specs.Steps.{moveOff}
 use Rattle.model.specs.Record.{Operation, Put, Open, Read, Close, Get, Collect, Total, Mark, Release, MarkedRead}
 use Rattle.model.specs.Apply.{terms}

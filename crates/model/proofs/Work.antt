@@ -8,7 +8,8 @@ use native.Mathlib.Omega.{arith}
 use lib.Dec.{ltb}
 use lib.ListN.{length, getD, set, length-set}
 use lib.Seq.{getD-set-same, getD-set-other}
-use Rattle.model.specs.Store.{absent, markCount, Reading, Range, Purpose, Single, Marked, Totaling, Goal, Doing, PutStamp, ReadStand, Worker, startWorker, Store, workerAt, markAt, held, withQueue, withMarks, withWorker}
+use Rattle.model.specs.Store.{absent, markCount, Reading, Range, Purpose, Single, Marked, Totaling, Goal, Doing, PutStamp, ReadStand}
+use Rattle.model.specs.Store.{Worker, startWorker, Store, workerAt, markAt, held, withQueue, withMarks, withWorker}
 use Rattle.model.specs.Record.{Operation}
 use Rattle.model.specs.Demand.{Call, Plain, occurrences, All, callAt}
 use Rattle.model.specs.Reached.{sumBy}

@@ -6,7 +6,9 @@ use mathlib.Core.Option.{Option, none, some}
 use Prim.Native.Nat.{ℕ, zero, suc, _-_}
 use lib.Dec.{ltb, leb}
 use lib.ListN.{length, take, replicate}
-use Rattle.model.specs.Store.{absent, lastClock, reading₀, Slot, markCount, OpenAnnounce, CloseWithdraw, MarkKeep, MarkRelease, Single, Marked, Doing, PutPublish, FlushTake, OnTime, ReadEnter, GetShow, startWorker, Store, Hub, blank, up, upFrom, workerAt, place}
+use Rattle.model.specs.Store.{absent, lastClock, reading₀, Slot, markCount, OpenAnnounce, CloseWithdraw, MarkKeep, MarkRelease}
+use Rattle.model.specs.Store.{Single, Marked, Doing, PutPublish, FlushTake, OnTime, ReadEnter, GetShow, startWorker, Store, Hub}
+use Rattle.model.specs.Store.{blank, up, upFrom, workerAt, place}
 use Rattle.model.specs.About.{about}
 use Rattle.model.specs.Marks.{MarkNeed, NoMark, EmptyMark, HeldMark, UnreadMark, markOf, markRefusal}
 use Rattle.model.specs.Rules.{Rules, Ruled}
@@ -14,7 +16,8 @@ use Rattle.model.specs.Totals.{sum₀, firstOf}
 use Rattle.model.specs.Answer.{Answer, Ok, No, Applied}
 use Rattle.model.specs.Versions.{alone}
 use Rattle.model.specs.Steps.{goalAt, stepAt}
-use Rattle.model.specs.Record.{Operation, Put, Open, Read, Close, Get, Collect, Total, Mark, Release, MarkedRead, Sizes, Command, SetUp, Begin, Step, Decoded, Asks, Refuses, decode, rowsOf, listFits}
+use Rattle.model.specs.Record.{Operation, Put, Open, Read, Close, Get, Collect, Total, Mark, Release, MarkedRead, Sizes, Command}
+use Rattle.model.specs.Record.{SetUp, Begin, Step, Decoded, Asks, Refuses, decode, rowsOf, listFits}
 
 -- H7.4: a refusal on reading changes nothing
 abbrev pub refuse : Hub → ℕ → Applied

@@ -11,7 +11,8 @@ use Rattle.model.specs.Rules.{document01, inForce, Ruled, under}
 use Rattle.model.specs.Answer.{Answer, Ok, Going, At, Value, No}
 use Rattle.model.specs.Ranges.{needed, merge}
 use Rattle.model.specs.Steps.{flushSplit}
-use Rattle.model.specs.Record.{Put, Open, Read, Close, Get, Collect, Total, Mark, Release, MarkedRead, Command, SetUp, Begin, Step, Asks, Refuses, decode, rowsOf}
+use Rattle.model.specs.Record.{Put, Open, Read, Close, Get, Collect, Total, Mark, Release, MarkedRead, Command, SetUp, Begin, Step}
+use Rattle.model.specs.Record.{Asks, Refuses, decode, rowsOf}
 use Rattle.model.specs.Apply.{hubAfter, answersTo}
 use Rattle.model.specs.Row.{bytesOf}
 use Rattle.model.specs.Log.{text, logOf}

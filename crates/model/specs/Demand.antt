@@ -15,13 +15,15 @@ use mathlib.Core.Option.{Option, none, some}
 use Prim.Native.Nat.{ℕ, zero, suc, _+_, _≤_, _<_}
 use lib.Dec.{ltb, leb, eqb}
 use lib.ListN.{length, getD}
-use Rattle.model.specs.Store.{absent, Reading, Slot, Doing, PutPublish, Store, Hub, blank, up, workerAt, slotAt, newestOf, holders, held}
+use Rattle.model.specs.Store.{absent, Reading, Slot, Doing, PutPublish, Store, Hub, blank, up, workerAt, slotAt, newestOf, holders}
+use Rattle.model.specs.Store.{held}
 use Rattle.model.specs.About.{Effect, NoEffect, ByStamp, ByClock, about}
 use Rattle.model.specs.Rules.{Ruled}
 use Rattle.model.specs.Totals.{Sum, sum₀, registerOf, ofGroup, addRow}
 use Rattle.model.specs.Answer.{Answer, Ok, Going, Freed, Done, said}
 use Rattle.model.specs.Steps.{answerFor, signed}
-use Rattle.model.specs.Record.{Operation, Put, Open, Read, Close, Get, Collect, Total, Mark, Release, MarkedRead, SetUp, Begin, Step, Decoded, Asks, Refuses, decode}
+use Rattle.model.specs.Record.{Operation, Put, Open, Read, Close, Get, Collect, Total, Mark, Release, MarkedRead, SetUp, Begin, Step}
+use Rattle.model.specs.Record.{Decoded, Asks, Refuses, decode}
 use Rattle.model.specs.Apply.{takesStep, applyRuled}
 
 ------------------------------------------------------------------------

@@ -1,15 +1,15 @@
 -- What holds of every hub that records leave, besides demand 3: the bounds that memory is sized by (H6.24), and refusal 14 as H7 words it.
 -- Proved in proofs/Reached.antt from the invariant of proofs/Invariant.antt.
 use mathlib.Core.Path.{_≡_}
-use mathlib.Core.Logic.{_⊎_}
 use mathlib.Core.Bool.{true, cond}
-use mathlib.Core.Logic.{_↔_}
+use mathlib.Core.Logic.{_⊎_, _↔_}
 use mathlib.Core.List.{List, [], _∷_}
 use Prim.Native.Nat.{ℕ, zero, suc, _+_, _*_, _-_, _≤_, _<_}
 use lib.Dec.{ltb}
 use lib.ListN.{length}
 use Rattle.model.specs.Totals.{groupOf, rowAt, ofGroup, follow}
-use Rattle.model.specs.Store.{absent, markCount, lastClock, Reading, Slot, Purpose, Single, Marked, Totaling, PutPublish, Worker, Store, Hub, blank, up, workerAt, slotAt, newestOf, markAt}
+use Rattle.model.specs.Store.{absent, markCount, lastClock, Reading, Slot, Purpose, Single, Marked, Totaling, PutPublish, Worker}
+use Rattle.model.specs.Store.{Store, Hub, blank, up, workerAt, slotAt, newestOf, markAt}
 use Rattle.model.specs.About.{Hand, Empty, Covered, Merged, Needless, about}
 use Rattle.model.specs.Rules.{Rules, twelveDigits, Allowed, Ruled}
 use Rattle.model.specs.Answer.{Ok, No}

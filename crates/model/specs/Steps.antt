@@ -5,7 +5,11 @@ use mathlib.Core.Option.{Option, none, some}
 use Prim.Native.Nat.{ℕ, _+_, _-_}
 use lib.Dec.{ltb, leb, eqb}
 use lib.ListN.{length, set, drop}
-use Rattle.model.specs.Store.{absent, lastClock, Reading, Range, TimeStep, OpenAnnounce, OpenPass, CloseWithdraw, MarkKeep, MarkRelease, Purpose, Single, Marked, Totaling, Goal, Doing, Idle, PutPublish, PutStamp, PutHandIn, FlushTake, FlushRead, FlushFree, OnTime, ReadEnter, ReadStand, GetShow, Worker, Store, workerAt, slotAt, newestOf, rangeOf, withClock, withSlots, withNewest, withFree, withQueue, withWorkers, withMarks, withWorker, withDoing, place}
+use Rattle.model.specs.Store.{absent, lastClock, Reading, Range, TimeStep, OpenAnnounce, OpenPass, CloseWithdraw, MarkKeep}
+use Rattle.model.specs.Store.{MarkRelease, Purpose, Single, Marked, Totaling, Goal, Doing, Idle, PutPublish, PutStamp, PutHandIn}
+use Rattle.model.specs.Store.{FlushTake, FlushRead, FlushFree, OnTime, ReadEnter, ReadStand, GetShow, Worker, Store, workerAt, slotAt}
+use Rattle.model.specs.Store.{newestOf, rangeOf, withClock, withSlots, withNewest, withFree, withQueue, withWorkers, withMarks}
+use Rattle.model.specs.Store.{withWorker, withDoing, place}
 use Rattle.model.specs.About.{Stance, Nowhere, StandsOn, about}
 use Rattle.model.specs.Marks.{EmptyMark, UnreadMark, markRefusal, needFor, timeFor}
 use Rattle.model.specs.Rules.{twelveDigits}

@@ -5,7 +5,8 @@ use Prim.Native.Nat.{ℕ, suc, _+_, _-_, _≤_, _<_}
 use native.Mathlib.Numerals.{add-one}
 use native.Mathlib.Omega.{arith}
 use lib.ListN.{length, take, drop, getD, set, length-append, length-drop}
-use lib.Seq.{paste, paste-zero, paste-suc, length-take-le, take-all, take-at, take-append-seam, drop-append-seam, drop-append-add, drop-drop, drop-at}
+use lib.Seq.{paste, paste-zero, paste-suc, length-take-le, take-all, take-at, take-append-seam, drop-append-seam, drop-append-add}
+use lib.Seq.{drop-drop, drop-at}
 use Rattle.lists.specs.Over.{over, overAt, shifted}
 use Rattle.lists.proofs.Over.{over-push, length-over}
 

@@ -8,7 +8,8 @@ use lib.Dec.{ltb, lit<, lit≤}
 use lib.ListN.{length, getD, take}
 use lib.Seq.{take-all, length-take-le, getD-take}
 use borrow.Author.Tests.{ltb-true, ltb-false}
-use Rattle.model.specs.Record.{number, zeros, Command, SetUp, Begin, Step, Put, Open, Read, Close, Get, Collect, Total, Mark, Release, MarkedRead}
+use Rattle.model.specs.Record.{number, zeros, Command, SetUp, Begin, Step, Put, Open, Read, Close, Get, Collect, Total, Mark, Release}
+use Rattle.model.specs.Record.{MarkedRead}
 use Rattle.model.specs.Record.{Decoded, Asks, Refuses, commandOf, unusedZero, decode}
 use Rattle.values.specs.declared.Answer.{Answer}
 use Rattle.state.specs.State.{workerIn}

@@ -22,7 +22,8 @@ use Rattle.simulation.specs.Memory.{Memory, hubRep, handWords, inHandWor
 use Rattle.simulation.specs.Left.{Sized}
 use Rattle.simulation.specs.Shell.{obeyIn}
 use Rattle.simulation.proofs.Sound.{Sound}
-use Rattle.simulation.proofs.Laid.{write-kept, memory-path, hub-is, slots-is, newest-is, free-is, queue-is, lens-is, worker-at, worker-put, list-kept}
+use Rattle.simulation.proofs.Laid.{write-kept, memory-path, hub-is, slots-is, newest-is, free-is, queue-is, lens-is, worker-at}
+use Rattle.simulation.proofs.Laid.{worker-put, list-kept}
 use Rattle.simulation.proofs.Refuse.{Follows}
 
 -- an operation begins with no time read, no mark and no list in hand

@@ -55,7 +55,8 @@ use Rattle.announcing.specs.Announcing.{openAnnounceStep, openPassStep, closeWi
 use Rattle.step.specs.Step.{signedOf, totalFoundOf, foundOf, putPublishStep, putStampStep, readEnterStep, readStandStep, getShowStep}
 use Rattle.flush.specs.Flush.{handedPool, putHandInStep}
 use Rattle.simulation.specs.Memory.{Memory, withHub}
-use Rattle.simulation.specs.Shell.{Result, rowsKept, marksRead, readAfter, takenIn, handedIn, tookIn, readIn, allReadIn, markedIn, splitIn, freedIn, nextIn, finishIn, goIn}
+use Rattle.simulation.specs.Shell.{Result, rowsKept, marksRead, readAfter, takenIn, handedIn, tookIn, readIn, allReadIn, markedIn}
+use Rattle.simulation.specs.Shell.{splitIn, freedIn, nextIn, finishIn, goIn}
 use Rattle.simulation.specs.Shell.{answered, obeyIn, gateIn, doneAs}
 use Rattle.simulation.specs.Public.{idleIn, takesStepIn, idledIn, EndsBy, OnAny}
 use Rattle.simulation.proofs.Gates.{gateBy}

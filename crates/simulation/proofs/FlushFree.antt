@@ -37,7 +37,8 @@ use Rattle.simulation.specs.Shell.{offWorker, freedIn, nextIn, goIn}
 use Rattle.simulation.proofs.Laws.{free-push, merged-map, reads-kept}
 use Rattle.simulation.proofs.Sound.{Sound, Apart, PlaceIn}
 use Rattle.simulation.proofs.Simulates.{Simulates, recordAt, simulated}
-use Rattle.simulation.proofs.Laid.{write-kept, cond-yes, cond-no, memory-path, hub-is, slots-is, newest-is, free-is, queue-is, lens-is, slot-is}
+use Rattle.simulation.proofs.Laid.{write-kept, cond-yes, cond-no, memory-path, hub-is, slots-is, newest-is, free-is, queue-is}
+use Rattle.simulation.proofs.Laid.{lens-is, slot-is}
 use Rattle.simulation.proofs.Laid.{place-at, times-kept, worker-put, list-is, list-kept}
 use Rattle.simulation.proofs.Rows.{unlinked-row}
 use Rattle.simulation.proofs.FlushReaders.{Placed, off-list, off-times, off-all-reads, off-records}

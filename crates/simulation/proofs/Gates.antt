@@ -18,7 +18,8 @@ use Rattle.model.specs.Rules.{inForce}
 use Rattle.model.specs.Answer.{Ok, Stepped, Applied}
 use Rattle.model.specs.Record as Record
 use Rattle.model.specs.Steps.{stepAt}
-use Rattle.model.specs.Apply.{refuse, Terms, terms, namedBelow, groupThere, valueWithin, isIdle, mayOpen, mayUseTime, setUp, refusedBy, begin, step, obey, applyDecoded}
+use Rattle.model.specs.Apply.{refuse, Terms, terms, namedBelow, groupThere, valueWithin, isIdle, mayOpen, mayUseTime, setUp, refusedBy}
+use Rattle.model.specs.Apply.{begin, step, obey, applyDecoded}
 use Rattle.model.proofs.Basic.{and-both}
 use Rattle.model.proofs.View.{idle-is}
 use Rattle.worker.specs.declared.Worker.{Worker}

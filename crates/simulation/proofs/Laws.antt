@@ -5,8 +5,10 @@ use Prim.Native.Nat.{ℕ, zero, suc, _+_, _-_, _*_, _≤_, _<_}
 use native.Mathlib.Nat.{le-of-suc-le-suc, not-suc-le-zero}
 use native.Mathlib.Omega.{arith}
 use native.Mathlib.Nat.{mul-comm, suc-mul, mul-le-mul-right}
-use lib.ListN.{length, getD, set, take, drop, replicate, length-append, length-take, length-drop, length-set, length-map, length-reverse, take-append-drop}
-use lib.Seq.{take-append-le, drop-append-le, take-set-lt, drop-set-lt, length-take-le, set-append-left, take-all, drop-append-add, drop-at, take-at, take-add, drop-drop, getD-at, set-getD}
+use lib.ListN.{length, getD, set, take, drop, replicate, length-append, length-take, length-drop, length-set, length-map, length-reverse}
+use lib.ListN.{take-append-drop}
+use lib.Seq.{take-append-le, drop-append-le, take-set-lt, drop-set-lt, length-take-le, set-append-left, take-all, drop-append-add, drop-at}
+use lib.Seq.{take-at, take-add, drop-drop, getD-at, set-getD}
 use borrow.Author.Tests.{lt-ltb}
 use Rattle.lists.specs.Over.{over, overAt}
 use Rattle.lists.proofs.Over.{over-push, getD-over-in}

@@ -27,7 +27,8 @@ use Rattle.simulation.specs.Shell.{markedIn, nextIn, finishIn, goIn}
 use Rattle.simulation.proofs.Facts.{markNeedRep}
 use Rattle.simulation.proofs.Sound.{Sound}
 use Rattle.simulation.proofs.Simulates.{Simulates, recordAt, simulated}
-use Rattle.simulation.proofs.Laid.{write-kept, memory-path, hub-is, slots-is, newest-is, free-is, queue-is, lens-is, worker-put, list-kept, place-at}
+use Rattle.simulation.proofs.Laid.{write-kept, memory-path, hub-is, slots-is, newest-is, free-is, queue-is, lens-is, worker-put}
+use Rattle.simulation.proofs.Laid.{list-kept, place-at}
 use Rattle.simulation.proofs.Found.{stepFound, step-is, time-is}
 use Rattle.simulation.proofs.Marks.{numberOf, UnreadIn, refusal-same, Numbered, numbered}
 use Rattle.simulation.proofs.Kept.{kept-sim}

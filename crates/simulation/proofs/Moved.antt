@@ -51,14 +51,17 @@ module _ (s : Store) (m : Memory) (w : ℕ) (S : Sound s) (laid : m ≡ write s 
       → (x : Model.Worker) (ps : List (List Range)) (y : Answer) (X : Worker) (q : Queue) (ts g : List ℕ)
       → stepAt s w d ≡ record { store = withQueue (withWorker s w x) ps; answer = answerOf y }
       → goIn m w (recordAt s w d) (doingRep d) ≡ record { memory = movedIn m w X q ts g; answer = y }
-      → X ≡ workerRep x → q ≡ queueRep ps (withWindow (queueIn m) (windowAfter (s .queue) ps (m .hub .window))) → ts ≡ timesOver (set (s .workers) w x) (m .hub .times) → g ≡ mergedOver (set (s .workers) w x) (m .merged)
+      → X ≡ workerRep x → q ≡ queueRep ps (withWindow (queueIn m) (windowAfter (s .queue) ps (m .hub .window)))
+      → ts ≡ timesOver (set (s .workers) w x) (m .hub .times) → g ≡ mergedOver (set (s .workers) w x) (m .merged)
       → readOf x ≡ readBy (doingRep d) → Simulates s m w d
   moved-sim d e x ps y X q ts g model code own queue times merged reads =
       simulated s m w d S laid wb e _ _ model code
       (memory-path
       (ap (λ (z : Worker). movedHub (m .hub) w z q ts) own
       ∙ ap (λ (h : Hub). movedHub h w (workerRep x) q ts) (hub-is s m laid)
-      ∙ ap (λ (h : Hub). withTimesIn (withWindowIn h (q .window)) ts) (worker-same s (m .hub) w x (S .bounds .workers .2) (S .bounds .workers .1) wb (reads ∙ ap (λ (z : Model.Doing). readBy (doingRep z)) (sym e)))
+      ∙ ap (λ (h : Hub). withTimesIn (withWindowIn h (q .window)) ts)
+      (worker-same s (m .hub) w x (S .bounds .workers .2) (S .bounds .workers .1) wb
+      (reads ∙ ap (λ (z : Model.Doing). readBy (doingRep z)) (sym e)))
       ∙ (λ i. withTimesIn (withWindowIn (hubRep (withWorker s w x) (m .hub)) (queue i .window)) (times i)))
       (slots-is s m laid) (newest-is s m laid) (free-is s m laid) (ap (λ (z : Queue). z .queue) queue) (ap (λ (z : Queue). z .lens) queue) merged)
       refl

@@ -14,7 +14,8 @@ use Rattle.model.specs.Totals.{goesOn, Sum}
 use Rattle.model.specs.Answer.{Answer, Ok, Going, Freed, At, Value, Below, Done, No, Stepped, Applied}
 use Rattle.model.specs.Record.{SetUp, Begin, Step, Decoded, Asks, Refuses, commandOf, unusedZero, decode, listFits}
 use Rattle.model.specs.Steps.{putPublish, putStamp, putHandIn, flushTake, flushSplit, flushRead, flushFree}
-use Rattle.model.specs.Steps.{openAnnounce, openPass, answerFor, signed, totalFound, found, readEnter, readStand, getShow, closeWithdraw, stoppedBy, markKeep, markRelease, timeStep, stepAt}
+use Rattle.model.specs.Steps.{openAnnounce, openPass, answerFor, signed, totalFound, found, readEnter, readStand, getShow, closeWithdraw}
+use Rattle.model.specs.Steps.{stoppedBy, markKeep, markRelease, timeStep, stepAt}
 use Rattle.model.specs.Marks.{MarkNeed, EmptyMark, UnreadMark, markRefusal, needFor, timeFor}
 use Rattle.model.specs.Apply.{inRanges, setUp, step, obey, applyDecoded, apply}
 use Rattle.model.specs.Demand.{All}

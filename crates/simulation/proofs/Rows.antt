@@ -18,7 +18,8 @@ use Rattle.model.proofs.Basic.{eq-cases}
 use Rattle.worker.specs.Rep.{readingRep}
 use Rattle.slots.specs.declared.Slot.{Slot}
 use Rattle.slots.specs.Slots.{slotRep}
-use Rattle.versions.specs.Versions.{withLow, withHigh, withOlder, withNewer, aloneSlot, publishedSlot, changeIn, stampedIn, linkedIn, unlinkedIn}
+use Rattle.versions.specs.Versions.{withLow, withHigh, withOlder, withNewer, aloneSlot, publishedSlot, changeIn, stampedIn, linkedIn}
+use Rattle.versions.specs.Versions.{unlinkedIn}
 use Rattle.simulation.proofs.Laws.{slot-at, slot-set}
 
 -- the model's slots l lie in front of the row d

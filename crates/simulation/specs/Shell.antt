@@ -18,7 +18,8 @@ use Rattle.worker.specs.declared.Worker.{Worker}
 use Rattle.worker.specs.Rep.{poolRep}
 use Rattle.marks.specs.Marks.{readNext}
 use Rattle.state.specs.declared.Hub.{Hub}
-use Rattle.state.specs.State.{freshHub, workerIn, atPlace, withWorkersIn, withWorkerIn, withClockIn, withFreeIn, withWindowIn, withTimesIn, withMarksIn, withReadingIn}
+use Rattle.state.specs.State.{freshHub, workerIn, atPlace, withWorkersIn, withWorkerIn, withClockIn, withFreeIn, withWindowIn, withTimesIn}
+use Rattle.state.specs.State.{withMarksIn, withReadingIn}
 use Rattle.arrays.specs.Arrays.{short, fillTo}
 use Rattle.gate.specs.declared.Gate.{Gate}
 use Rattle.gate.specs.declared.Gate.the-variants.{Refuse, Make, Start, Go}

@@ -13,7 +13,8 @@ use base.Fml.{Lft, GName, Share, Fml, ftrue, fsep, feq, flft}
 use prog.Wp.{Heap, Env, Calls, Loops}
 use ghost.Atoms.{Atoms, sem}
 use contract.Monad.{fact}
-use types.Kit.{Given, Item, Post, runs, lands, mean, Seq, ‵, raw, _⊛_, some, later, _$_, move, drop, use0, use1, use2, use3, split, pick, rewrite, regoal, fsplit, feqL, await}
+use types.Kit.{Given, Item, Post, runs, lands, mean, Seq, ‵, raw, _⊛_, some, later, _$_, move, drop, use0, use1, use2, use3, split, pick}
+use types.Kit.{rewrite, regoal, fsplit, feqL, await}
 use types.Run.{Opds}
 use types.Tokens.{lft-new, lft-end}
 use sound.WpLaws.{FmC}

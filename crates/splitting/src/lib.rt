@@ -9,7 +9,8 @@ ghost use Rattle.ranges.specs.Words.{rangesAt, flat};
 ghost use Rattle.queue.specs.State.{poolsIn};
 ghost use Rattle.worker.specs.Pool.{rangesIn};
 ghost use Rattle.flush.specs.Flush.{partOf, withPart, timesOf};
-ghost use Rattle.splitting.specs.Splitting.{requeued, joinedAfter, mayCut, splitLeft, splitQueue, splitMerged, splitNeeded, splitLocal, splitJoined};
+ghost use Rattle.splitting.specs.Splitting.{requeued, joinedAfter, mayCut, splitLeft, splitQueue, splitMerged, splitNeeded};
+ghost use Rattle.splitting.specs.Splitting.{splitLocal, splitJoined};
 use values::Window;
 use worker::Pool;
 
@@ -86,7 +87,13 @@ fn split_part(
 ) -> usize
     requires { ⌜ (w < 16) × (m ≤ 256) × (read ≤ 28) × (length (now merged) ≡ 12288) ⌝ }
     ensures { λ r. ⌜ r ≡ length (needlessOf (take read (timesOf (now (times .entry)) w)) (rangesAt (partOf (now (merged .entry)) w) 0 m)) ⌝ }
-    ensures { λ _. ⌜ now (merged .exit) ≡ withPart (now (merged .entry)) w (over (flat (reverse (needlessOf (take read (timesOf (now (times .entry)) w)) (rangesAt (partOf (now (merged .entry)) w) 0 m)))) (partOf (now (merged .entry)) w)) ⌝ }
+    ensures { λ _. ⌜
+        now (merged .exit)
+        ≡ withPart (now (merged .entry)) w
+        (over
+        (flat (reverse (needlessOf (take read (timesOf (now (times .entry)) w)) (rangesAt (partOf (now (merged .entry)) w) 0 m))))
+        (partOf (now (merged .entry)) w))
+        ⌝ }
     ensures { λ _. ⌜ now (needed .exit) ≡ over (flat (neededOf (take read (timesOf (now (times .entry)) w)) (rangesAt (partOf (now (merged .entry)) w) 0 m))) (now (needed .entry)) ⌝ }
 {
     let at = 768 * w;

@@ -11,7 +11,8 @@ use Rattle.versions.specs.Versions.{slotAtIn, stampedIn}
 use Rattle.versions.proofs.Lengths.{either, length-stamped, length-linked}
 use Rattle.worker.specs.declared.Announced.{Announced}
 use Rattle.worker.specs.declared.Doing.{Doing}
-use Rattle.worker.specs.declared.Doing.the-variants.{Idle, PutPublish, PutStamp, PutHandIn, FlushTake, FlushRead, FlushFree, OnTime, ReadEnter, ReadStand, GetShow}
+use Rattle.worker.specs.declared.Doing.the-variants.{Idle, PutPublish, PutStamp, PutHandIn, FlushTake, FlushRead, FlushFree, OnTime}
+use Rattle.worker.specs.declared.Doing.the-variants.{ReadEnter, ReadStand, GetShow}
 use Rattle.marks.specs.Marks.{refusalIn}
 use Rattle.step.specs.Step.{Stepped, newestAt, nextFree, putPublishStep, putStampStep, needOf, readEnterStep, getShowStep, stepOf}
 

@@ -11,7 +11,8 @@ use Rattle.model.specs.Store.{absent}
 use Rattle.slots.specs.declared.Slot.{Slot}
 use Rattle.worker.specs.declared.Announced.{Announced}
 use Rattle.worker.specs.declared.Doing.{Doing}
-use Rattle.worker.specs.declared.Doing.the-variants.{Idle, PutPublish, PutStamp, PutHandIn, FlushTake, FlushRead, FlushFree, OnTime, ReadEnter, ReadStand, GetShow}
+use Rattle.worker.specs.declared.Doing.the-variants.{Idle, PutPublish, PutStamp, PutHandIn, FlushTake, FlushRead, FlushFree, OnTime}
+use Rattle.worker.specs.declared.Doing.the-variants.{ReadEnter, ReadStand, GetShow}
 use Rattle.worker.specs.declared.TimeStep.{TimeStep}
 use Rattle.worker.specs.declared.TimeStep.the-variants.{OpenAnnounce, OpenPass, CloseWithdraw, MarkKeep, MarkRelease}
 use Rattle.worker.specs.Rep.{timeOf}
@@ -19,7 +20,8 @@ use Rattle.marks.specs.declared.MarkNeed.the-variants.{Empty, Unread}
 use Rattle.marks.specs.Marks.{refusalIn}
 use Rattle.step.specs.declared.Next.{Next}
 use Rattle.step.specs.declared.Next.the-variants.{Taken, HandIn, Take, Read, ReadMarks, Split, Free, Mark}
-use Rattle.step.specs.Step.{Stepped, putPublishStep, putStampStep, stopped, needOf, readEnterStep, getShowStep, timeStepOf, freeOrDone, stepOf}
+use Rattle.step.specs.Step.{Stepped, putPublishStep, putStampStep, stopped, needOf, readEnterStep, getShowStep, timeStepOf}
+use Rattle.step.specs.Step.{freeOrDone, stepOf}
 
 abbrev pub Said : ℕ → Next → Type 0
 Said p (Taken o) = Unit {0}

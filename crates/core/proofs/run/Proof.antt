@@ -14,7 +14,8 @@ use Rattle.lists.proofs.Mapped.{mapped, length-mapped}
 use Rattle.core.proofs.Moving.{move-one, move-none}
 use Rattle.core.proofs.Tested.{ready-few}
 use Rattle.core.proofs.Loop.{stateOf, SoFar, words-long, named-by, deciding, below, workers, told, on-refuse}
-use Rattle.core.proofs.Loop.{on-make, on-start, on-taken, on-hand-in, on-take, on-read, on-read-marks, on-mark, on-split, on-free, ready-is, finished}
+use Rattle.core.proofs.Loop.{on-make, on-start, on-taken, on-hand-in, on-take, on-read, on-read-marks, on-mark, on-split, on-free}
+use Rattle.core.proofs.Loop.{ready-is, finished}
 use Rattle.core.proofs.run.Statement.{statement}
 use Rattle.core.proofs.run.Tie as tie
 
@@ -228,14 +229,16 @@ put-answer-requires-4 c κs = tt
 add-k-4 : tie.Need-add-k-4 Inv-loop2 μ-loop2 Inv-loop μ-loop
 add-k-4 c =
     let J = c .before .before .before .before .before .before .before .before .before .before .before .before .before .before .before in
-    let I = J .before .before .before .before .before .before .before .before .before .before .before .before .before .before .before .before .before .before .before in
+    let I₅ = J .before .before .before .before .before .before .before .before .before .before .before .before .before in
+    let I = I₅ .before .before .before .before .before .before in
     let A = I .before .before .before .before .before .before .before .before .before .before .before .before .before .before .before in
     omega (arith, I .loop-test .taken, A .fits)
 
 loop-less-4 : tie.Need-loop-less-4 Inv-loop2 μ-loop2 Inv-loop μ-loop
 loop-less-4 c =
     let J = c .before .before .before .before .before .before .before .before .before .before .before .before .before .before .before in
-    let I = J .before .before .before .before .before .before .before .before .before .before .before .before .before .before .before .before .before .before .before in
+    let I₅ = J .before .before .before .before .before .before .before .before .before .before .before .before .before in
+    let I = I₅ .before .before .before .before .before .before in
     omega (arith, I .loop-test .taken)
 
 loop-again-4 : tie.Need-loop-again-4 Inv-loop2 μ-loop2 Inv-loop μ-loop
@@ -286,7 +289,8 @@ put-answer-requires-5 c κs = tt
 
 add-k-5 : tie.Need-add-k-5 Inv-loop2 μ-loop2 Inv-loop μ-loop
 add-k-5 c =
-    let J = c .before .before .before .before .before .before .before .before .before .before .before .before .before .before .before .before in
+    let J₅ = c .before .before .before .before .before .before .before .before .before .before .before .before .before in
+    let J = J₅ .before .before .before in
     let I₀ = J .before .before .before .before .before .before .before .before .before .before .before .before in
     let I = I₀ .before .before .before .before .before .before .before .before .before .before .before .before in
     let A = I .before .before .before .before .before .before .before .before .before .before .before .before .before .before .before in
@@ -294,7 +298,8 @@ add-k-5 c =
 
 loop-less-5 : tie.Need-loop-less-5 Inv-loop2 μ-loop2 Inv-loop μ-loop
 loop-less-5 c =
-    let J = c .before .before .before .before .before .before .before .before .before .before .before .before .before .before .before .before in
+    let J₅ = c .before .before .before .before .before .before .before .before .before .before .before .before .before in
+    let J = J₅ .before .before .before in
     let I₀ = J .before .before .before .before .before .before .before .before .before .before .before .before in
     let I = I₀ .before .before .before .before .before .before .before .before .before .before .before .before in
     omega (arith, I .loop-test .taken)
@@ -447,14 +452,16 @@ put-answer-requires-7 c κs = tt
 add-k-7 : tie.Need-add-k-7 Inv-loop2 μ-loop2 Inv-loop μ-loop
 add-k-7 c =
     let J = c .before .before .before .before .before .before .before .before .before .before .before .before .before .before in
-    let I = J .before .before .before .before .before .before .before .before .before .before .before .before .before .before .before .before .before .before .before .before in
+    let I₅ = J .before .before .before .before .before .before .before .before .before .before .before .before .before in
+    let I = I₅ .before .before .before .before .before .before .before in
     let A = I .before .before .before .before .before .before .before .before .before .before .before .before .before .before .before in
     omega (arith, I .loop-test .taken, A .fits)
 
 loop-less-7 : tie.Need-loop-less-7 Inv-loop2 μ-loop2 Inv-loop μ-loop
 loop-less-7 c =
     let J = c .before .before .before .before .before .before .before .before .before .before .before .before .before .before in
-    let I = J .before .before .before .before .before .before .before .before .before .before .before .before .before .before .before .before .before .before .before .before in
+    let I₅ = J .before .before .before .before .before .before .before .before .before .before .before .before .before in
+    let I = I₅ .before .before .before .before .before .before .before in
     omega (arith, I .loop-test .taken)
 
 loop-again-7 : tie.Need-loop-again-7 Inv-loop2 μ-loop2 Inv-loop μ-loop
@@ -523,13 +530,17 @@ put-answer-requires-8 c κs = tt
 
 add-k-8 : tie.Need-add-k-8 Inv-loop2 μ-loop2 Inv-loop μ-loop
 add-k-8 c =
-    let I = c .before .before .before .before .before .before .before .before .before .before .before .before .before .before .before .before .before .before .before .before .before .before .before .before .before .before .before .before .before .before .before .before .before .before .before .before in
+    let I₅ = c .before .before .before .before .before .before .before .before .before .before .before .before .before in
+    let I₆ = I₅ .before .before .before .before .before .before .before .before .before .before .before .before .before in
+    let I = I₆ .before .before .before .before .before .before .before .before .before .before in
     let A = I .before .before .before .before .before .before .before .before .before .before .before .before .before .before .before in
     omega (arith, I .loop-test .taken, A .fits)
 
 loop-less-8 : tie.Need-loop-less-8 Inv-loop2 μ-loop2 Inv-loop μ-loop
 loop-less-8 c =
-    let I = c .before .before .before .before .before .before .before .before .before .before .before .before .before .before .before .before .before .before .before .before .before .before .before .before .before .before .before .before .before .before .before .before .before .before .before .before in
+    let I₅ = c .before .before .before .before .before .before .before .before .before .before .before .before .before in
+    let I₆ = I₅ .before .before .before .before .before .before .before .before .before .before .before .before .before in
+    let I = I₆ .before .before .before .before .before .before .before .before .before .before in
     omega (arith, I .loop-test .taken)
 
 loop-again-8 : tie.Need-loop-again-8 Inv-loop2 μ-loop2 Inv-loop μ-loop
@@ -656,7 +667,8 @@ element-set-from-hub-8 c = omega arith
 loop2-holds : tie.Need-loop2-holds Inv-loop2 μ-loop2 Inv-loop μ-loop
 loop2-holds c =
     let J = c .before .before .before .before .before .before .before .before .before .before in
-    let W = J .before .before .before .before .before .before .before .before .before .before .before .before .before .before .before .before .before in
+    let W₅ = J .before .before .before .before .before .before .before .before .before .before .before .before .before in
+    let W = W₅ .before .before .before .before in
     let I = W .before .before .before .before in
     (omega arith, refl, length-set (I .loop .hub .workers) (W .before .worker-byte .result % 16) _ ∙ I .loop .inv .sixteen)
 
@@ -784,13 +796,17 @@ put-answer-requires-11 c κs = tt
 
 add-k-11 : tie.Need-add-k-11 Inv-loop2 μ-loop2 Inv-loop μ-loop
 add-k-11 c =
-    let I = c .before .before .before .before .before .before .before .before .before .before .before .before .before .before .before .before .before .before .before .before .before .before .before .before .before .before .before .before .before .before .before .before in
+    let I₅ = c .before .before .before .before .before .before .before .before .before .before .before .before .before in
+    let I₆ = I₅ .before .before .before .before .before .before .before .before .before .before .before .before .before in
+    let I = I₆ .before .before .before .before .before .before in
     let A = I .before .before .before .before .before .before .before .before .before .before .before .before .before .before .before in
     omega (arith, I .loop-test .taken, A .fits)
 
 loop-less-11 : tie.Need-loop-less-11 Inv-loop2 μ-loop2 Inv-loop μ-loop
 loop-less-11 c =
-    let I = c .before .before .before .before .before .before .before .before .before .before .before .before .before .before .before .before .before .before .before .before .before .before .before .before .before .before .before .before .before .before .before .before in
+    let I₅ = c .before .before .before .before .before .before .before .before .before .before .before .before .before in
+    let I₆ = I₅ .before .before .before .before .before .before .before .before .before .before .before .before .before in
+    let I = I₆ .before .before .before .before .before .before in
     omega (arith, I .loop-test .taken)
 
 loop-again-11 : tie.Need-loop-again-11 Inv-loop2 μ-loop2 Inv-loop μ-loop

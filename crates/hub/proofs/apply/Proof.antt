@@ -57,7 +57,8 @@ use Rattle.hub.proofs.Passed.{Single, SingleLeft, single-types, single-
 use Rattle.hub.proofs.Passed.{single-end, OneDone}
 use Rattle.hub.proofs.Passed.{SingleDoes, Known, single-known, single-does}
 use Rattle.hub.proofs.Handed.{single-gave, single-go}
-use Rattle.hub.proofs.Moves.{word-vals, word-tells, word-makes, roomy, typed-row, Zeros, AtMost, LoadRow, StoreRow, call-zeros, call-at-most}
+use Rattle.hub.proofs.Moves.{word-vals, word-tells, word-makes, roomy, typed-row, Zeros, AtMost, LoadRow, StoreRow, call-zeros}
+use Rattle.hub.proofs.Moves.{call-at-most}
 use Rattle.hub.proofs.Moves.{call-load-row, call-store-row}
 use Rattle.hub.proofs.Runs.{RunOne, call-run-one}
 use Rattle.hub.proofs.zeros.Symbol as zeros-def

@@ -56,7 +56,8 @@ use Rattle.hub.proofs.Values.{hub-vals, left-vals, typed-hub, typed-lef
 use Rattle.hub.proofs.Passed.{Buffer, BufferLeft, buffer-types, buffer-vals, buffer-spells, buffer-tells, buffer-list, buffer-end}
 use Rattle.hub.proofs.Passed.{buffer-own, AllDone, AllDoes, KnownAll, buffer-known, all-does, SameLong}
 use Rattle.hub.proofs.Handed.{buffer-gave, buffer-go}
-use Rattle.hub.proofs.Moves.{word-vals, word-tells, word-makes, roomy, typed-row, Zeros, AtMost, LoadRow, StoreRow, call-zeros, call-at-most}
+use Rattle.hub.proofs.Moves.{word-vals, word-tells, word-makes, roomy, typed-row, Zeros, AtMost, LoadRow, StoreRow, call-zeros}
+use Rattle.hub.proofs.Moves.{call-at-most}
 use Rattle.hub.proofs.Moves.{call-load-row, call-store-row}
 use Rattle.hub.proofs.Runs.{RunAll, call-run-all}
 use Rattle.hub.proofs.zeros.Symbol as zeros-def

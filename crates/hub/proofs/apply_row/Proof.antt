@@ -61,7 +61,8 @@ use Rattle.hub.proofs.Local.{lends-local, takes-back}
 use Rattle.hub.proofs.Front.{lends-front, front-back}
 use Rattle.hub.proofs.SlotArray.{arr, slots-roomy, front-roomy, typed-slots, field-val, field-is}
 use Rattle.hub.proofs.Values.{hub-vals, applied-vals, answered-vals, typed-hub, typed-applied, typed-answered}
-use Rattle.hub.proofs.Passed.{Single, SingleLeft, single-types, single-vals, single-spells, single-tells, single-list, single-end, SingleDoes}
+use Rattle.hub.proofs.Passed.{Single, SingleLeft, single-types, single-vals, single-spells, single-tells, single-list, single-end}
+use Rattle.hub.proofs.Passed.{SingleDoes}
 use Rattle.hub.proofs.Handed.{single-gave, single-go}
 use Rattle.hub.proofs.Moves.{AtMost, call-at-most}
 use Rattle.hub.proofs.Singles.{Apply, call-apply}

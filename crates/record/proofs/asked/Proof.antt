@@ -161,8 +161,7 @@ unfolding commandOf unusedZero
 returns-12 c =
     let o = c .before .before .before in
     let r = o .before in
-    rw (r .before .match .keys12, ← r .two7 .ensures, ← o .one .ensures, ← c .before .before .wide16 .ensures .0, ← c .before .none-from-5 .ensures)
-    (c .begin10 .ensures)
+    rw (r .before .match .keys12, c .begin10 .ensures, r .two7 .ensures, c .before .before .wide16 .ensures .0, o .one .ensures, c .before .none-from-5 .ensures)
 
 returns-13 : tie.Need-returns-13
 returns-13 c =

@@ -20,7 +20,8 @@ use contract.Monad.{Fun}
 use contract.Running.{givenOf, tables, tablesOf}
 use types.Kit.{Given, ‵, _⊛_, ⋆, _$_, _∵_, !, qed, by, move, keep, drop, split, join, rewrite, fsplit, fjoin, feqI, suffices, frame, done}
 use types.Part.{whole, sub, look-in}
-use types.Run.{look, init, store, store-raw, forget, stop, hop, fld, from, load, lit, unit-lit, of-opd, bin, assigns, returns, returns-within, enter, alloc1, alloc0, params1, pass1, pass0, free1, free0}
+use types.Run.{look, init, store, store-raw, forget, stop, hop, fld, from, load, lit, unit-lit, of-opd, bin, assigns, returns}
+use types.Run.{returns-within, enter, alloc1, alloc0, params1, pass1, pass0, free1, free0}
 use sound.WpLaws.{WpFn-mono}
 use denote.RattleType.{owns}
 use denote.Shadow.{pureI}

@@ -54,12 +54,12 @@ returns-3 c = rw (c .before .enum-told3 .given .1, c .close-withdraw .ensures)
 returns-4 : tie.Need-returns-4
 returns-4 c =
     let k = c .before .before in
-    rw (k .before .before .y .given .1, ← k .refusal .ensures, ← c .before .time-of .ensures) (c .mark-or-stop .ensures)
+    rw (k .before .before .y .given .1, c .mark-or-stop .ensures, k .refusal .ensures, c .before .time-of .ensures)
 
 returns-5 : tie.Need-returns-5
 returns-5 c =
     let k = c .before in
-    rw (k .before .before .y2 .given .1, ← k .refusal2 .ensures) (c .mark-or-stop2 .ensures)
+    rw (k .before .before .y2 .given .1, c .mark-or-stop2 .ensures, k .refusal2 .ensures)
 
 pub time-step-spec : {M : Type 1} → statement M
 time-step-spec =
