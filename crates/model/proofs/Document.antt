@@ -1,51 +1,28 @@
--- The theorems under document 01's rules and under those in force. That their batch size is from 1 to 64 is computed for each number of workers;
+-- The theorems under document 01's rules and under those in force. That their batch size is from 1 to 64 is in `Batch`;
 -- that they differ in refusal 16 alone is seen where the tests of a begin are: the rules in force have one test more.
 use mathlib.Core.Bool.{Bool, true, false, cond, _&&_}
 use mathlib.Core.Path.{_≡_, refl, sym, subst}
 use mathlib.Core.List.{List}
-use mathlib.Core.Logic.{_⊎_, inl, inr, ⊎-elim}
-use Prim.Native.Nat.{ℕ, zero, suc, _≤_}
-use native.Mathlib.Omega.{arith}
-use lib.Dec.{ltb, leb}
-use borrow.Author.Tests as Tests
+use mathlib.Core.Logic.{_⊎_, inl, inr}
+use Prim.Native.Nat.{ℕ, _≤_}
+use lib.Dec.{ltb}
 use Rattle.model.specs.Store.{markCount, Hub, blank, up}
 use Rattle.model.specs.Marks.{markOf}
-use Rattle.model.specs.Batch.{leastFrom, logUp, batchOf}
+use Rattle.model.specs.Batch.{batchOf}
 use Rattle.model.specs.Rules.{Rules, document01, inForce, Allowed, under, allUnder}
 use Rattle.model.specs.Answer.{Applied}
 use Rattle.model.specs.Record.{SetUp, Begin, Step, Decoded, Asks, Refuses, decode}
 use Rattle.model.specs.Apply.{refuse, setUp, terms, namedBelow, groupThere, valueWithin, begin, obey, applyDecoded, apply}
 use Rattle.model.specs.Document.{Theorems, Document}
-use Rattle.model.proofs.Basic.{eq-cases, and-both}
+use Rattle.model.proofs.Batch.{as-documented, batch-within}
 use Rattle.model.proofs.Main.{demand}
 use Rattle.model.proofs.MonthEnd.{month-end}
 use Rattle.model.proofs.Refusals.{demand-1}
 use Rattle.model.proofs.Reached.{sound, as-published}
 
--- the batch sizes of the numbers from 1 to n are from 1 to 64
-test : ℕ → Bool
-test zero = true
-test (suc n) = test n && (leb 1 (batchOf (suc n)) && leb (batchOf (suc n)) 64)
-
-tested : test 16 ≡ true
-unfolding test batchOf logUp leastFrom
-tested = refl
-
-each : (n p : ℕ) → test n ≡ true → 1 ≤ p → p ≤ n → (1 ≤ batchOf p) × (batchOf p ≤ 64)
-unfolding test
-each zero p t a b = absurd (omega arith)
-each (suc n) p t a b =
-    let q = and-both (test n) (leb 1 (batchOf (suc n)) && leb (batchOf (suc n)) 64) t in
-    let r = and-both (leb 1 (batchOf (suc n))) (leb (batchOf (suc n)) 64) (q .1) in
-    ⊎-elim
-    (λ e. subst (λ (k : ℕ). (1 ≤ batchOf k) × (batchOf k ≤ 64)) (sym (e .0))
-    (Tests.leb-true 1 (batchOf (suc n)) (r .0), Tests.leb-true (batchOf (suc n)) 64 (r .1)))
-    (λ e. each n p (q .0) a (omega (arith, e .0)))
-    (eq-cases p (suc n))
-
 -- rules with the batch size of H1.24
 pub allowed : (rules : Rules) → rules .batch ≡ batchOf → Allowed rules
-allowed rules e p a b = subst (λ (f : ℕ → ℕ). (1 ≤ f p) × (f p ≤ 64)) (sym e) (each 16 p tested a b)
+allowed rules e p a b = subst (λ (f : ℕ → ℕ). (1 ≤ f p) × (f p ≤ 64)) (sym e) (batch-within p b)
 
 theorems : (rules : Rules) → rules .batch ≡ batchOf → Theorems rules
 theorems rules e =
@@ -90,5 +67,6 @@ document =
       earlier = λ l. theorems (document01 l) refl;
       changing = demand;
       month-end = month-end;
+      batch-sizes = as-documented;
       refusal-16 = λ l h b. only-16 l h (decode b);
     }

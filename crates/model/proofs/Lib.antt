@@ -1,5 +1,6 @@
 pub mod Cases
 pub mod Basic
+pub mod Batch
 pub mod Totals
 pub mod Found
 pub mod View

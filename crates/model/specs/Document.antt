@@ -4,6 +4,7 @@ use mathlib.Core.Logic.{_⊎_}
 use mathlib.Core.List.{List}
 use Prim.Native.Nat.{ℕ}
 use Rattle.model.specs.Store.{Slot, Hub, blank}
+use Rattle.model.specs.Batch.{AsDocumented}
 use Rattle.model.specs.Rules.{Rules, document01, inForce, Allowed, allUnder}
 use Rattle.model.specs.Answer.{Ok}
 use Rattle.model.specs.Apply.{refuse, apply}
@@ -40,6 +41,8 @@ pub record Document : Type 0 where
   pub changing : Demand
   -- H13.10: what billing may rely on, wherever demand 3 holds
   pub month-end : MonthEnd
+  -- H1.24: the sixteen lines of the batch size have the figures of document 01's sentence
+  pub batch-sizes : AsDocumented
   -- H7.9: what the limit changes is refusal 16 and nothing else
   pub refusal-16 : (l : List ℕ) (h : Hub) (b : List ℕ)
       → (apply (inForce l) h b ≡ refuse h 16) ⊎ (apply (inForce l) h b ≡ apply (document01 l) h b)
