@@ -113,6 +113,8 @@ pub enum Answer {
     At(u32),
     /// A get's, read's or marked read's answer, and a total's that is not below 0.
     Value(u64),
+    /// A get's, read's or marked read's answer where there is no reading (A5).
+    None,
     /// A total's answer below 0: how far below.
     Minus(u64),
     /// The end of a put, close, collect, mark or release.
@@ -122,6 +124,15 @@ pub enum Answer {
 }
 
 impl Answer {
+    /// The answer of a get, read or marked read.
+    #[inline]
+    pub const fn reading(reading: Option<u64>) -> Answer {
+        match reading {
+            Some(value) => Answer::Value(value),
+            None => Answer::None,
+        }
+    }
+
     /// A total's answer.
     #[inline]
     pub const fn total(sum: i64) -> Answer {
@@ -131,7 +142,7 @@ impl Answer {
         }
     }
 
-    /// The number that a get, read, marked read or total shows.
+    /// The number that a get, read, marked read or total shows; `none` shows no value.
     pub fn shown(self) -> Option<i128> {
         match self {
             Answer::Value(value) => Some(i128::from(value)),
@@ -151,6 +162,7 @@ impl fmt::Display for Answer {
             Answer::At(time) => write!(f, "at {time}"),
             Answer::Value(value) => write!(f, "value {value}"),
             Answer::Minus(below) => write!(f, "value -{below}"),
+            Answer::None => write!(f, "none"),
             Answer::Done => write!(f, "done"),
             Answer::No(refusal) => write!(f, "no {}", refusal.number()),
         }

@@ -25,7 +25,7 @@ impl Observer for () {
 macro_rules! branches {
     ($($name:ident $text:literal)*) => {
         /// A branch of the steps, or of the tests that a put above A1's limit, a total, a list or a
-        /// mark meets.
+        /// mark meets, or what is found where a reading is looked for.
         #[derive(Clone, Copy, Debug, PartialEq, Eq)]
         #[repr(usize)]
         pub enum Branch { $(#[doc = $text] $name,)* }
@@ -174,6 +174,18 @@ branches! {
     MarkedAboveBusy "a marked read of a mark above 11 gets 4 on a busy worker"
     MarkedNoWorker "a marked read gets 3"
     MarkedNotSetUp "a marked read gets 8"
+    GetNone "get answers none"
+    GetZero "get answers a put of 0"
+    GetFirstPut "get stamps its register's first put"
+    ReadNone "read (2) answers none, no put since"
+    ReadNoneSince "read (2) answers none, a put since"
+    ReadZero "read (2) answers a put of 0"
+    MarkedNone "marked read (2) answers none, no put since"
+    MarkedNoneSince "marked read (2) answers none, a put since"
+    MarkedZero "marked read (2) answers a put of 0"
+    TotalNone "total (2) adds 0 for no reading, no put since"
+    TotalNoneSince "total (2) adds 0 for no reading, a put since"
+    TotalZero "total (2) adds a put of 0"
 }
 
 impl Branch {
@@ -231,8 +243,18 @@ impl Branch {
 
     /// Those of a mark, a release or a marked read, and of a flush that meets them.
     pub fn of_marks() -> impl Iterator<Item = Branch> {
+        Branch::from_to(Branch::FlushNoMark, Branch::MarkedNotSetUp)
+    }
+
+    /// Those of a version without a reading or with a put of 0, wherever it is read.
+    pub fn of_readings() -> impl Iterator<Item = Branch> {
+        Branch::from_to(Branch::GetNone, Branch::TotalZero)
+    }
+
+    /// Those from one to another, both included.
+    fn from_to(first: Branch, last: Branch) -> impl Iterator<Item = Branch> {
         let all = Branch::ALL.iter().map(|&(branch, _)| branch);
-        all.skip_while(|&branch| branch != Branch::FlushNoMark)
+        all.take(last as usize + 1).skip(first as usize)
     }
 }
 
@@ -273,8 +295,8 @@ const LISTS: [Lists; 7] = [
 /// Counts of everything a run reached.
 #[derive(Clone, Debug)]
 pub struct Coverage {
-    /// By kind: ok, going, freed, at, value, done, value below 0.
-    pub answers: [u64; 7],
+    /// By kind, as in `ANSWERS`.
+    pub answers: [u64; Coverage::ANSWERS.len()],
     /// By refusal number; index 0 stays 0.
     pub refusals: [u64; Refusal::ALL.len() + 1],
     /// By branch.
@@ -288,7 +310,7 @@ pub struct Coverage {
 impl Default for Coverage {
     fn default() -> Self {
         Coverage {
-            answers: [0; 7],
+            answers: [0; Coverage::ANSWERS.len()],
             refusals: [0; Refusal::ALL.len() + 1],
             branches: [0; Branch::ALL.len()],
             sizes: [0; SIZES.len()],
@@ -314,8 +336,8 @@ impl Observer for Coverage {
 }
 
 impl Coverage {
-    const ANSWERS: [&'static str; 7] =
-        ["ok", "going", "freed", "at", "value", "done", "value below 0"];
+    const ANSWERS: [&'static str; 8] =
+        ["ok", "going", "freed", "at", "value", "done", "value below 0", "none"];
 
     /// Counts an answer.
     pub fn answered(&mut self, answer: Answer) {
@@ -327,12 +349,19 @@ impl Coverage {
             Answer::Value(_) => 4,
             Answer::Done => 5,
             Answer::Minus(_) => 6,
+            Answer::None => 7,
             Answer::No(refusal) => {
                 self.refusals[usize::from(refusal.number())] += 1;
                 return;
             }
         };
         self.answers[kind] += 1;
+    }
+
+    /// How often an answer of this name, as in `ANSWERS`, was given.
+    pub fn answered_with(&self, name: &str) -> u64 {
+        let kind = Self::ANSWERS.iter().position(|&other| other == name);
+        self.answers[kind.expect("the name of an answer")]
     }
 
     /// Adds another run's counts.

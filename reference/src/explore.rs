@@ -168,10 +168,10 @@ impl Coder {
         }
     }
 
-    /// Values are 0 or of the alphabet.
-    fn value(&self, value: u64) -> u8 {
-        let place = self.values.iter().position(|&known| known == value);
-        place.map_or(0, |place| place as u8 + 1)
+    /// There is no reading, or one of the alphabet.
+    fn reading(&self, reading: Option<u64>) -> u8 {
+        let place = |value| self.values.iter().position(|&known| known == value);
+        reading.and_then(place).map_or(0, |place| place as u8 + 1)
     }
 
     fn range(&self, range: &Range, code: &mut Vec<u8>) {
@@ -192,7 +192,8 @@ impl Coder {
         for (index, slot) in store.slots.iter().enumerate() {
             if self.freed_slots || !store.free.contains(&(index as u16)) {
                 let link = |link: Option<u16>| link.map_or(Coder::NONE, |slot| slot as u8);
-                code.extend([self.value(slot.value), self.time(slot.low), self.time(slot.high)]);
+                code.push(self.reading(slot.reading));
+                code.extend([self.time(slot.low), self.time(slot.high)]);
                 code.extend([link(slot.older), link(slot.newer)]);
             }
         }
@@ -220,12 +221,12 @@ impl Coder {
                 self.ranges(&worker.merged[usize::from(next)..], code);
             }
         }
-        code.extend(ghost.registers.iter().map(|&value| self.value(value)));
+        code.extend(ghost.registers.iter().map(|&reading| self.reading(reading)));
         let marked =
             ghost.marks[..self.marks].iter().map(|held| held.as_ref().map(|(_, copy)| copy));
         for copy in ghost.copies.iter().map(Option::as_ref).chain(marked) {
             match copy {
-                Some(copy) => code.extend(copy.iter().map(|&value| self.value(value))),
+                Some(copy) => code.extend(copy.iter().map(|&reading| self.reading(reading))),
                 None => code.push(Coder::NONE),
             }
         }
@@ -241,7 +242,7 @@ impl Coder {
         match doing {
             Doing::Idle => code.push(0),
             Doing::PutPublish { register, value } => {
-                code.extend([1, register as u8, self.value(value)]);
+                code.extend([1, register as u8, self.reading(Some(value))]);
             }
             Doing::PutStamp { register, covered, own } => {
                 code.extend([2, register as u8, covered as u8, own_version(own)]);

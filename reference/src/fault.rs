@@ -3,8 +3,8 @@
 //!
 //! The right hub has every constant false, so that the variants cost it nothing.
 
-use crate::answer::Answer;
-use crate::store::{Doing, MAX_VALUE};
+use crate::answer::{Answer, Refusal};
+use crate::store::{Doing, Slot, MAX_VALUE};
 
 macro_rules! faults {
     ($($(#[$text:meta])+ $name:ident $constant:ident)*) => {
@@ -134,6 +134,33 @@ faults! {
     MarkByte MARK_BYTE
     /// A3: accepts mark 12, and takes the one before for it.
     MarkTwelve MARK_TWELVE
+
+    /// A5: a get shows 0 for a version from setup, as before.
+    GetZero GET_ZERO
+    /// A5: a read shows 0 for a version from setup, as before.
+    ReadZero READ_ZERO
+    /// A5: a marked read shows 0 for a version from setup, as before.
+    MarkedZero MARKED_ZERO
+    /// A5: takes a put of 0 for no reading.
+    ZeroNone ZERO_NONE
+    /// A5: keeps for the register and not for the version whether there is a reading: from the first
+    /// put on, the version from setup shows 0.
+    NoneByRegister NONE_BY_REGISTER
+    /// A5: a get, read or marked read takes a slot below V for a version from setup, also where a
+    /// put has taken it since.
+    NoneBySlot NONE_BY_SLOT
+    /// A5: a get that stamps a register's first put answers `none`.
+    FirstPutNone FIRST_PUT_NONE
+    /// A5: a total gives 18 for a register without a reading.
+    TotalRefusesNone TOTAL_REFUSES_NONE
+    /// A5: a total answers `none` at a register without a reading.
+    TotalNone TOTAL_NONE
+    /// A5: the row writer writes a row of 0 where there is no reading.
+    RowOfNone ROW_OF_NONE
+    /// A5: the row writer answers `none` before it tests 4 and 7.
+    RowNoneFirst ROW_NONE_FIRST
+    /// A5: the row writer answers `none` before it tests 7.
+    RowNoneBeforeBuffer ROW_NONE_BEFORE_BUFFER
 }
 
 /// The largest value that a put may bring, or what a fault takes for it.
@@ -155,6 +182,16 @@ pub(crate) fn largest_summed<F: Fault>() -> u64 {
         MAX_VALUE - 1
     } else {
         MAX_VALUE
+    }
+}
+
+/// What a total ends with at a version that holds no reading, with a fault.
+#[inline(always)]
+pub(crate) fn without_reading<F: Fault>(version: &Slot) -> Option<Answer> {
+    match version.reading {
+        None if F::TOTAL_REFUSES_NONE => Some(Answer::No(Refusal::Summand)),
+        None if F::TOTAL_NONE => Some(Answer::None),
+        _ => None,
     }
 }
 

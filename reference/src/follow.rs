@@ -256,8 +256,8 @@ impl Follower<'_> {
             (Action::Open, 0, Answer::Going) => self.workers[w].announced = Some(self.clock),
             (Action::Open, 1, Answer::At(time)) => self.pass(w, time)?,
             (Action::Read { register }, 0, Answer::Going) => self.stamp(register),
-            (Action::Read { .. }, 1.., Answer::Going | Answer::Value(_)) => {}
-            (Action::Get { register }, 0, Answer::Value(_)) => self.stamp(register),
+            (Action::Read { .. }, 1.., Answer::Going | Answer::Value(_) | Answer::None) => {}
+            (Action::Get { register }, 0, Answer::Value(_) | Answer::None) => self.stamp(register),
             (Action::Close, 0, Answer::Done) => self.workers[w].announced = None,
             (Action::Total { group }, 0, Answer::Going) => self.sum(w, group),
             (
@@ -271,7 +271,7 @@ impl Follower<'_> {
             (Action::Mark { mark }, 0, Answer::Done) => self.keep(w, mark),
             (Action::Release { mark }, 0, Answer::Done) => self.drop_mark(mark),
             (Action::Marked { register, .. }, 0, Answer::Going) => self.stamp(register),
-            (Action::Marked { .. }, 1.., Answer::Going | Answer::Value(_)) => {}
+            (Action::Marked { .. }, 1.., Answer::Going | Answer::Value(_) | Answer::None) => {}
             _ => {
                 let operation = &self.order.operations[operation];
                 return self.unfit(format!(

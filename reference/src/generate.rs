@@ -106,10 +106,12 @@ pub enum Kind {
     Marks,
     /// Marks that are held for long, while versions are freed under marked reads.
     Held,
+    /// Few puts, so that many registers have no reading yet, and first ones meet those who read.
+    Empty,
 }
 
 impl Kind {
-    pub const ALL: [(Kind, &'static str); 20] = [
+    pub const ALL: [(Kind, &'static str); 21] = [
         (Kind::Uniform, "uniform"),
         (Kind::Mixed, "mixed"),
         (Kind::Slots, "slots"),
@@ -130,6 +132,7 @@ impl Kind {
         (Kind::Lists, "lists"),
         (Kind::Marks, "marks"),
         (Kind::Held, "held"),
+        (Kind::Empty, "empty"),
     ];
 
     /// The kind with this name.
@@ -449,13 +452,14 @@ impl Writer {
     }
 }
 
-/// Mostly small values that can be told apart, sometimes any up to the limit, it, or one below; also
-/// larger ones where the limit is not A1's.
+/// Mostly small values that can be told apart, sometimes any up to the limit, it, or one below, and
+/// sometimes 0; also larger ones where the limit is not A1's.
 fn value(max_value: u64, random: &mut Random) -> u64 {
     match random.below(16) {
         0 => random.between(0, max_value),
         1 => max_value - random.below(2),
-        2..6 if max_value > MAX_VALUE => large(random),
+        2 => 0,
+        3..7 if max_value > MAX_VALUE => large(random),
         _ => random.between(1, 999_999),
     }
 }

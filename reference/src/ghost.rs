@@ -8,13 +8,14 @@ use crate::marks::MARKS;
 use crate::record::Record;
 use crate::store::{Doing, Slot, Store, LAST_CLOCK, MAX_VALUE};
 
-/// The plain registers and copies, kept up by watching the store before and after each record.
+/// The plain registers and copies, kept up by watching the store before and after each record. A
+/// register starts without a value.
 #[derive(Clone, Debug, PartialEq, Eq)]
 pub struct Ghost {
-    pub registers: Vec<u64>,
-    pub copies: Vec<Option<Vec<u64>>>,
+    pub registers: Vec<Option<u64>>,
+    pub copies: Vec<Option<Vec<Option<u64>>>>,
     /// What each mark keeps: a time and the copy of the worker that had it.
-    pub marks: Vec<Option<(u32, Vec<u64>)>>,
+    pub marks: Vec<Option<(u32, Vec<Option<u64>>)>>,
     /// The register that a worker's read or marked read under way is of.
     pub reading: Vec<Option<u16>>,
 }
@@ -23,7 +24,7 @@ impl Ghost {
     /// The ghost state at setup.
     pub fn start(store: &Store) -> Ghost {
         Ghost {
-            registers: vec![0; store.newest.len()],
+            registers: vec![None; store.newest.len()],
             copies: vec![None; store.workers.len()],
             marks: vec![None; store.marks.len()],
             reading: vec![None; store.workers.len()],
@@ -48,7 +49,7 @@ impl Ghost {
         // A put has its effect where its version is stamped.
         for (register, &newest) in before.newest.iter().enumerate() {
             if slot(before, newest).low.is_none() && slot(after, newest).low.is_some() {
-                self.registers[register] = slot(before, newest).value;
+                self.registers[register] = slot(before, newest).reading;
             }
         }
         // An open has its effect when the clock passes its time.
@@ -76,24 +77,25 @@ impl Ghost {
             (Doing::Close, _) => self.copies[w] = None,
             (Doing::ReadStart { register }, _) => self.reading[w] = Some(register),
             (Doing::Get { register }, answer) => {
-                let shown = self.registers[usize::from(register)];
-                ensure!(answer == Answer::Value(shown), "a get: {answer:?}, not {shown}");
+                let shown = Answer::reading(self.registers[usize::from(register)]);
+                ensure!(answer == shown, "a get: {answer}, not {shown}");
             }
-            (Doing::ReadAt { .. }, Answer::Value(value)) => {
+            (Doing::ReadAt { .. }, Answer::Value(_) | Answer::None) => {
                 let register = self.reading[w].take().ok_or("a read of no register")?;
                 let copy = self.copies[w].as_ref().ok_or("a read without a copy")?;
-                let shown = copy[usize::from(register)];
-                ensure!(value == shown, "a read: {value}, not {shown}");
+                let shown = Answer::reading(copy[usize::from(register)]);
+                ensure!(answer == shown, "a read: {answer}, not {shown}");
             }
             (Doing::TotalStart { .. }, answer) => {
                 ensure!(answer == Answer::Going, "a total's step (1): {answer:?}");
             }
             (Doing::TotalAt { slot: at, place, .. }, answer) => {
-                let Slot { value, low, .. } = *slot(before, at);
+                let Slot { reading, low, .. } = *slot(before, at);
                 let found = low.is_some() && low <= before.workers[w].announced;
-                let expected = if !found || value <= MAX_VALUE && place.left > 0 {
+                let large = reading > Some(MAX_VALUE);
+                let expected = if !found || !large && place.left > 0 {
                     Answer::Going
-                } else if value > MAX_VALUE {
+                } else if large {
                     Answer::No(Refusal::Summand)
                 } else {
                     let group = before.groups.row(place).group;
@@ -104,11 +106,12 @@ impl Ghost {
             (Doing::Mark { .. } | Doing::Release { .. } | Doing::MarkedStart { .. }, answer) => {
                 self.follow_mark(before, w, answer)?;
             }
-            (Doing::MarkedAt { mark, .. }, Answer::Value(value)) => {
+            (Doing::MarkedAt { mark, .. }, Answer::Value(_) | Answer::None) => {
                 let register = self.reading[w].take().ok_or("a marked read of no register")?;
                 let held = self.marks[usize::from(mark)].as_ref();
-                let shown = held.ok_or("a marked read of an empty mark")?.1[usize::from(register)];
-                ensure!(value == shown, "a marked read: {value}, not {shown}");
+                let (_, copy) = held.ok_or("a marked read of an empty mark")?;
+                let shown = Answer::reading(copy[usize::from(register)]);
+                ensure!(answer == shown, "a marked read: {answer}, not {shown}");
             }
             (Doing::FlushFree { .. }, Answer::Freed(freed)) => {
                 let version = slot(before, freed);
@@ -166,12 +169,12 @@ impl Ghost {
         }
     }
 
-    /// The sum of these rows over the worker's copy. The values of a total that has not met 18 are
-    /// within the limit.
+    /// The sum of these rows over the worker's copy, a register without a value as 0. The values of a
+    /// total that has not met 18 are within the limit.
     fn sum(&self, w: usize, rows: &[Row]) -> Result<i64, String> {
         let copy = self.copies[w].as_ref().ok_or("a total without a copy")?;
         let signed = |row: &Row| {
-            let value = copy[usize::from(row.register)] as i64;
+            let value = copy[usize::from(row.register)].unwrap_or(0) as i64;
             if row.minus {
                 -value
             } else {
@@ -196,7 +199,7 @@ impl Ghost {
         Ok(())
     }
 
-    /// Plain register = value of the newest stamped version; a worker has a copy exactly where
+    /// Plain register = reading of the newest stamped version; a worker has a copy exactly where
     /// it has a time below the clock, and the copy holds the values at that time; so does a mark's.
     pub fn check(&self, store: &Store) -> Result<(), String> {
         for (register, &newest) in store.newest.iter().enumerate() {
@@ -205,9 +208,9 @@ impl Ghost {
                 version = slot(store, version.older.ok_or("an unstamped version covers none")?);
             }
             ensure!(
-                version.value == self.registers[register],
-                "register {register}: newest stamped value {}, plain {}",
-                version.value,
+                version.reading == self.registers[register],
+                "register {register}: newest stamped reading {:?}, plain {:?}",
+                version.reading,
                 self.registers[register]
             );
         }
@@ -286,17 +289,17 @@ impl Ghost {
     }
 }
 
-/// For each register there is one version whose range holds the time, and it has the copied value.
-fn check_copy(store: &Store, time: u32, copy: &[u64]) -> Result<(), String> {
+/// For each register there is one version whose range holds the time, and it has the copied reading.
+fn check_copy(store: &Store, time: u32, copy: &[Option<u64>]) -> Result<(), String> {
     for (register, &copied) in copy.iter().enumerate() {
-        let held: Vec<u64> = list(store, register)?
+        let held: Vec<Option<u64>> = list(store, register)?
             .iter()
             .filter(|&&s| holds(slot(store, s), time))
-            .map(|&s| slot(store, s).value)
+            .map(|&s| slot(store, s).reading)
             .collect();
         ensure!(
             held == [copied],
-            "register {register} at {time}: versions {held:?}, copy {copied}"
+            "register {register} at {time}: versions {held:?}, copy {copied:?}"
         );
     }
     Ok(())

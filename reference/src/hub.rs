@@ -61,7 +61,8 @@ impl<F: Fault, O: Observer> Hub<F, O> {
     #[inline]
     pub fn take_record(&mut self, record: Record, list: &[u8]) -> Answer {
         if F::LARGE_NOT_SET_UP {
-            self.store.take_if(|store| store.slots.iter().any(|slot| slot.value > self.max_value));
+            let large = Some(self.max_value);
+            self.store.take_if(|store| store.slots.iter().any(|slot| slot.reading > large));
         }
         let result = match (&mut self.store, record) {
             (_, Record::Put { value, .. }) if F::VALUE_FIRST && value > self.max_value => {

@@ -65,12 +65,18 @@ pub fn check(store: &Store) -> Result<(), String> {
     (0..store.workers.len()).try_for_each(|w| check_worker(store, w, &home))
 }
 
-/// Lows and highs of one list, newest first.
+/// Readings, lows and highs of one list, newest first. Only what setup wrote holds no reading.
 fn check_versions(store: &Store, versions: &[u16]) -> Result<(), String> {
     let newest = slot(store, versions[0]);
     ensure!(newest.high.is_none(), "a newest version has a high");
     ensure!(newest.low.is_none_or(|low| low <= store.clock), "a low is above the clock");
     ensure!(newest.low.is_some() || versions.len() > 1, "an unstamped version covers none");
+    for (place, &index) in (1..).zip(versions) {
+        // What setup wrote has low 0, and every clock since is above that.
+        let Slot { reading, low, .. } = *slot(store, index);
+        ensure!(reading.is_none() == (low == Some(0)), "slot {index}: {reading:?} from {low:?}");
+        ensure!(reading.is_some() || place == versions.len(), "slot {index} covers another");
+    }
     let mut unstamped_above = newest.low.is_none();
     for pair in versions.windows(2) {
         let (newer, older) = (slot(store, pair[0]), slot(store, pair[1]));

@@ -24,6 +24,8 @@ const WIDTH: usize = 100;
 struct Sentences {
     totals: bool,
     marked: bool,
+    /// Is there one for which no value is shown?
+    without: bool,
 }
 
 impl Sentences {
@@ -46,8 +48,13 @@ impl Sentences {
     /// The meaning of the last column.
     fn shown(&self) -> String {
         let showing = self.showing("a ", "or");
+        let without = match self.without {
+            true => "; no value before the first put",
+            false => "",
+        };
         let words = format!(
-            "what {showing} finds in plain registers, which are fed the operations in this order"
+            "what {showing} finds in plain registers, which are fed the operations in this \
+             order{without}"
         );
         wrapped("  plain registers show  ", 24, &words)
     }
@@ -58,9 +65,13 @@ impl Sentences {
             true => "an open snapshot or a held mark",
             false => "an open snapshot",
         };
+        let without = match self.without {
+            true => ", `none` where that is no value",
+            false => "",
+        };
         let words = format!(
-            "every finished {showing} answered what plain registers show. No version was freed that \
-             {holders} needs, and none twice without its slot being taken in between."
+            "every finished {showing} answered what plain registers show{without}. No version was \
+             freed that {holders} needs, and none twice without its slot being taken in between."
         );
         wrapped("Accepted: ", 0, &words)
     }
@@ -102,7 +113,9 @@ impl Display for Listing<'_> {
         let totals: BTreeSet<u16> = operations.iter().filter_map(group_of).collect();
         let marked = operations.iter().any(|o| matches!(o.action, Action::Marked { .. }));
         let marked = marked || !held.is_empty();
-        let sentences = Sentences { totals: !totals.is_empty(), marked };
+        let mut ordered = sequence.iter().map(|&index| &operations[index]);
+        let without = ordered.any(|o| o.shows() && o.shown.is_none());
+        let sentences = Sentences { totals: !totals.is_empty(), marked, without };
         writeln!(f, "{MEANING}{}\n", sentences.shown())?;
         let in_order = (1..).zip(sequence).map(|(place, &index)| placed(place, &operations[index]));
         write_columns(f, PLACED, "><>>>><<", in_order)?;

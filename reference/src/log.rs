@@ -65,6 +65,7 @@ pub fn append_answer(text: &mut Vec<u8>, answer: Answer) {
         Answer::Ok => return text.extend_from_slice(b"ok"),
         Answer::Going => return text.extend_from_slice(b"going"),
         Answer::Done => return text.extend_from_slice(b"done"),
+        Answer::None => return text.extend_from_slice(b"none"),
         Answer::Freed(slot) => (b"freed ", u64::from(slot)),
         Answer::At(time) => (b"at ", u64::from(time)),
         Answer::Value(value) => (b"value ", value),
@@ -98,6 +99,7 @@ pub fn parse_answer(words: &str) -> Option<Answer> {
             "ok" => Answer::Ok,
             "going" => Answer::Going,
             "done" => Answer::Done,
+            "none" => Answer::None,
             _ => return None,
         },
         Some(("value", number)) => match number.strip_prefix('-') {

@@ -3,6 +3,7 @@
 use crate::answer::{Answer, Refusal};
 use crate::coverage::{Branch, Observer};
 use crate::fault::Fault;
+use crate::observe::observe_reading;
 use crate::store::{Doing, Store};
 
 /// Marks are below this.
@@ -166,7 +167,7 @@ impl Store {
 
     /// Marked read (2): as read (2), at the time of the mark.
     #[inline]
-    pub(crate) fn marked_at<O: Observer>(
+    pub(crate) fn marked_at<F: Fault, O: Observer>(
         &mut self,
         w: usize,
         (slot, first): (u16, bool),
@@ -180,7 +181,12 @@ impl Store {
             if O::ON {
                 self.observe_found(w, time, seen);
             }
-            return (Doing::Idle, Answer::Value(version.value));
+            observe_reading(
+                version,
+                [Branch::MarkedNone, Branch::MarkedNoneSince, Branch::MarkedZero],
+                seen,
+            );
+            return (Doing::Idle, self.shown::<F>(slot, F::MARKED_ZERO));
         }
         seen.branch(Branch::MarkedMoves);
         // As in read (2), there is an older version.

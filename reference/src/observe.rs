@@ -1,5 +1,5 @@
 //! What an observer is told of the tests that a record meets on reading: of puts above A1's limit,
-//! totals, lists and marks.
+//! totals, lists and marks; and of what is found where a reading is looked for.
 
 use crate::answer::{Answer, Refusal};
 use crate::coverage::{Branch, Observer};
@@ -8,7 +8,23 @@ use crate::hub::Hub;
 use crate::list::{Groups, Row, Unfit, GROUPS, MAX_LENGTH, MAX_ROWS};
 use crate::marks::MARKS;
 use crate::record::Record;
-use crate::store::{Doing, Store};
+use crate::store::{Doing, Slot, Store};
+
+/// Tells what a get, a read, a marked read or a total finds at a version, by these branches: no
+/// reading, none and a put since, a reading of 0.
+#[inline(always)]
+pub(crate) fn observe_reading<O: Observer>(
+    version: &Slot,
+    [none, since, zero]: [Branch; 3],
+    seen: &mut O,
+) {
+    match version.reading {
+        None if version.newer.is_some() => seen.branch(since),
+        None => seen.branch(none),
+        Some(0) => seen.branch(zero),
+        Some(_) => {}
+    }
+}
 
 impl<F: Fault, O: Observer> Hub<F, O> {
     /// Tells the observer of a record that was taken.

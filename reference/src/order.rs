@@ -63,7 +63,8 @@ pub struct Operation {
     /// The record of its effect in the order, if it had one.
     pub effect: Option<usize>,
     pub outcome: Outcome,
-    /// What the plain registers show for a get, read, marked read or total in the order.
+    /// The value that the plain registers show for a get, read, marked read or total in the order;
+    /// none before its register's first put, and none without a copy to look into.
     pub shown: Option<i128>,
 }
 
@@ -99,9 +100,19 @@ impl Operation {
         matches!(self.action, Get { .. } | Read { .. } | Marked { .. } | Total { .. })
     }
 
+    /// Does this answer say what they show? A total shows a sum, or nothing without a copy, and has no
+    /// `none`.
+    pub fn answered_by(&self, answer: Answer) -> bool {
+        match (self.action, answer) {
+            (Action::Total { .. }, Answer::None) => false,
+            (_, Answer::Value(_) | Answer::Minus(_) | Answer::None) => answer.shown() == self.shown,
+            _ => false,
+        }
+    }
+
     /// What they show, in words.
     pub fn shown_words(&self) -> String {
-        self.shown.map_or("nothing".to_string(), |shown| shown.to_string())
+        self.shown.map_or("no value".to_string(), |shown| shown.to_string())
     }
 }
 
@@ -187,7 +198,7 @@ pub enum Claim {
     Once,
     /// An operation that ended before another began stands before it.
     Between,
-    /// The X in `value X` equals what is shown.
+    /// The X in `value X` equals what is shown, and `none` is answered exactly where no value is.
     Value,
     /// No version that an open snapshot or a held mark needs is freed.
     NeededFreed,
@@ -267,55 +278,59 @@ fn check_between(order: &Order) -> Result<(), Violation> {
     Ok(())
 }
 
+/// Plain registers, or a copy of them. Each register starts without a value.
+type Registers = Vec<Option<u64>>;
+
+/// What a register shows in a copy: no value before its first put, and none without a copy.
+fn shown_in(copy: Option<&Registers>, register: u16) -> Option<i128> {
+    copy.and_then(|copy| copy[usize::from(register)]).map(i128::from)
+}
+
 /// Feeds the plain registers in the order and keeps what they show.
 fn replay(order: &mut Order) {
     let Order { groups, operations, sequence, .. } = order;
-    let mut registers = vec![0; usize::from(order.registers)];
-    let mut copies: Vec<Option<Vec<u64>>> = vec![None; usize::from(order.workers)];
-    let mut marks: [Option<Vec<u64>>; 12] = Default::default();
+    let mut registers: Registers = vec![None; usize::from(order.registers)];
+    let mut copies: Vec<Option<Registers>> = vec![None; usize::from(order.workers)];
+    let mut marks: [Option<Registers>; 12] = Default::default();
     for &index in sequence.iter() {
         let operation = &mut operations[index];
         let copy = &mut copies[usize::from(operation.worker)];
         match operation.action {
-            Action::Put { register, value } => registers[usize::from(register)] = value,
+            Action::Put { register, value } => registers[usize::from(register)] = Some(value),
             Action::Open => *copy = Some(registers.clone()),
             Action::Close => *copy = None,
             Action::Collect => {}
-            Action::Get { register } => {
-                operation.shown = Some(i128::from(registers[usize::from(register)]));
-            }
-            Action::Read { register } => {
-                operation.shown = copy.as_ref().map(|copy| i128::from(copy[usize::from(register)]));
-            }
+            Action::Get { register } => operation.shown = shown_in(Some(&registers), register),
+            Action::Read { register } => operation.shown = shown_in(copy.as_ref(), register),
             Action::Total { group } => {
                 operation.shown = copy.as_ref().map(|copy| total(groups.rows(group), copy));
             }
             Action::Mark { mark } => marks[usize::from(mark)] = copy.clone(),
             Action::Release { mark } => marks[usize::from(mark)] = None,
             Action::Marked { register, mark } => {
-                let copy = &marks[usize::from(mark)];
-                operation.shown = copy.as_ref().map(|copy| i128::from(copy[usize::from(register)]));
+                operation.shown = shown_in(marks[usize::from(mark)].as_ref(), register);
             }
         }
     }
 }
 
-/// The sum over a copy: the registers of the rows with a plus, less those with a minus.
-fn total(rows: &[Row], copy: &[u64]) -> i128 {
+/// The sum over a copy: the registers of the rows with a plus, less those with a minus. A register
+/// without a value adds 0.
+fn total(rows: &[Row], copy: &[Option<u64>]) -> i128 {
     let of = |minus: bool| -> i128 {
         let rows = rows.iter().filter(|row| row.minus == minus);
-        rows.map(|row| i128::from(copy[usize::from(row.register)])).sum()
+        rows.filter_map(|row| copy[usize::from(row.register)]).map(i128::from).sum()
     };
     of(false) - of(true)
 }
 
-/// Every finished get, read, marked read and total answers what is shown.
+/// Every finished get, read, marked read and total answers what is shown: `none` where no value is.
 fn check_values(order: &Order) -> Result<(), Violation> {
     for &index in &order.sequence {
         let operation = &order.operations[index];
         if let (true, Outcome::Finished { record, answer }) = (operation.shows(), operation.outcome)
         {
-            if operation.shown.is_none() || answer.shown() != operation.shown {
+            if !operation.answered_by(answer) {
                 let shown = operation.shown_words();
                 let sentence = format!("{operation} answers `{answer}` where {shown} is shown");
                 return Err(Violation { record, claim: Claim::Value, sentence });

@@ -168,8 +168,8 @@ impl Profile {
                 ..MIXED
             },
             Kind::Totals => Profile {
-                workers: (2, 5),
-                registers: (1, 4),
+                workers: (2, 6),
+                registers: (1, 3),
                 spare: (4, 24),
                 list: Habit { missing: 20, unfit: 10, groups: (1, 3), rows: (1, 6) },
                 weights: Weights { put: 40, open: 14, read: 4, close: 5, get: 2, collect: 20 },
@@ -177,8 +177,8 @@ impl Profile {
                 marking: Marking { mark: 2, release: 2, marked: 2, ..MIXED.marking },
                 invalid: 60,
                 burst: 10,
-                stall_read: 200,
-                stillness: 80,
+                stall_read: 250,
+                stillness: 100,
                 ..MIXED
             },
             Kind::Lists => Profile {
@@ -213,6 +213,19 @@ impl Profile {
                 burst: 10,
                 stall_read: 300,
                 stillness: 100,
+                ..MIXED
+            },
+            Kind::Empty => Profile {
+                workers: (2, 6),
+                registers: (1, 30),
+                spare: (4, 40),
+                list: Habit { missing: 20, unfit: 10, groups: (1, 4), rows: (1, 8) },
+                weights: Weights { put: 12, open: 14, read: 20, close: 8, get: 30, collect: 4 },
+                total: 12,
+                marking: Marking { mark: 10, release: 3, marked: 20, marks: (1, 4) },
+                burst: 2,
+                stall: 200,
+                stillness: 60,
                 ..MIXED
             },
         }

@@ -6,6 +6,7 @@ use crate::coverage::{Branch, Observer};
 use crate::fault::{self, Fault};
 use crate::flush;
 use crate::list::Place;
+use crate::observe::observe_reading;
 use crate::pool::Range;
 use crate::store::{Doing, Slot, Store, LAST_CLOCK};
 
@@ -45,7 +46,7 @@ impl Store {
         let covered = std::mem::replace(&mut self.newest[usize::from(register)], own);
         self.slots[usize::from(covered)].newer = Some(own);
         self.slots[usize::from(own)] =
-            Slot { value, low: None, high: None, older: Some(covered), newer: None };
+            Slot { reading: Some(value), low: None, high: None, older: Some(covered), newer: None };
         (Doing::PutStamp { register, covered, own }, Answer::Going)
     }
 
@@ -139,9 +140,22 @@ impl Store {
         (Doing::ReadAt { slot, first: true }, Answer::Going)
     }
 
+    /// What a get, a read or a marked read answers at a version, or what a fault takes for it: one
+    /// that shows 0 where there is no reading says so by `zero`.
+    #[inline(always)]
+    pub(crate) fn shown<F: Fault>(&self, slot: u16, zero: bool) -> Answer {
+        let version = &self.slots[usize::from(slot)];
+        match version.reading {
+            None if zero || F::NONE_BY_REGISTER && version.newer.is_some() => Answer::Value(0),
+            Some(0) if F::ZERO_NONE => Answer::None,
+            Some(_) if F::NONE_BY_SLOT && usize::from(slot) < self.newest.len() => Answer::None,
+            reading => Answer::reading(reading),
+        }
+    }
+
     /// Read (2).
     #[inline]
-    pub(crate) fn read_at<O: Observer>(
+    pub(crate) fn read_at<F: Fault, O: Observer>(
         &mut self,
         w: usize,
         slot: u16,
@@ -151,7 +165,12 @@ impl Store {
         let version = &self.slots[usize::from(slot)];
         if version.low.is_some() && version.low <= self.workers[w].announced {
             seen.branch(if first { Branch::ReadFoundAtOnce } else { Branch::ReadFound });
-            return (Doing::Idle, Answer::Value(version.value));
+            observe_reading(
+                version,
+                [Branch::ReadNone, Branch::ReadNoneSince, Branch::ReadZero],
+                seen,
+            );
+            return (Doing::Idle, self.shown::<F>(slot, F::READ_ZERO));
         }
         seen.branch(Branch::ReadMoves);
         // In the right hub there always is an older version here.
@@ -160,11 +179,26 @@ impl Store {
     }
 
     /// Get.
-    pub(crate) fn get<O: Observer>(&mut self, register: u16, seen: &mut O) -> (Doing, Answer) {
+    pub(crate) fn get<F: Fault, O: Observer>(
+        &mut self,
+        register: u16,
+        seen: &mut O,
+    ) -> (Doing, Answer) {
         let stamped = self.stamp(register);
         seen.branch(if stamped { Branch::GetStamps } else { Branch::GetStampedAlready });
         let newest = self.newest[usize::from(register)];
-        (Doing::Idle, Answer::Value(self.slots[usize::from(newest)].value))
+        if O::ON || F::FIRST_PUT_NONE {
+            let version = &self.slots[usize::from(newest)];
+            observe_reading(version, [Branch::GetNone, Branch::GetNone, Branch::GetZero], seen);
+            let covered = version.older.map(|older| self.slots[usize::from(older)]);
+            if stamped && covered.is_some_and(|covered| covered.reading.is_none()) {
+                seen.branch(Branch::GetFirstPut);
+                if F::FIRST_PUT_NONE {
+                    return (Doing::Idle, Answer::None);
+                }
+            }
+        }
+        (Doing::Idle, self.shown::<F>(newest, F::GET_ZERO))
     }
 
     /// Total (1) of a row: as read (1).
@@ -181,7 +215,7 @@ impl Store {
         (Doing::TotalAt { slot, first: true, place, sum }, Answer::Going)
     }
 
-    /// Total (2) of a row: as read (2), and the value is summed. The last row's answers.
+    /// Total (2) of a row: as read (2), and the reading is summed. The last row's answers.
     #[inline]
     pub(crate) fn total_at<F: Fault, O: Observer>(
         &mut self,
@@ -200,11 +234,32 @@ impl Store {
             return (Doing::TotalAt { slot, first: false, place, sum }, Answer::Going);
         }
         seen.branch(if first { Branch::TotalFoundAtOnce } else { Branch::TotalFound });
-        if version.value > fault::largest_summed::<F>() {
+        observe_reading(
+            version,
+            [Branch::TotalNone, Branch::TotalNoneSince, Branch::TotalZero],
+            seen,
+        );
+        if let Some(answer) = fault::without_reading::<F>(version) {
+            return (Doing::Idle, answer);
+        }
+        self.total_found::<F, O>(version.reading, place, sum, seen)
+    }
+
+    /// The rest of total (2), where the version is found: one without a reading adds 0.
+    #[inline]
+    fn total_found<F: Fault, O: Observer>(
+        &self,
+        reading: Option<u64>,
+        place: Place,
+        sum: i64,
+        seen: &mut O,
+    ) -> (Doing, Answer) {
+        let value = reading.unwrap_or(0);
+        if value > fault::largest_summed::<F>() {
             seen.branch(if place.left == 0 { Branch::LargeLast } else { Branch::LargeEarlier });
             return (Doing::Idle, Answer::No(Refusal::Summand));
         }
-        let sum = self.sum::<F>(place, sum, version.value as i64);
+        let sum = self.sum::<F>(place, sum, value as i64);
         match place.next() {
             Some(place) => (Doing::TotalStart { place, sum }, Answer::Going),
             None => {

@@ -24,7 +24,8 @@ pub const LAST_CLOCK: u32 = u32::MAX;
 /// A version slot. Free slots have no neighbours; the rest of their contents means nothing.
 #[derive(Clone, Copy, Debug, Default, PartialEq, Eq)]
 pub struct Slot {
-    pub value: u64,
+    /// What its put brought; none where it is from setup (A5).
+    pub reading: Option<u64>,
     /// None: unset, between publishing and stamping.
     pub low: Option<u32>,
     /// None: open, above every time.
@@ -310,7 +311,7 @@ impl Store {
     /// Has a register of the group a newest value above this? Only a fault asks.
     fn sums_above(&self, group: u16, value: u64) -> bool {
         let newest = |register: u16| self.slots[usize::from(self.newest[usize::from(register)])];
-        self.groups.rows(group).iter().any(|row| newest(row.register).value > value)
+        self.groups.rows(group).iter().any(|row| newest(row.register).reading > Some(value))
     }
 
     /// Begins an operation: 3, 4, 10, then 12 or 13, else the worker is busy with it.
@@ -358,8 +359,8 @@ impl Store {
             Doing::OpenAnnounce => self.open_announce(w, seen),
             Doing::OpenPass => self.open_pass(w, seen),
             Doing::ReadStart { register } => self.read_start(register, seen),
-            Doing::ReadAt { slot, first } => self.read_at(w, slot, first, seen),
-            Doing::Get { register } => self.get(register, seen),
+            Doing::ReadAt { slot, first } => self.read_at::<F, O>(w, slot, first, seen),
+            Doing::Get { register } => self.get::<F, O>(register, seen),
             Doing::Close => self.close::<F, O>(w, seen),
             Doing::TotalStart { place, sum } => self.total_start(place, sum, seen),
             Doing::TotalAt { slot, first, place, sum } => {
@@ -371,7 +372,7 @@ impl Store {
                 self.marked_start::<F, O>(w, register, mark, seen)
             }
             Doing::MarkedAt { slot, first, mark, time } => {
-                self.marked_at(w, (slot, first), mark, time, seen)
+                self.marked_at::<F, O>(w, (slot, first), mark, time, seen)
             }
         };
         self.workers[w].doing = next;
@@ -381,6 +382,6 @@ impl Store {
     /// Is a flush about to free a version with a value above this? Only a fault asks.
     fn frees_above(&self, w: usize, next: u16, value: u64) -> bool {
         let range = self.workers[w].merged.get(usize::from(next));
-        range.is_some_and(|range| self.slots[usize::from(range.slot)].value > value)
+        range.is_some_and(|range| self.slots[usize::from(range.slot)].reading > Some(value))
     }
 }

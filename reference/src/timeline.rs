@@ -387,13 +387,13 @@ fn answer(operation: &Operation) -> (&'static str, String) {
     match operation.answer() {
         None | Some(Answer::Done) => ("answer", String::new()),
         Some(answer @ Answer::No(_)) => ("answer wrong", answer.to_string()),
-        Some(answer) => match answer.shown() {
-            None => ("answer", answer.to_string()),
-            Some(value) if operation.shown == Some(value) => ("answer", value.to_string()),
-            Some(value) => {
-                ("answer wrong", format!("{value} \u{2260} {}", operation.shown_words()))
+        Some(answer) => {
+            let words = answer.shown().map_or(answer.to_string(), |value| value.to_string());
+            match operation.shows() && !operation.answered_by(answer) {
+                false => ("answer", words),
+                true => ("answer wrong", format!("{words} \u{2260} {}", operation.shown_words())),
             }
-        },
+        }
     }
 }
 

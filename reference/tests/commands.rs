@@ -294,7 +294,7 @@ fn generate_is_the_same_for_the_same_seed() {
     assert_eq!(run(GENERATE, &["none", "5", "400"], &[]).status.code(), Some(1));
     // Its list goes to a file.
     let rows = file("generated-list", b"");
-    let arguments = ["totals", "5", "400", rows.to_str().unwrap()];
+    let arguments = ["totals", "8", "400", rows.to_str().unwrap()];
     let script = run(GENERATE, &arguments, &[]);
     assert_eq!(script.stdout, run(GENERATE, &arguments[..3], &[]).stdout);
     let list = fs::read(&rows).unwrap();
@@ -345,9 +345,9 @@ fn order_says_what_breaks_it() {
     let log = file("broken-log", b"0 ok\n1 ok\n2 value 5\n");
     let [script, log] = [&script, &log].map(|path| path.to_str().unwrap());
     let sentence = "record 2: worker 0's get of register 0, begun by record 1, \
-        answers `value 5` where 0 is shown";
+        answers `value 5` where no value is shown";
     for (arguments, shown) in
-        [(&[script, log][..], "value 5  0"), (&["--svg", script, log], "5 ≠ 0")]
+        [(&[script, log][..], "value 5  no value"), (&["--svg", script, log], "5 ≠ no value")]
     {
         let output = run(ORDER, arguments, &[]);
         assert_eq!(output.status.code(), Some(1));
@@ -364,7 +364,7 @@ fn order_names_file_line_and_reason() {
     let cases = [
         ("0 ok\n1 ok\n2 done\n", "log line 2 does not fit", "cannot answer `done` at its step 1"),
         ("0 ok\n1 ok\n", "log line 2 does not fit", "2 answers for 3 records"),
-        ("0 ok\n1 fine\n2 value 0\n", "log line 1 has no answer of a log", "\"1 fine\""),
+        ("0 ok\n1 fine\n2 none\n", "log line 1 has no answer of a log", "\"1 fine\""),
         ("0 ok\n2 ok\n", "log line 1 does not begin with its number", "\"2 ok\""),
     ];
     for (log, line, reason) in cases {

@@ -11,7 +11,7 @@ use reference::generate::{script, script_across, Kind};
 fn the_random_suite_reaches_everything() {
     let mut total = Coverage::default();
     for (kind, _) in Kind::ALL {
-        for seed in 0..90 {
+        for seed in 0..100 {
             // Every fifth of them comes over from before A1.
             let before = if seed % 5 == 4 { 400 } else { 0 };
             let script = script_across(kind, seed, 2000, before);
@@ -36,10 +36,20 @@ fn the_random_suite_reaches_everything() {
     least(&Branch::of_marks().collect::<Vec<_>>(), 40);
     // Totals that ended: with an answer on either side of 0, with 18, and refused with 17 or by a list.
     let refusals = |number: usize| total.refusals[number];
-    assert!(total.answers[6] > 4000 && refusals(17) > 4000 && refusals(18) > 800);
+    let answers = |name: &str| total.answered_with(name);
+    assert!(answers("value below 0") > 4000 && refusals(17) > 4000 && refusals(18) > 800);
     assert!(total.lists.iter().all(|&met| met > 30), "{:?}", total.lists);
     // Refusals of marks, releases and marked reads, when they begin and at a step.
     assert!(refusals(19) > 300 && refusals(20) > 1500 && refusals(21) > 2000);
+    // Both of what a get, a read or a marked read may answer, and a total may add.
+    assert!(answers("none") > 30_000 && answers("value") > 100_000);
+    let met = |branch: Branch| total.branches[branch as usize];
+    use Branch::{GetFirstPut, GetNone, GetZero, MarkedNone, MarkedNoneSince, MarkedZero};
+    use Branch::{ReadNone, ReadNoneSince, ReadZero, TotalNone, TotalNoneSince, TotalZero};
+    assert!(met(GetNone) > 9000 && met(GetZero) > 1500 && met(GetFirstPut) > 100);
+    assert!(met(ReadNone) > 8000 && met(ReadNoneSince) > 2500 && met(ReadZero) > 2000);
+    assert!(met(MarkedNone) > 7000 && met(MarkedNoneSince) > 4000 && met(MarkedZero) > 1500);
+    assert!(met(TotalNone) > 30_000 && met(TotalNoneSince) > 8000 && met(TotalZero) > 4000);
 }
 
 /// Hubs of middle sizes are used, not only set up: their slots run out, and are freed and taken again.

@@ -51,9 +51,11 @@ fn a_snapshot_needs_from_its_announcement_to_its_close() {
 fn a_read_after_a_close_shows_nothing() {
     let script = "setup 1 1 2 1\n open 0\n step 0 x2\n close 0\n step 0\n read 0 0\n step 0 x2";
     let violation = refused_at(8, Claim::Value, script, &[(6, "ok"), (7, "going"), (8, "value 0")]);
-    assert!(violation.sentence.contains("where nothing is shown"), "{violation}");
+    assert!(violation.sentence.contains("where no value is shown"), "{violation}");
     let never = "setup 1 1 2 1\n read 0 0\n step 0 x2";
     refused_at(3, Claim::Value, never, &[(1, "ok"), (2, "going"), (3, "value 0")]);
+    // Where no value is shown, `none` is the answer; that it was accepted is not the order's matter.
+    assert_eq!(examined(never, &[(1, "ok"), (2, "going"), (3, "none")]).1, None);
 }
 
 #[test]
@@ -65,12 +67,12 @@ fn an_open_takes_a_new_copy() {
     let answers = |value| accepted.into_iter().chain([(18, value)]).collect::<Vec<_>>();
     let (order, violation) = examined(script, &answers("value 7"));
     assert_eq!((order.operations[3].shown, violation), (Some(7), None));
-    refused_at(18, Claim::Value, script, &answers("value 0"));
+    refused_at(18, Claim::Value, script, &answers("none"));
     // The same with a close between, as the hub has it.
     let script = "setup 1 1 4 1\n open 0\n step 0 x2\n put 0 0 7\n step 0 x8\n close 0\n step 0
         open 0\n step 0 x2\n read 0 0\n step 0 x2";
     assert_eq!(examined(script, &[]).1, None);
-    refused_at(20, Claim::Value, script, &[(20, "value 0")]);
+    refused_at(20, Claim::Value, script, &[(20, "none")]);
 }
 
 #[test]
@@ -89,7 +91,7 @@ fn a_put_refused_with_16_is_left_out() {
     let script = "setup 1 1 3 1\n put 0 0 1000000000000\n get 0 0\n step 0";
     let (order, violation) = examined(script, &[]);
     assert_eq!((order.records, order.operations.len(), violation), (4, 1, None));
-    assert_eq!(order.operations[0].shown, Some(0));
+    assert_eq!(order.operations[0].shown, None);
     refused_at(3, Claim::Value, script, &[(3, "value 1000000000000")]);
     // Whatever its value: it takes no step, and nothing of it is shown.
     let script = "setup 1 1 3 1\n put 0 0 7\n step 0 x3";
@@ -148,9 +150,9 @@ fn only_workers_and_registers_that_exist_begin() {
 }
 
 /// Every answer that a step may have.
-const ANSWERS: [&str; 13] = [
-    "ok", "going", "done", "freed 0", "at 1", "value 0", "value -1", "no 14", "no 15", "no 18",
-    "no 19", "no 20", "no 21",
+const ANSWERS: [&str; 14] = [
+    "ok", "going", "done", "freed 0", "at 1", "value 0", "value -1", "none", "no 14", "no 15",
+    "no 18", "no 19", "no 20", "no 21",
 ];
 
 #[test]
@@ -166,15 +168,15 @@ fn each_step_has_its_answers() {
         ("open 0", &["going", "no 15"]),
         ("open 0\n step 0", &["at 1"]),
         ("open 0\n step 0 x2\n read 0 0", &["going"]),
-        ("open 0\n step 0 x2\n read 0 0\n step 0", &["going", "value 0"]),
+        ("open 0\n step 0 x2\n read 0 0\n step 0", &["going", "none"]),
         ("open 0\n step 0 x2\n close 0", &["done"]),
-        ("get 0 0", &["value 0"]),
+        ("get 0 0", &["none"]),
         ("open 0\n step 0 x2\n total 0 0", &["going"]),
         ("open 0\n step 0 x2\n total 0 0\n step 0", &["going", "value 0", "no 18"]),
         ("open 0\n step 0 x2\n mark 0 1", &["done", "no 19"]),
         ("open 0\n step 0 x2\n mark 0 1\n step 0\n release 0 1", &["done", "no 20", "no 21"]),
         ("open 0\n step 0 x2\n mark 0 1\n step 0\n marked 0 0 1", &["going", "no 20"]),
-        ("open 0\n step 0 x2\n mark 0 1\n step 0\n marked 0 0 1\n step 0", &["going", "value 0"]),
+        ("open 0\n step 0 x2\n mark 0 1\n step 0\n marked 0 0 1\n step 0", &["going", "none"]),
     ];
     for (before, allowed) in cases {
         let script = format!("setup 2 1 4 1\n {before}\n step 0");
@@ -184,9 +186,10 @@ fn each_step_has_its_answers() {
                 None => assert!(allowed.contains(&words), "{before}: {words} is accepted"),
                 Some(found) => {
                     assert!(!allowed.contains(&words), "{before}: {words}: {found}");
-                    // A total may end so, and shows something else.
+                    // A get, a read or a total may end so, and something else is shown.
                     let of_total = before.ends_with("total 0 0\n step 0") && words == "value -1";
-                    let claim = if of_total { Claim::Value } else { Claim::Fit };
+                    let other = of_total || allowed.contains(&"none") && words == "value 0";
+                    let claim = if other { Claim::Value } else { Claim::Fit };
                     assert_eq!((found.record, found.claim), (record, claim), "{before}: {words}");
                 }
             }
@@ -237,7 +240,7 @@ fn a_total_without_a_snapshot_shows_nothing() {
     let violation = examined_with(ROWS.split_once('\n').unwrap().0, script, &answers).1;
     let violation = violation.expect("a violation");
     assert_eq!((violation.record, violation.claim), (3, Claim::Value));
-    assert!(violation.sentence.contains("where nothing is shown"), "{violation}");
+    assert!(violation.sentence.contains("where no value is shown"), "{violation}");
 }
 
 #[test]
@@ -305,7 +308,7 @@ fn a_marked_read_shows_the_marks_copy() {
     let (first, order, violation) = marked(read, &[]);
     let last = order.operations.last().unwrap();
     assert_eq!((last.effect, last.shown, violation), (Some(first + 3), Some(5), None));
-    for words in ["value 6", "value 0"] {
+    for words in ["value 6", "value 0", "none"] {
         let sentence = marked_refused(3, Claim::Value, read, &[(3, words)]);
         assert!(sentence.starts_with("worker 0's read of register 0 at mark 3, "), "{sentence}");
         assert!(sentence.ends_with("where 5 is shown"), "{sentence}");
@@ -321,7 +324,7 @@ fn a_marked_read_shows_the_marks_copy() {
 fn a_read_of_an_empty_mark_shows_nothing() {
     let read = [(0, "ok"), (1, "going"), (2, "value 0")];
     let sentence = marked_refused(2, Claim::Value, "marked 0 0 4\n step 0 x2", &read);
-    assert!(sentence.ends_with("where nothing is shown"), "{sentence}");
+    assert!(sentence.ends_with("where no value is shown"), "{sentence}");
     let released = "release 0 3\n step 0\n marked 0 0 3\n step 0 x2";
     let read = [(2, "ok"), (3, "going"), (4, "value 5")];
     marked_refused(4, Claim::Value, released, &read);
@@ -387,8 +390,8 @@ fn the_lowest_record_is_told() {
     let script = "setup 3 1 4 1\n put 0 0 7\n step 0\n collect 1\n step 1 x4\n get 2 0\n step 2
         step 0 x2\n get 2 0\n step 2";
     let freed = (7, "freed 1");
-    refused_at(11, Claim::Once, script, &[freed, (9, "value 0"), (13, "value 1")]);
-    refused_at(9, Claim::Value, script, &[freed, (9, "value 1"), (13, "value 0")]);
+    refused_at(11, Claim::Once, script, &[freed, (9, "none"), (13, "value 1")]);
+    refused_at(9, Claim::Value, script, &[freed, (9, "value 1"), (13, "none")]);
 }
 
 /// A put, a get after it, a refused put, and an open that has only begun.

@@ -117,8 +117,8 @@ fn near_misses_of_a1_are_found() {
     assert_eq!(found::<ValueIdles>(small), "a refused record changes the store");
     let small = across(small);
     assert!(found::<ValueAtStep>(small).ends_with("14 is not exact: No(Value)"));
-    assert!(found::<GetHides>(small).starts_with("a get: Value(999999999999), not"));
-    assert!(found::<ReadHides>(small).starts_with("a read: 999999999999, not"));
+    assert!(found::<GetHides>(small).starts_with("a get: value 999999999999, not"));
+    assert!(found::<ReadHides>(small).starts_with("a read: value 999999999999, not"));
 }
 
 /// With a list: every total of its groups, and of one that has no rows.
@@ -224,7 +224,7 @@ fn near_misses_of_a3_are_found() {
     assert!(found::<MarkClock>(small).ends_with("is freed, 4294967294 needs it"));
     assert!(found::<CloseEmpties>(small).ends_with("No(MarkEmpty), not Ok"));
     let times = with_marks(size(1, 1, 3, 2, &[1]), 1);
-    assert_eq!(found::<MarkedOwnTime>(times), "a marked read: 1, not 0");
+    assert_eq!(found::<MarkedOwnTime>(times), "a marked read: value 1, not none");
     assert_eq!(found::<UsedAtBegin>(small), "Mark { mark: 0 }: Done, not No(MarkUsed)");
     assert_eq!(found::<EmptyAtBegin>(small), "Release { mark: 0 }: Done, not No(MarkEmpty)");
     assert!(found::<MarkedNewest>(small).ends_with("Going, not No(MarkEmpty)"));
@@ -234,4 +234,33 @@ fn near_misses_of_a3_are_found() {
     assert!(found::<UsedBeforeSnapshot>(small).ends_with("No(MarkUsed), not No(NotAnnounced)"));
     assert!(found::<MarkAfterBusy>(small).ends_with("No(Busy), not No(Register)"));
     assert!(found::<MarkTwelve>(small).ends_with("not No(Register)"));
+}
+
+/// A put of 0 is a value like any other, and no reading is none: as many states as with other values.
+#[test]
+fn puts_of_0() {
+    assert_eq!(states(size(1, 1, 3, 2, &[0, 1])), 19_038);
+    assert_eq!(states(with_list(size(1, 2, 4, 1, &[0]), TWO)), 25_202);
+    assert_eq!(states(with_marks(size(2, 1, 2, 1, &[0]), 1)), 61_011);
+}
+
+#[test]
+fn near_misses_of_a5_are_found() {
+    fn found<F: Fault + Clone>(size: Size) -> String {
+        let reason = explore::<F>(size, false).unwrap_err();
+        reason.lines().next().unwrap_or_default().to_string()
+    }
+    let small = size(2, 1, 2, 1, &[0, 1]);
+    let marked = with_marks(small, 1);
+    assert_eq!(found::<GetZero>(small), "a get: value 0, not none");
+    assert_eq!(found::<ReadZero>(small), "a read: value 0, not none");
+    assert_eq!(found::<MarkedZero>(marked), "a marked read: value 0, not none");
+    assert!(found::<ZeroNone>(small).ends_with(": none, not value 0"));
+    assert!(found::<NoneByRegister>(small).ends_with(": value 0, not none"));
+    assert!(found::<FirstPutNone>(small).starts_with("a get: none, not value "));
+    let three = size(1, 1, 3, 1, &[1]);
+    assert!(found::<NoneBySlot>(three).ends_with(": none, not value 1"));
+    let summed = with_list(size(1, 1, 2, 1, &[1]), MINUS);
+    assert_eq!(found::<TotalNone>(summed), "a total: None, not Value(0)");
+    assert_eq!(found::<TotalRefusesNone>(summed), "a total: No(Summand), not Value(0)");
 }

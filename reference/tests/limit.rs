@@ -48,7 +48,7 @@ fn puts_above_the_limit_are_refused() {
     }
     // Nor is there a put to step, or a value to show.
     let script = "setup 1 1 2 1\n put 0 0 1000000000000\n step 0\n get 0 0\n step 0";
-    assert_eq!(run(script), ["ok", "no 16", "no 11", "ok", "value 0"]);
+    assert_eq!(run(script), ["ok", "no 16", "no 11", "ok", "none"]);
 }
 
 /// 16 is about puts: no other record has a value.
@@ -168,7 +168,7 @@ impl Met {
     /// Sees a record that was taken after A1, with the store before it.
     fn see(&mut self, store: &Store, record: Record, answer: Answer) {
         let above = |value| usize::from(value > MAX_VALUE);
-        let stored = |slot: u16| above(store.slots[usize::from(slot)].value);
+        let stored = |slot: u16| above(store.slots[usize::from(slot)].reading.unwrap_or(0));
         let worker = match record {
             Record::Step { worker } => store.workers.get(usize::from(worker)),
             Record::Put { value, .. } if answer == no(16) => return self.refused += above(value),

@@ -93,16 +93,18 @@ fn columns_line_up() {
 fn a_broken_order_says_where() {
     let script = "setup 1 1 2 1\n get 0 0\n step 0\n get 0 0\n step 0";
     let broken = listing(script, &[(2, "value 3")]);
-    let expected =
-        ["1 get of register 0 0 1 2 2 value 3 0", "2 get of register 0 0 3 4 4 value 0 0"];
+    let expected = [
+        "1 get of register 0 0 1 2 2 value 3 no value",
+        "2 get of register 0 0 3 4 4 none no value",
+    ];
     assert_eq!(rows(&broken, "place operation"), expected, "{broken}");
     let verdict = "Not accepted: record 2: worker 0's get of register 0, begun by record 1, \
-        answers `value 3` where 0 is shown\n";
+        answers `value 3` where no value is shown\n";
     assert!(broken.ends_with(verdict), "{broken}");
     // A read that was accepted without a snapshot.
     let script = "setup 1 1 2 1\n read 0 0\n step 0 x2";
     let replaced = [(1, "ok"), (2, "going"), (3, "value 0")];
-    assert!(listing(script, &replaced).contains("value 0  nothing\n"));
+    assert!(listing(script, &replaced).contains("value 0  no value\n"));
 }
 
 #[test]
@@ -160,6 +162,27 @@ fn a_total_refused_with_18_is_listed() {
     assert_eq!(rows(&listing, "operation worker"), [why], "{listing}");
 }
 
+/// Without a value in the column of the plain registers, and in the sentences only where there are
+/// such.
+#[test]
+fn registers_without_a_value_are_listed() {
+    let script = "setup 1 2 4 1\n get 0 1\n step 0\n put 0 0 0\n step 0 x8\n get 0 0\n step 0";
+    let listing = listing(script, &[]);
+    let expected = [
+        "1 get of register 1 0 1 2 2 none no value",
+        "2 put of 0 to register 0 0 3 5 11 done",
+        "3 get of register 0 0 12 13 13 value 0 0",
+    ];
+    assert_eq!(rows(&listing, "place operation"), expected, "{listing}");
+    let one_line = listing.split_whitespace().collect::<Vec<_>>().join(" ");
+    assert!(one_line.contains("in this order; no value before the first put place"), "{listing}");
+    let accepted = "answered what plain registers show, `none` where that is no value. No version";
+    assert!(one_line.contains(accepted), "{listing}");
+    // A wrong `none` is told as a wrong value is.
+    let broken = self::listing(script, &[(13, "none")]);
+    assert!(broken.ends_with("answers `none` where 0 is shown\n"), "{broken}");
+}
+
 /// With what each mark held below, and why an operation on a mark was refused at its step.
 #[test]
 fn marks_are_listed_with_what_they_held() {
@@ -172,7 +195,7 @@ fn marks_are_listed_with_what_they_held() {
         "2 mark 3 0 4 5 5 done",
         "3 open 1 6 8 8 at 6",
         "4 mark 11 1 9 10 10 done",
-        "5 read of register 0 at mark 3 1 12 15 15 value 0 0",
+        "5 read of register 0 at mark 3 1 12 15 15 none no value",
         "6 release of mark 3 0 16 18 18 done",
         "7 mark 3 0 21 23 23 done",
     ];

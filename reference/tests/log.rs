@@ -109,14 +109,15 @@ fn numbers_of_lines() {
 
 #[test]
 fn words_both_ways() {
-    let mut answers = vec![Answer::Ok, Answer::Going, Answer::Done];
+    let mut answers = vec![Answer::Ok, Answer::Going, Answer::Done, Answer::None];
     answers.extend([0, 1, 9, 10, 2047].map(Answer::Freed));
     answers.extend([1, 5, 4294967294].map(Answer::At));
     answers.extend([0, 7, 1 << 63, u64::MAX].map(Answer::Value));
     answers.extend([1, 5, 31_999_999_999_968].map(Answer::Minus));
     answers.extend(Refusal::ALL.map(Answer::No));
     let text = String::from_utf8(log::log_text(&answers)).unwrap();
-    assert!(text.contains("14 value 18446744073709551615\n15 value -1\n16 value -5\n"));
+    assert!(text.starts_with("0 ok\n1 going\n2 done\n3 none\n4 freed 0\n"));
+    assert!(text.contains("15 value 18446744073709551615\n16 value -1\n17 value -5\n"));
     let lines = answers.iter().enumerate();
     assert_eq!(text, lines.map(|(n, answer)| format!("{n} {answer}\n")).collect::<String>());
     assert_eq!(log::parse_log(&text), Ok(answers));
@@ -132,6 +133,8 @@ fn what_is_no_log() {
         "0 freed\n",
         "0 freed 01\n",
         "0 no 22\n",
+        "0 none 0\n",
+        "0 None\n",
         "0 value\n",
         "0 value -\n",
         "0 value -0\n",

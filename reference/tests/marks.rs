@@ -95,7 +95,7 @@ fn a_marked_read_is_at_the_marks_time() {
         words[words.len() - steps..].to_vec()
     };
     assert_eq!(read("marked 1 0 3", 4), ["going", "going", "value 5", "no 11"]);
-    assert_eq!(read("marked 1 1 3", 4), ["going", "going", "value 0", "no 11"]);
+    assert_eq!(read("marked 1 1 3", 4), ["going", "going", "none", "no 11"]);
     assert_eq!(read("open 1\n step 1 x2\n marked 1 0 3", 3), ["going", "going", "value 5"]);
     assert_eq!(read("open 1\n step 1 x2\n read 1 0", 3), ["going", "value 6", "no 11"]);
     assert_eq!(read("open 1\n step 1 x2\n read 1 1", 2), ["going", "value 7"]);
@@ -191,9 +191,9 @@ fn a_release_waits_for_every_read() {
         step 1\n step 2",
     );
     assert_eq!(last(&mut hub, "release 0 0"), no(21));
-    assert_eq!(last(&mut hub, "step 1"), Answer::Value(0));
+    assert_eq!(last(&mut hub, "step 1"), Answer::None);
     assert_eq!(last(&mut hub, "release 0 0"), no(21));
-    assert_eq!(last(&mut hub, "step 2"), Answer::Value(0));
+    assert_eq!(last(&mut hub, "step 2"), Answer::None);
     assert_eq!(last(&mut hub, "release 0 0\n step 0"), Answer::Done);
 }
 
@@ -310,7 +310,7 @@ fn a_marked_read_moves_off_a_freed_version() {
     assert_eq!(stands(&hub), at(2, false));
     // The slot has another register's reading by now.
     last(&mut hub, "step 0\n put 0 1 1000\n step 0 x3");
-    assert_eq!(store(&hub).slots[3].value, 1000);
+    assert_eq!(store(&hub).slots[3].reading, Some(1000));
     assert_eq!(last(&mut hub, "step 1"), Answer::Value(5));
 }
 

@@ -1,7 +1,7 @@
 //! Document 01's four ways to get it nearly right: each is caught by comparing logs with the
 //! right hub, and the third and fourth by the order checker, which sees only records and log. Then
-//! the near misses of A1, A2 and A3: each by a short script, by random ones, and some by the order
-//! checker.
+//! the near misses of A1, A2, A3 and A5: each by a short script, by random ones, and some by the
+//! order checker; those of the row writer by single rows.
 
 mod common;
 
@@ -10,6 +10,8 @@ use reference::fault::*;
 use reference::generate::{script, script_across, Kind, Script};
 use reference::order::{self, Claim};
 use reference::record::LENGTH;
+use reference::row::{write_row, write_row_with, Written};
+use reference::Refusal;
 
 const SEEDS: u64 = 200;
 const RECORDS: usize = 1500;
@@ -129,7 +131,7 @@ fn a_short_script_for_each_near_miss_of_a1() {
     assert_eq!(told::<ValueFirst>("", &hub("put 1 0 1000000000000")), ["no 3", "no 16"]);
     assert_eq!(told::<ValueBeforeRegister>("", &hub("put 0 1 1000000000000")), ["no 4", "no 16"]);
     assert_eq!(told::<ValueAfterBusy>("", &on_busy), ["no 16", "no 10"]);
-    assert_eq!(told::<ValueIdles>("", &format!("{on_busy}\n step 0")), ["value 0", "no 11"]);
+    assert_eq!(told::<ValueIdles>("", &format!("{on_busy}\n step 0")), ["none", "no 11"]);
     let begun = hub("put 0 0 1000000000000");
     assert_eq!(told::<ValueAtStep>(&begun, "step 0"), ["going", "no 16"]);
     let stored = format!("{begun}\n step 0 x8");
@@ -358,7 +360,7 @@ fn a_short_script_for_each_near_miss_of_a_marked_read() {
         step 0 x3\n collect 0\n step 0 x7\n collect 0\n step 0 x7\n put 0 1 1000\n step 0 x3\n step 1";
     assert_eq!(marked::<LeaveMarked>(freed), ["value 5", "going"]);
     let left = marked::<LeaveMarked>(&format!("{freed}\n step 1"));
-    assert_eq!(left, ["no 11", "value 0"]);
+    assert_eq!(left, ["no 11", "none"]);
 }
 
 #[test]
@@ -432,4 +434,106 @@ fn random_scripts_for_near_misses_of_a3_that_keep_the_order() {
     caught::<MarkAfterBusy>(50, true);
     caught::<MarkByte>(40, false);
     caught::<MarkTwelve>(10, false);
+}
+
+/// Two workers, two registers and worker 1's snapshot of both without a reading, which mark 0 keeps.
+const BEFORE_METERS: &str = "setup 2 2 9 1\n open 1\n step 1 x2\n mark 1 0\n step 1";
+
+/// The last answers of the right hub and of the fault after that, with group 0 of both registers.
+fn metered<F: Fault>(script: &str) -> [String; 2] {
+    told_with::<F>(list("0 + 0\n 0 + 1"), "", &format!("{BEFORE_METERS}\n {script}"))
+}
+
+#[test]
+fn a_short_script_for_each_near_miss_of_none() {
+    let (get, read) = ("get 0 0\n step 0", "read 1 0\n step 1 x2");
+    let marked = "marked 0 0 0\n step 0 x2";
+    assert_eq!(metered::<GetZero>(get), ["none", "value 0"]);
+    assert_eq!(metered::<ReadZero>(read), ["none", "value 0"]);
+    assert_eq!(metered::<MarkedZero>(marked), ["none", "value 0"]);
+    // A put of 0, seen by a get and by a snapshot from after it.
+    let zero = "put 0 0 0\n step 0 x3\n close 1\n step 1\n open 1\n step 1 x2\n mark 1 1\n step 1";
+    for script in [get, read, "marked 0 0 1\n step 0 x2"] {
+        assert_eq!(metered::<ZeroNone>(&format!("{zero}\n {script}")), ["value 0", "none"]);
+    }
+    // The first put is stamped: the snapshot from before it shows none all the same.
+    for (script, worker) in [(read, 1), (marked, 0)] {
+        let script = format!("put 0 0 7\n step 0 x3\n {script}\n step {worker}");
+        assert_eq!(metered::<NoneByRegister>(&script), ["none", "value 0"]);
+        assert_eq!(metered::<ZeroNone>(&script), ["none", "none"]);
+    }
+    // It is published and not yet stamped: a get stamps it, and shows it.
+    let published = "put 0 0 7\n step 0\n get 1 0\n step 1";
+    assert_eq!(metered::<FirstPutNone>(published), ["value 7", "none"]);
+    // Its version covers a put, so that the fault has nothing to do with it.
+    let second = "put 0 0 7\n step 0 x3\n put 0 0 8\n step 0\n get 1 0\n step 1";
+    assert_eq!(metered::<FirstPutNone>(second), ["value 8", "value 8"]);
+    // Slot 0 is freed, and a put on register 1 takes it.
+    let taken =
+        "setup 1 2 3 1\n put 0 0 5\n step 0 x8\n collect 0\n step 0 x6\n put 0 1 9\n step 0 x8
+        get 0 1\n step 0";
+    assert_eq!(told::<NoneBySlot>("", taken), ["value 9", "none"]);
+}
+
+#[test]
+fn a_short_script_for_each_near_miss_of_a_total_without_a_reading() {
+    let total = |steps: usize| format!("put 0 1 20\n step 0 x3\n total 1 0\n step 1 x{steps}");
+    assert_eq!(metered::<TotalRefusesNone>(&total(2)), ["going", "no 18"]);
+    assert_eq!(metered::<TotalNone>(&total(2)), ["going", "none"]);
+    assert_eq!(metered::<TotalRefusesNone>(&total(5)), ["value 0", "no 11"]);
+    // As of a snapshot in which register 0 has a reading, and register 1 none.
+    let half =
+        "put 0 0 20\n step 0 x3\n close 1\n step 1\n open 1\n step 1 x2\n total 1 0\n step 1 x4";
+    assert_eq!(metered::<TotalRefusesNone>(half), ["value 20", "no 18"]);
+    assert_eq!(metered::<TotalNone>(half), ["value 20", "none"]);
+}
+
+/// What the right row writer and the fault do with no reading, in a buffer of so many bytes.
+fn rows<F: Fault>(length: usize, register: u16) -> [(Result<Written, Refusal>, bool); 2] {
+    let mut buffers = [vec![9; length], vec![9; length]];
+    let right = write_row(&mut buffers[0], register, 7, None);
+    let wrong = write_row_with::<F>(&mut buffers[1], register, 7, None);
+    let untouched = buffers.map(|buffer| buffer.iter().all(|&byte| byte == 9));
+    [(right, untouched[0]), (wrong, untouched[1])]
+}
+
+#[test]
+fn a_row_for_each_near_miss_of_the_row_writer() {
+    let none = (Ok(Written::None), true);
+    assert_eq!(rows::<RowOfNone>(32, 1), [none, (Ok(Written::None), false)]);
+    let (no_register, short) = ((Err(Refusal::Register), true), (Err(Refusal::Buffer), true));
+    assert_eq!(rows::<RowNoneFirst>(4096, 256), [no_register, none]);
+    assert_eq!(rows::<RowNoneFirst>(31, 1), [short, none]);
+    assert_eq!(rows::<RowNoneBeforeBuffer>(31, 1), [short, none]);
+    assert_eq!(rows::<RowNoneBeforeBuffer>(31, 256), [no_register, no_register]);
+    assert_eq!(rows::<RowNoneBeforeBuffer>(32, 1), [none, none]);
+}
+
+/// Random scripts tell them too, and the checker finds each: another value than is shown, or a total
+/// that cannot be answered so.
+#[test]
+fn random_scripts_for_each_near_miss_of_a5() {
+    fn caught<F: Fault>(least: usize) -> (usize, Vec<Claim>) {
+        const EMPTY_KINDS: [Kind; 3] = [Kind::Mixed, Kind::Marks, Kind::Empty];
+        let seeded = |kind| (0..80).map(move |seed| script(kind, 8000 + seed, 1000));
+        let (differing, claims) = caught_in::<F>(EMPTY_KINDS.into_iter().flat_map(seeded), 0);
+        assert!(differing > least, "{differing}");
+        (differing, claims)
+    }
+    for (differing, claims) in [
+        caught::<GetZero>(100),
+        caught::<ReadZero>(80),
+        caught::<MarkedZero>(80),
+        caught::<ZeroNone>(100),
+        caught::<NoneByRegister>(80),
+        caught::<NoneBySlot>(50),
+        caught::<FirstPutNone>(15),
+    ] {
+        assert_eq!(claims, vec![Claim::Value; differing]);
+    }
+    let (differing, claims) = caught::<TotalNone>(80);
+    assert_eq!(claims, vec![Claim::Fit; differing]);
+    // The checker leaves a total that met 18 out: other versions may be stamped after that.
+    let (_, claims) = caught::<TotalRefusesNone>(80);
+    assert!(claims.len() < 10, "{claims:?}");
 }

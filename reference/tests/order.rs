@@ -85,7 +85,7 @@ fn effects_of_marks() {
         (Action::Release { mark: 7 }, 16),
     ];
     assert_eq!(effects, expected);
-    assert_eq!(placed[4].shown, Some(0));
+    assert_eq!(placed[4].shown, None);
     let held = Held { mark: 7, time: 1, worker: 0, from: 5, until: Some(16) };
     assert_eq!(order.held, [held]);
 }

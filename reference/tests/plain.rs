@@ -12,7 +12,8 @@ const NONE: u64 = u64::MAX;
 
 #[derive(Clone, Default)]
 struct Version {
-    value: u64,
+    /// None from setup.
+    value: Option<u64>,
     low: u64,
     high: u64,
 }
@@ -176,7 +177,7 @@ impl Plain {
         self.workers = vec![Worker::default(); p];
         self.clock = clock;
         self.batch = [1, 2, 6, 8, 15, 18, 21, 24, 36, 40, 44, 48, 52, 56, 60, 64][p - 1];
-        self.slots = vec![Version { value: 0, low: 0, high: NONE }; n];
+        self.slots = vec![Version { value: None, low: 0, high: NONE }; n];
         self.lists = (0..v).map(|register| vec![register]).collect();
         self.free = (v..n).collect();
         Ok("ok".to_string())
@@ -212,7 +213,7 @@ impl Plain {
                 self.stamp(register);
                 let slot = self.free.pop_front().unwrap();
                 self.workers[w].covered = *self.lists[register].last().unwrap();
-                self.slots[slot] = Version { value, low: NONE, high: NONE };
+                self.slots[slot] = Version { value: Some(value), low: NONE, high: NONE };
                 self.lists[register].push(slot);
                 going
             }
@@ -257,7 +258,7 @@ impl Plain {
                 let slot = self.workers[w].standing.unwrap();
                 if self.slots[slot].low <= self.workers[w].time.unwrap() {
                     self.workers[w].standing = None;
-                    return self.end(w, format!("value {}", self.slots[slot].value));
+                    return self.end(w, self.shown(slot));
                 }
                 self.workers[w].standing = Some(self.older(slot));
                 going
@@ -291,7 +292,7 @@ impl Plain {
                 let slot = self.workers[w].standing.unwrap();
                 if self.slots[slot].low <= time {
                     (self.workers[w].standing, self.workers[w].marked) = (None, None);
-                    return self.end(w, format!("value {}", self.slots[slot].value));
+                    return self.end(w, self.shown(slot));
                 }
                 self.workers[w].standing = Some(self.older(slot));
                 going
@@ -299,7 +300,7 @@ impl Plain {
             _ => {
                 self.stamp(register);
                 let newest = *self.lists[register].last().unwrap();
-                self.end(w, format!("value {}", self.slots[newest].value))
+                self.end(w, self.shown(newest))
             }
         }
     }
@@ -317,15 +318,23 @@ impl Plain {
             return going;
         }
         self.workers[w].standing = None;
-        if self.slots[slot].value > 999999999999 {
+        let value = self.slots[slot].value.unwrap_or(0);
+        if value > 999999999999 {
             return self.end(w, "no 18".to_string());
         }
-        self.workers[w].sum += sign * i128::from(self.slots[slot].value);
+        self.workers[w].sum += sign * i128::from(value);
         self.workers[w].rows += 1;
         if self.workers[w].rows < self.groups[group].len() {
             return going;
         }
         self.end(w, format!("value {}", self.workers[w].sum))
+    }
+
+    fn shown(&self, slot: usize) -> String {
+        match self.slots[slot].value {
+            Some(value) => format!("value {value}"),
+            None => "none".to_string(),
+        }
     }
 
     fn older(&self, slot: usize) -> usize {

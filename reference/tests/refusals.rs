@@ -324,7 +324,7 @@ fn fields_at_their_bounds() {
         put 0 256 1
         collect 3
         step 255";
-    let expected = ["ok", "ok", "value 0", "no 3", "no 4", "no 3", "no 4", "no 3", "no 3"];
+    let expected = ["ok", "ok", "none", "no 3", "no 4", "no 3", "no 4", "no 3", "no 3"];
     assert_eq!(run(script), expected);
 }
 

@@ -15,8 +15,8 @@ fn setup_leaves_the_starting_store() {
     assert_eq!(store.free, [4, 3, 2]);
     assert!(store.queue.is_empty());
     for slot in &store.slots[..2] {
-        let contents = (slot.value, slot.low, slot.high, slot.older, slot.newer);
-        assert_eq!(contents, (0, Some(0), None, None, None));
+        let contents = (slot.reading, slot.low, slot.high, slot.older, slot.newer);
+        assert_eq!(contents, (None, Some(0), None, None, None));
     }
     for worker in &store.workers {
         assert_eq!((worker.doing, worker.announced), (Doing::Idle, None));
@@ -120,8 +120,7 @@ fn a_read_takes_at_least_two_steps() {
         step 0
         close 0
         step 0";
-    let expected =
-        ["ok", "ok", "going", "at 1", "ok", "going", "value 0", "ok", "value 0", "ok", "done"];
+    let expected = ["ok", "ok", "going", "at 1", "ok", "going", "none", "ok", "none", "ok", "done"];
     assert_eq!(run(script), expected);
 }
 
@@ -149,7 +148,7 @@ fn reads_on_an_unlinked_version_move_to_the_older_one() {
     assert_eq!((store(&hub).slots[1].low, store(&hub).slots[1].high), (Some(2), Some(2)));
     assert_eq!(last(&mut hub, "collect 2\n step 2 x7"), Answer::Freed(1));
     assert_eq!(store(&hub).workers[0].doing, Doing::ReadAt { slot: 0, first: false });
-    assert_eq!(last(&mut hub, "step 0"), Answer::Value(0));
+    assert_eq!(last(&mut hub, "step 0"), Answer::None);
     assert_eq!(last(&mut hub, "step 1"), Answer::At(2));
     assert_eq!(last(&mut hub, "read 1 0\n step 1 x2"), Answer::Value(8));
 }

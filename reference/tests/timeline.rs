@@ -220,7 +220,22 @@ fn a_broken_order_is_marked() {
     assert_eq!(count(&svg, "violation"), 1);
     assert!(svg.contains(">The order of demand 3: not accepted</text>"), "{svg}");
     assert!(svg.contains(">record 2: worker 0's get of register 0, "), "{svg}");
-    assert!(svg.contains(">3 ≠ 0</text>"), "{svg}");
+    assert!(svg.contains(">3 ≠ no value</text>"), "{svg}");
+}
+
+/// `none` stands below its bar as a value does, and in red where a value is shown.
+#[test]
+fn none_is_drawn_as_an_answer() {
+    let script = "setup 1 1 4 1\n open 0\n step 0 x2\n mark 0 2\n step 0\n get 0 0\n step 0
+        read 0 0\n step 0 x2\n marked 0 0 2\n step 0 x2";
+    let svg = timeline(script, &[]);
+    assert_eq!((count(&svg, "answer"), count(&svg, "answer wrong")), (4, 0), "{svg}");
+    assert_eq!(svg.matches(">none</text>").count(), 3, "{svg}");
+    let put = "setup 1 1 4 1\n put 0 0 0\n step 0 x8\n get 0 0\n step 0";
+    assert!(timeline(put, &[]).contains(r#">0</text>"#));
+    let svg = timeline(put, &[(11, "none")]);
+    assert_eq!((count(&svg, "answer wrong"), count(&svg, "violation")), (1, 1), "{svg}");
+    assert!(svg.contains(">none ≠ 0</text>"), "{svg}");
 }
 
 #[test]

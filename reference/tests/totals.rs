@@ -141,7 +141,7 @@ fn only_an_accepted_setup_takes_its_list() {
 fn an_empty_list_is_a_plain_setup() {
     let script =
         "setup 1 1 4 1\n open 0\n step 0 x2\n total 0 0\n total 0 31\n read 0 0\n step 0 x2";
-    let expected = ["ok", "ok", "going", "at 1", "no 17", "no 17", "ok", "going", "value 0"];
+    let expected = ["ok", "ok", "going", "at 1", "no 17", "no 17", "ok", "going", "none"];
     assert_eq!(run(script), expected);
 }
 
@@ -264,7 +264,7 @@ fn a_total_moves_off_a_freed_version() {
         assert!(stands(&hub, 2));
         // The slot has another register's reading by now.
         last(&mut hub, "step 0\n put 0 1 1000\n step 0 x3");
-        assert_eq!(store(&hub).slots[3].value, 1000);
+        assert_eq!(store(&hub).slots[3].reading, Some(1000));
         assert_eq!(last(&mut hub, "step 1"), Answer::Value(5));
     }
 }
