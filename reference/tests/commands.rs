@@ -139,6 +139,24 @@ fn the_sample_of_marks_has_its_log() {
     assert_eq!(text(&svg.stdout), sample("month-end.svg"), "{}", text(&svg.stderr));
 }
 
+/// An empty flat, its first reading of 0, and a snapshot and a total from before that.
+#[test]
+fn the_sample_of_an_empty_flat_has_its_log() {
+    let script = records(&sample("empty-flat.txt"));
+    let rows = run(RECORDS, &["pack-list"], sample("empty-flat.list").as_bytes()).stdout;
+    let rows = file("empty-flat", &rows);
+    let rows = rows.to_str().unwrap();
+    let log = run(HUBLOG, &[rows], &script).stdout;
+    assert_eq!(text(&log), sample("empty-flat.log"));
+    let counts = [" none\n", " value 0\n", " value 1200\n"].map(|w| text(&log).matches(w).count());
+    assert_eq!(counts, [3, 1, 1]);
+    let (script, log) = (file("flat-records", &script), file("flat-log", &log));
+    let [script, log] = [&script, &log].map(|path| path.to_str().unwrap());
+    let listing = run(ORDER, &[script, log, rows], &[]);
+    assert!(listing.status.success(), "{}", text(&listing.stderr));
+    assert_eq!(text(&listing.stdout).matches("none        no value\n").count(), 3);
+}
+
 #[test]
 fn records_packs_and_unpacks_lists() {
     let rows = "0 + 3\n0 - 4\n31 + 0\n";
