@@ -65,7 +65,7 @@ fn two_announce_one_time() {
 fn an_unstamped_put_is_not_in_an_older_snapshot() {
     holds(
         "setup 2 1 2 5\n put 0 0 7\n step 0\n open 1\n step 1 x2\n read 1 0\n step 1 x3",
-        &["ok", "ok", "going", "ok", "going", "at 5", "ok", "going", "going", "value 0"],
+        &["ok", "ok", "going", "ok", "going", "at 5", "ok", "going", "going", "none"],
     );
 }
 
@@ -107,7 +107,7 @@ fn values_of_all_lengths() {
         if value <= 999_999_999_999 {
             holds(&script, &["ok", "ok", "no 10", "going", "going", "done", "ok", &shown]);
         } else {
-            holds(&script, &["ok", "no 16", "no 16", "no 11", "no 11", "no 11", "ok", "value 0"]);
+            holds(&script, &["ok", "no 16", "no 16", "no 11", "no 11", "no 11", "ok", "none"]);
             refused += 1;
         }
     }
@@ -123,7 +123,7 @@ fn ends_of_files() {
         assert_eq!(printed(&vec![7; length], &[], &[]), b"0 no 6\n");
         let mut file = records("setup 1 1 1 1\n get 0 0\n step 0");
         file.extend(vec![0; length]);
-        assert_eq!(printed(&file, &[], &[]), b"0 ok\n1 ok\n2 value 0\n3 no 6\n");
+        assert_eq!(printed(&file, &[], &[]), b"0 ok\n1 ok\n2 none\n3 no 6\n");
     }
 }
 
@@ -172,6 +172,12 @@ fn random_scripts_of_all_kinds() {
     least(&Branch::OF_TOTAL, 20);
     least(&Branch::OF_LIST, 500);
     least(&Branch::of_marks().collect::<Vec<_>>(), 20);
+    least(&Branch::of_readings().collect::<Vec<_>>(), 40);
+    // Both of what a get, a read or a marked read may answer.
+    assert!(
+        total.answered_with("none") > 20_000 && total.answered_with("value") > 60_000,
+        "{total}"
+    );
     assert!(total.lists.iter().all(|&met| met >= 30), "{:?}", total.lists);
 }
 
@@ -191,11 +197,23 @@ fn long_scripts_of_marks() {
     }
 }
 
+/// Few puts on up to thirty registers: many are read before the first.
+#[test]
+fn long_scripts_of_empty_flats() {
+    let total = together((3000..3006).map(|seed| (Kind::Empty, "empty", seed, 40_000)).collect());
+    for branch in Branch::of_readings() {
+        let met = total.branches[branch as usize];
+        assert!(met > 3, "{branch:?} met {met} times");
+    }
+}
+
 /// The numbers of the lines have up to seven digits.
 #[test]
 fn more_than_a_million_lines() {
     let reached = agree("totals 7", &script(Kind::Totals, 7, 1_100_000));
-    assert!(reached.answers.iter().all(|&met| met > 1000), "{reached}");
+    // Its few registers have readings soon: `none` is only at the beginning.
+    let (none, others) = reached.answers.split_last().expect("some");
+    assert!(*none > 0 && others.iter().all(|&met| met > 1000), "{reached}");
 }
 
 #[test]

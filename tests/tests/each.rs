@@ -64,7 +64,7 @@ fn a_row_that_got_shorter_gets_8() {
     let text = each_printed(&file, &[], 8, Some((3, 7)));
     assert_eq!(
         String::from_utf8(text.clone()).unwrap(),
-        "0 ok\n1 ok\n2 value 0\n3 no 8\n4 no 8\n5 no 5\n6 ok\n7 ok\n"
+        "0 ok\n1 ok\n2 none\n3 no 8\n4 no 8\n5 no 5\n6 ok\n7 ok\n"
     );
     assert_eq!(text, expected(&file, &[], 8, Some((3, 7))));
     // A row that got longer, or shorter and still long enough, is the same hub.
@@ -85,6 +85,7 @@ fn random_scripts_on_rows_of_other_lengths() {
             (Kind::Tails, "tails"),
             (Kind::Totals, "totals"),
             (Kind::Marks, "marks"),
+            (Kind::Empty, "empty"),
         ] {
             let Script { records, list } = script(kind, 900 + seed, 250);
             let long = 1 + (seed as usize * 7) % 60;

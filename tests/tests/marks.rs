@@ -102,7 +102,7 @@ fn a_marked_read_has_its_own_time() {
         ("marked 1 0 11\n step 1 x3", &["ok", "going x2", "value 5"]),
         ("marked 1 0 0\n step 1 x2", &["ok", "going", "value 6"]),
         ("read 1 0\n step 1 x2", &["ok", "going", "value 6"]),
-        ("marked 0 1 0\n step 0 x2", &["ok", "going", "value 0"]),
+        ("marked 0 1 0\n step 0 x2", &["ok", "going", "none"]),
     ]);
 }
 

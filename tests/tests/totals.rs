@@ -103,7 +103,7 @@ fn where_17_stands() {
         bytes 0c 00 00 00 00 00 00 00 00 00 00 00 00 00 00 00
         bytes 08 00 00 00 00 00 00 00 00 00 00 00 00 00 00",
         &[
-            "no 8", "ok", "no 3", "no 17", "no 13", "ok", "no 17", "no 10", "value 0", "ok", "going", "at 1",
+            "no 8", "ok", "no 3", "no 17", "no 13", "ok", "no 17", "no 10", "none", "ok", "going", "at 1",
             "no 17", "no 17", "no 17", "no 17", "no 17", "ok", "no 10", "no 17", "going", "value 0", "no 2",
             "no 2", "no 1", "no 6",
         ],
