@@ -59,6 +59,16 @@ fn bench_prints_its_tables() {
     // With the list no total is refused.
     let totals = printed.lines().filter(|line| line.starts_with("| totals ")).last().unwrap();
     assert!(totals.ends_with("   0.0 |"), "{printed}");
+    // On the largest hub many registers have no reading yet, and that is no refusal.
+    let share = |name: &str, column: usize| -> f64 {
+        let line = printed.lines().rfind(|line| line.starts_with(&format!("| {name} ")));
+        let cell = line.expect("its line").split('|').nth(column);
+        cell.expect("a cell").trim().parse().expect("a share")
+    };
+    let (none, no) = (7, 9);
+    assert!(printed.contains("|  at | value | none | done | "), "{printed}");
+    assert!(share("large", none) > 1.0 && share("uniform", no) > 99.0, "{printed}");
+    assert_eq!((share("large", no), share("uniform", none)), (0.0, 0.0), "{printed}");
 }
 
 #[test]

@@ -3,8 +3,15 @@
 use crate::process::{Input, Logging};
 use std::path::PathBuf;
 
-/// The words that answers begin with; their first letters differ.
-pub const WORDS: [&str; 7] = ["ok", "going", "freed", "at", "value", "done", "no"];
+/// The words that answers begin with. Their first letters differ but for `none` and `no`, which the
+/// third letter tells apart.
+pub const WORDS: [&str; 8] = ["ok", "going", "freed", "at", "value", "none", "done", "no"];
+
+/// Which of the words begins with this letter and has that third one?
+fn word(first: u8, third: u8) -> Option<usize> {
+    let none = (first, third) == (b'n', b'n');
+    WORDS.iter().position(|&word| word.as_bytes()[0] == first && (word == "none") == none)
+}
 
 /// Two equal logs.
 pub struct Logs {
@@ -27,6 +34,12 @@ enum Place {
     #[default]
     Number,
     FirstLetter,
+    SecondLetter {
+        first: u8,
+    },
+    ThirdLetter {
+        first: u8,
+    },
     Words,
 }
 
@@ -35,10 +48,15 @@ impl Counter {
         for &byte in log {
             self.place = match (self.place, byte) {
                 (Place::Number, b' ') => Place::FirstLetter,
-                (Place::FirstLetter, first) => {
-                    let word = WORDS.iter().position(|word| word.as_bytes()[0] == first);
-                    word.into_iter().for_each(|word| self.counts[word] += 1);
-                    Place::Words
+                (Place::FirstLetter, first) => Place::SecondLetter { first },
+                (Place::SecondLetter { first }, _) => Place::ThirdLetter { first },
+                (Place::ThirdLetter { first }, third) => {
+                    word(first, third).into_iter().for_each(|word| self.counts[word] += 1);
+                    if third == b'\n' {
+                        Place::Number
+                    } else {
+                        Place::Words
+                    }
                 }
                 (Place::Words, b'\n') => Place::Number,
                 (place, _) => place,
