@@ -1,4 +1,4 @@
--- A kind that is none of the first six, and not 7, stands for a refusal.
+-- A kind that is none of the first six, and neither 7 nor 8, stands for a refusal.
 use mathlib.Core.Path.{_≡_, refl}
 use Prim.Native.Nat.{ℕ, zero, suc, _+_, _-_, _%_, _≤_}
 use native.Mathlib.Omega.{arith}
@@ -9,12 +9,13 @@ use Rattle.answers.specs.Numbers.{answerFrom}
 pub past-three : {n : ℕ} (k : ℕ) → k ≤ n → (n ≡ k → ⊥) → (n ≡ k + 1 → ⊥) → (n ≡ k + 2 → ⊥) → k + 3 ≤ n
 past-three k l a b c = omega arith
 
-pub refusal-past : (k n : ℕ) → 6 ≤ k → (k ≡ 7 → ⊥) → No (n % 256) ≡ answerFrom k n
-refusal-past k n h g =
+pub refusal-past : (k n : ℕ) → 6 ≤ k → (k ≡ 7 → ⊥) → (k ≡ 8 → ⊥) → No (n % 256) ≡ answerFrom k n
+refusal-past k n h g g′ =
     let e : k ≡ suc (suc (suc (suc (suc (suc (k - 6)))))) = omega arith in
-    rw e (by (k - 6) (λ f. g (omega arith)))
+    rw e (by (k - 6) (λ f. g (omega arith)) (λ f. g′ (omega arith)))
   where
-    by : (j : ℕ) → (j ≡ 1 → ⊥) → No (n % 256) ≡ answerFrom (suc (suc (suc (suc (suc (suc j)))))) n
-    by zero i = refl
-    by (suc zero) i = absurd (i refl)
-    by (suc (suc j)) i = refl
+    by : (j : ℕ) → (j ≡ 1 → ⊥) → (j ≡ 2 → ⊥) → No (n % 256) ≡ answerFrom (suc (suc (suc (suc (suc (suc j)))))) n
+    by zero i i′ = refl
+    by (suc zero) i i′ = absurd (i refl)
+    by (suc (suc zero)) i i′ = absurd (i′ refl)
+    by (suc (suc (suc j))) i i′ = refl

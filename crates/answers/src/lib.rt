@@ -13,6 +13,7 @@ pub fn kind(a: Answer) -> u8
         Answer::Freed(_) => 2,
         Answer::At(_) => 3,
         Answer::Value(_) => 4,
+        Answer::None => 8,
         Answer::Below(_) => 7,
         Answer::Done => 5,
         Answer::No(_) => 6,
@@ -28,6 +29,7 @@ pub fn number(a: Answer) -> u64
         Answer::Freed(slot) => slot as u64,
         Answer::At(time) => time as u64,
         Answer::Value(reading) => reading.count,
+        Answer::None => 0,
         Answer::Below(reading) => reading.count,
         Answer::Done => 0,
         Answer::No(refusal) => refusal as u64,
@@ -45,6 +47,7 @@ pub fn answer(kind: u8, number: u64) -> Answer
         4 => Answer::Value(Reading { count: number }),
         5 => Answer::Done,
         7 => Answer::Below(Reading { count: number }),
+        8 => Answer::None,
         _ => Answer::No((number % 256) as u8),
     }
 }

@@ -82,7 +82,7 @@ fn put_answer(kinds: &mut [u8], numbers: &mut [u64], k: usize, y: Answer) -> Ans
 
 // A setup that is accepted: the hub with the rows of the list of totals, its newest versions, free slots and slots.
 fn make(
-    row: &mut [[u64; 5]],
+    row: &mut [[u64; 6]],
     newest: &mut [u16; 256],
     free: &mut [u16; 2048],
     list: &[u8],
@@ -117,7 +117,7 @@ pub struct Ended {
 
 // Applies the first `count` records of the bytes, with the list of totals lent: the kind and the number of answer k stand at k.
 pub fn run(
-    row: &mut [[u64; 5]],
+    row: &mut [[u64; 6]],
     start: Hub,
     list: &[u8],
     bytes: &[u8],

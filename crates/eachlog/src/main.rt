@@ -111,10 +111,11 @@ fn main() {
             &mut merged,
         );
         let s = done.slots;
-        let h = done.hub;
+        let applied = done.applied;
+        let h = applied.hub;
         slots = s;
         hub = h;
-        let answer = done.answer;
+        let answer = applied.answer;
         if !write_answer(k, answer) {
             input::say(b"eachlog: cannot write standard output\n");
             return;

@@ -5,6 +5,7 @@
 use libc::STDOUT_FILENO;
 use slots::Slot;
 use state::Hub;
+use values::Content;
 use values::Reading;
 use worker::Doing;
 use worker::Worker;
@@ -59,7 +60,8 @@ fn after_with(m: Memory, list: &[u8], rec: [u8; 16]) -> Memory {
         &mut lens,
         &mut merged,
     );
-    let answer = done.answer;
+    let applied = done.applied;
+    let answer = applied.answer;
     let kinds = [answers::kind(answer)];
     let numbers = [answers::number(answer)];
     let mut space = [0u8; 49];
@@ -67,7 +69,7 @@ fn after_with(m: Memory, list: &[u8], rec: [u8; 16]) -> Memory {
     let used = lines::write_lines(text, line, &kinds, &numbers, 1);
     let log = &text[..];
     io::write_all(STDOUT_FILENO, &log[0..used]);
-    let left = done.hub;
+    let left = applied.hub;
     let row = done.slots;
     Memory {
         hub: left,
@@ -132,7 +134,7 @@ fn stored(m: Memory, i: usize, value: u64) -> Memory {
     let mut slots = m.slots;
     let s = slots[i % 2048];
     slots[i % 2048] = Slot {
-        value: Reading { count: value },
+        value: Content::Of(Reading { count: value }),
         ..s
     };
     Memory { slots, ..m }

@@ -24,7 +24,7 @@ pub struct Handed {
 }
 
 // Put (3), of p workers: the covered version's range joins the n ranges of the local pool.
-pub fn put_hand_in(row: &[[u64; 5]], n: usize, covered: u16, p: usize) -> Handed
+pub fn put_hand_in(row: &[[u64; 6]], n: usize, covered: u16, p: usize) -> Handed
     ensures { λ r. ⌜ r ≡ handedOn (rowOf (now (row .entry))) n covered p ⌝ }
 {
     let v = versions::load(row, covered as usize);

@@ -42,7 +42,7 @@ fn one_more(n: usize) -> usize
 
 // Flush (4), with m ranges left to free and n slots free.
 pub fn flush_free(
-    row: &mut [[u64; 5]],
+    row: &mut [[u64; 6]],
     free: &mut [u16; 2048],
     merged: &[u32; 12288],
     w: usize,

@@ -39,7 +39,7 @@ use Rattle.slots.proofs.Slot as T
 use Rattle.slots.proofs.Slot.Laws as T′
 use Rattle.slots.proofs.Calls.{Mut, Shr, slice}
 use Rattle.slots.proofs.Growth.{none-done, all-done}
-use Rattle.slots.proofs.Row.{vals, typed}
+use Rattle.slots.proofs.Row.{vals, lowered, typed}
 use Rattle.versions.specs.Versions.{slotAtIn}
 use Rattle.hub.specs.Doors.{copiedTo}
 use Rattle.hub.proofs.Growth.{copied-none, copied-more}
@@ -118,7 +118,7 @@ module _ {M : Type 1} {𝓤 : URA M} {H : Heap 𝓤} {A : Atoms 𝓤} (W : Given
   Loading = (Γ : List (Item 𝓤)) (E : Env 𝓤 H) (Q : Kit.Post 𝓤 H) (dst : Place) (rest : Body) (xs : List Operand) (i : ℕ) → i < 2 ^ 64
       → ((j k : Item 𝓤) → Opds Go W (j ∷ k ∷ Γ) E xs (sliceVal (b, o) (length ys) ∷ vint w64 i ∷ []))
       → (Is T.the-row (slotAtIn slots i) (vals (slotAtIn slots i))
-      → Sq W (Held ∷ ‵ (flft κ q) ∷ Γ) (lands C Λ E dst (T′.lowered (slotAtIn slots i)) rest Q))
+      → Sq W (Held ∷ ‵ (flft κ q) ∷ Γ) (lands C Λ E dst (lowered (slotAtIn slots i)) rest Q))
       → Sq W (Held ∷ ‵ (flft κ q) ∷ Γ) (runs C Λ E (seq (call f₀ xs dst) rest) Q)
 
   abbrev pub Storing : Type 2
@@ -126,7 +126,7 @@ module _ {M : Type 1} {𝓤 : URA M} {H : Heap 𝓤} {A : Atoms 𝓤} (W : Given
       (Γ : List (Item 𝓤)) (E : Env 𝓤 H) (Q : Kit.Post 𝓤 H) (dst : Place) (rest : Body) (xs : List Operand) (us : List (R₁ .Denot))
       (i : ℕ) (s : Slot)
       → length us ≡ length ws → i < 2 ^ 64 → Is T.the-row s (vals s)
-      → ((j k : Item 𝓤) → Opds Go W (j ∷ k ∷ Γ) E xs (sliceVal (b₁, o₁) (length ws) ∷ vint w64 i ∷ T′.lowered s ∷ []))
+      → ((j k : Item 𝓤) → Opds Go W (j ∷ k ∷ Γ) E xs (sliceVal (b₁, o₁) (length ws) ∷ vint w64 i ∷ lowered s ∷ []))
       → ((vs : List (R₁ .Denot)) → view vs ≡ set (view us) i s → length vs ≡ length ws
       → Sq W (Filled vs ∷ ‵ (flft κ₁ q₁) ∷ Γ) (lands C Λ E dst vunit rest Q))
       → Sq W (Filled us ∷ ‵ (flft κ₁ q₁) ∷ Γ) (runs C Λ E (seq (call f₁ xs dst) rest) Q)

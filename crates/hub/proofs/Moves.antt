@@ -54,7 +54,7 @@ abbrev pub word-vals : List ℕ → List Val
 word-vals = array-vals (uint-vals w64)
 
 pub word-tells : Tells Words (Is Words) word-vals
-word-tells = array-tells u64 (uint-vals w64) (uint-tells w64) 5
+word-tells = array-tells u64 (uint-vals w64) (uint-tells w64) 6
 
 abbrev row-vals : List (List ℕ) → List Val
 row-vals = array-vals word-vals
@@ -64,11 +64,11 @@ roomy = (lit< tt, lit< tt)
 
 module _ {M : Type 1} (𝓤 : URA M) (H : Heap 𝓤) (A : Atoms 𝓤) (W : Given 𝓤 H A) where
   pub typed-row : (us : List (List ℕ)) → Is RowArray us (row-vals us)
-      → Holds (hasTy (tyArray (tyArray (tyInt w64) 5) 2048) (only (row-vals us))) × WT (only (row-vals us))
-  typed-row us g = array-lawful 𝓤 H A W Words (array-lawful 𝓤 H A W u64 (uint-lawful 𝓤 H A W w64) 5) 2048 .typed us _ g .0
+      → Holds (hasTy (tyArray (tyArray (tyInt w64) 6) 2048) (only (row-vals us))) × WT (only (row-vals us))
+  typed-row us g = array-lawful 𝓤 H A W Words (array-lawful 𝓤 H A W u64 (uint-lawful 𝓤 H A W w64) 6) 2048 .typed us _ g .0
 
   pub word-makes : Makes 𝓤 H A Words (Is Words)
-  word-makes = array-makes 𝓤 H A W u64 (uint-makes 𝓤 H A W w64) 5
+  word-makes = array-makes 𝓤 H A W u64 (uint-makes 𝓤 H A W w64) 6
 
 module _ {M : Type 1} (𝓤 : URA M) (H : Heap 𝓤) (A : Atoms 𝓤) (mem : Memory → SProp 𝓤) (run : Routine → Fun 𝓤) where
   abbrev pub Zeros : Contract 𝓤
@@ -85,7 +85,7 @@ module _ {M : Type 1} (𝓤 : URA M) (H : Heap 𝓤) (A : Atoms 𝓤) (mem : Mem
 
 -- ---- zeros
 module _ {M : Type 1} (𝓤 : URA M) (H : Heap 𝓤) (A : Atoms 𝓤) (W : Given 𝓤 H A) (mem : Memory → SProp 𝓤) (run : Routine → Fun 𝓤) (ws : List (List ℕ))
-    (is : replicate 2048 (replicate 5 0) ≡ ws) where
+    (is : replicate 2048 (replicate 6 0) ≡ ws) where
   abbrev to-zeros : Zeros 𝓤 H A mem run .Ghost
   to-zeros = ((tt, tt, tt, tt, tt), tt)
 
@@ -96,9 +96,9 @@ module _ {M : Type 1} (𝓤 : URA M) (H : Heap 𝓤) (A : Atoms 𝓤) (W : Given
   Zeroed = ensured 𝓤 H A zeros.ended (zeros.clauses 𝓤 H A mem run) tt tt tt
 
   zeroed : (r : List (List ℕ)) → ent 𝓤 (Zeroed r) (fact 𝓤 (r ≡ ws))
-  zeroed r = exE 𝓤 _ (λ us. via 𝓤 (fact 𝓤 (r ≡ replicate 2048 (replicate 5 0))) (snd∗ 𝓤 (sem 𝓤 H A (lasts zeros.ended tt tt us))
-      (fact 𝓤 (r ≡ replicate 2048 (replicate 5 0))))
-      (fact-mono 𝓤 (r ≡ replicate 2048 (replicate 5 0)) (r ≡ ws) (λ e. e ∙ is)))
+  zeroed r = exE 𝓤 _ (λ us. via 𝓤 (fact 𝓤 (r ≡ replicate 2048 (replicate 6 0))) (snd∗ 𝓤 (sem 𝓤 H A (lasts zeros.ended tt tt us))
+      (fact 𝓤 (r ≡ replicate 2048 (replicate 6 0))))
+      (fact-mono 𝓤 (r ≡ replicate 2048 (replicate 6 0)) (r ≡ ws) (λ e. e ∙ is)))
 
 -- ---- at_most
 module _ {M : Type 1} (𝓤 : URA M) (H : Heap 𝓤) (A : Atoms 𝓤) (W : Given 𝓤 H A) (mem : Memory → SProp 𝓤) (run : Routine → Fun 𝓤) (n m k : ℕ)
@@ -157,7 +157,7 @@ module _ {M : Type 1} {𝓤 : URA M} {H : Heap 𝓤} {A : Atoms 𝓤} {K : Type 
     {C : Calls 𝓤 H} {Λ : Loops 𝓤 H}
     {q : Post 𝓤 H} {dst : Place} {rest : Body} {xs : List Operand} where
   pub call-zeros : K → (mem : Memory → SProp 𝓤) (run : Routine → Fun 𝓤) → FmC 𝓤 H (W .laws) C → Triple 𝓤 (C #hub·zeros) (Zeros 𝓤 H A mem run)
-      → (ws : List (List ℕ)) → replicate 2048 (replicate 5 0) ≡ ws
+      → (ws : List (List ℕ)) → replicate 2048 (replicate 6 0) ≡ ws
       → ((j : Item 𝓤) → Opds K W (j ∷ Γ) E xs []) → (Is RowArray ws (row-vals ws) → Seq K W Γ (lands C Λ E dst (only (row-vals ws)) rest q))
       → Seq K W Γ (runs C Λ E (seq (call #hub·zeros xs dst) rest) q)
   call-zeros t mem run fm known ws is os k =

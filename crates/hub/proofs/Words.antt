@@ -29,9 +29,8 @@ use denote.Triple.Clauses.{ensured, lasts}
 use denote.Triple.Spec.{tripleOf}
 use Rattle.slots.specs.declared.Slot.{Slot}
 use Rattle.slots.proofs.Slot as T
-use Rattle.slots.proofs.Slot.Laws as T′
 use Rattle.slots.proofs.Calls.{Mut, Shr, slice, call-copied}
-use Rattle.slots.proofs.Row.{vals, tells, makes}
+use Rattle.slots.proofs.Row.{vals, lowered, tells, makes}
 use Rattle.versions.specs.Versions.{rowOf, slotAtIn}
 use Rattle.versions.proofs.load as load
 use Rattle.versions.proofs.load.Symbol.{name as #versions·load}
@@ -41,7 +40,7 @@ use Rattle.hub.proofs.Lends.{call-on}
 
 -- the words of a slot, and a row of them as it is lent
 abbrev pub Words : RattleType
-Words = Array u64 5
+Words = Array u64 6
 
 abbrev pub Row : Lft → ℕ → ℕ → ℕ → GName → List (List ℕ) → Fml
 Row = Mut Words
@@ -94,7 +93,7 @@ module _ {M : Type 1} {𝓤 : URA M} {H : Heap 𝓤} {A : Atoms 𝓤} {K : Type 
   pub call-store-words : (t : K) (mem : Memory → SProp 𝓤) (run : Routine → Fun 𝓤) → FmC 𝓤 H (W .laws) C
       → Triple 𝓤 (C #versions·store) (StoreWords 𝓤 H A mem run) → (n b o : ℕ) (ws : List (List ℕ)) (i : ℕ) (s : Slot) → length ws ≡ n → Room Words n
       → i < 2 ^ 64 → Is T.the-row s (vals s)
-      → ((j k : Item 𝓤) → Opds K W (j ∷ k ∷ Γ) E xs (sliceVal (b, o) n ∷ vint w64 i ∷ T′.lowered s ∷ []))
+      → ((j k : Item 𝓤) → Opds K W (j ∷ k ∷ Γ) E xs (sliceVal (b, o) n ∷ vint w64 i ∷ lowered s ∷ []))
       → ((zs : List (List ℕ)) → rowOf zs ≡ set (rowOf ws) i s → length zs ≡ n
       → Seq K W (‵ (Row κ n b o γ zs) ∷ ‵ (flft κ p) ∷ Γ) (lands C Λ E dst vunit rest q))
       → Seq K W (‵ (Row κ n b o γ ws) ∷ ‵ (flft κ p) ∷ Γ) (runs C Λ E (seq (call #versions·store xs dst) rest) q)
@@ -111,7 +110,7 @@ module _ {M : Type 1} {𝓤 : URA M} {H : Heap 𝓤} {A : Atoms 𝓤} {K : Type 
       → (n b o : ℕ) (ws : List (List ℕ)) (i : ℕ) → i < 2 ^ 64
       → ((j k : Item 𝓤) → Opds K W (j ∷ k ∷ Γ) E xs (sliceVal (b, o) n ∷ vint w64 i ∷ []))
       → (Is T.the-row (slotAtIn (rowOf ws) i) (vals (slotAtIn (rowOf ws) i)) → Seq K W (‵ (RowShared κ n b o γ ws) ∷ ‵ (flft κ p) ∷ Γ)
-      (lands C Λ E dst (T′.lowered (slotAtIn (rowOf ws) i)) rest q))
+      (lands C Λ E dst (lowered (slotAtIn (rowOf ws) i)) rest q))
       → Seq K W (‵ (RowShared κ n b o γ ws) ∷ ‵ (flft κ p) ∷ Γ) (runs C Λ E (seq (call #versions·load xs dst) rest) q)
   call-load-words t mem run fm known n b o ws i gi os k =
       call-copied t fm (LoadWords 𝓤 H A mem run) known T.the-row vals tells (slotAtIn (rowOf ws) i) Words n b o ws

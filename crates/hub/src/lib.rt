@@ -11,12 +11,11 @@ use runs::Applied;
 use runs::Counted;
 use slots::Slot;
 use state::Hub;
-use values::Answer;
 
 // ---- the row of structs as words, and back
 
 // The first n slots, read into the row of words.
-fn load_row(slots: &[Slot], row: &mut [[u64; 5]], n: usize)
+fn load_row(slots: &[Slot], row: &mut [[u64; 6]], n: usize)
     ensures { λ _. ⌜ rowOf (now (row .exit)) ≡ copiedTo (now (slots .entry)) (rowOf (now (row .entry))) n ⌝ }
 {
     let mut i = 0;
@@ -28,7 +27,7 @@ fn load_row(slots: &[Slot], row: &mut [[u64; 5]], n: usize)
 }
 
 // The first n slots of the words, written back.
-fn store_row(row: &[[u64; 5]], slots: &mut [Slot], n: usize)
+fn store_row(row: &[[u64; 6]], slots: &mut [Slot], n: usize)
     ensures { λ _. ⌜ now (slots .exit) ≡ copiedTo (rowOf (now (row .entry))) (now (slots .entry)) n ⌝ }
 {
     let mut i = 0;
@@ -40,10 +39,10 @@ fn store_row(row: &[[u64; 5]], slots: &mut [Slot], n: usize)
 }
 
 // A row of words, before anything is loaded into it.
-fn zeros() -> [[u64; 5]; 2048]
-    ensures { λ r. ⌜ r ≡ replicate 2048 (replicate 5 0) ⌝ }
+fn zeros() -> [[u64; 6]; 2048]
+    ensures { λ r. ⌜ r ≡ replicate 2048 (replicate 6 0) ⌝ }
 {
-    [[0u64; 5]; 2048]
+    [[0u64; 6]; 2048]
 }
 
 // ---- one record
@@ -170,7 +169,7 @@ fn lengths_told(newest: &[u16], free: &[u16], queue: &[u32], lens: &[u32], merge
 
 // The same for a caller that has the slots as words, a row of any length: it is lent as it is, and nothing is copied.
 pub fn apply_words(
-    row: &mut [[u64; 5]],
+    row: &mut [[u64; 6]],
     hub: Hub,
     list: &[u8],
     bytes: &[u8],
@@ -293,11 +292,10 @@ pub fn apply_owned(
     }
 }
 
-// What is left of the hub and of the row by value, and what the record is answered.
+// What is left of the hub and what the record is answered, and the row by value.
 pub struct Answered {
-    pub hub: Hub,
+    pub applied: Applied,
     pub slots: [Slot; 2048],
-    pub answer: Answer,
 }
 
 // One record on the first `long` slots of a row that the caller owns: they are lent to `apply`. More than 2048 count as 2048.
@@ -325,9 +323,9 @@ pub fn apply_row(
           lens = now (lens .entry);
           merged = now (merged .entry);
         })
-        (now (list .entry)) (now (rec .entry)) (r .answer)
+        (now (list .entry)) (now (rec .entry)) (r .applied .answer)
         (record {
-          hub = r .hub;
+          hub = r .applied .hub;
           slots = take (min long 2048) (r .slots);
           newest = now (newest .exit);
           free = now (free .exit);
@@ -339,7 +337,7 @@ pub fn apply_row(
 {
     let mut slots = row;
     let n = runs::at_most(long, 2048);
-    let done = apply(
+    let applied = apply(
         &mut slots[0..n],
         hub,
         list,
@@ -350,10 +348,5 @@ pub fn apply_row(
         lens,
         merged,
     );
-    let left = done.hub;
-    Answered {
-        hub: left,
-        slots,
-        answer: done.answer,
-    }
+    Answered { applied, slots }
 }

@@ -27,8 +27,8 @@ fn main() {
     }
     let long = listed.n;
     // The slots, five words each.
-    let mut row_space = [[0u64; 5]; 2048];
-    let row: &mut [[u64; 5]] = &mut row_space;
+    let mut row_space = [[0u64; 6]; 2048];
+    let row: &mut [[u64; 6]] = &mut row_space;
     // No worker, no register, no slot: memory that counts as not set up.
     let mut hub = Hub::fresh(0, 0, 0, 0, 0, [0u32; 1024]);
     // The number of the next record, and how many of its bytes stand at the start of the block.

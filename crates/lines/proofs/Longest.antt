@@ -18,7 +18,8 @@ words-length (suc (suc (suc (suc zero)))) x = omega (arith, length-decimal x)
 words-length (suc (suc (suc (suc (suc zero))))) x = omega arith
 words-length (suc (suc (suc (suc (suc (suc zero)))))) x = omega (arith, length-decimal x)
 words-length (suc (suc (suc (suc (suc (suc (suc zero))))))) x = omega (arith, length-decimal x)
-words-length (suc (suc (suc (suc (suc (suc (suc (suc k)))))))) x = omega (arith, length-decimal x)
+words-length (suc (suc (suc (suc (suc (suc (suc (suc zero)))))))) x = omega arith
+words-length (suc (suc (suc (suc (suc (suc (suc (suc (suc k))))))))) x = omega (arith, length-decimal x)
 
 words-least : (kind x : ℕ) → 2 ≤ length (wordsFrom kind x)
 unfolding wordsFrom text
@@ -30,7 +31,8 @@ words-least (suc (suc (suc (suc zero)))) x = omega arith
 words-least (suc (suc (suc (suc (suc zero))))) x = omega arith
 words-least (suc (suc (suc (suc (suc (suc zero)))))) x = omega arith
 words-least (suc (suc (suc (suc (suc (suc (suc zero))))))) x = omega arith
-words-least (suc (suc (suc (suc (suc (suc (suc (suc k)))))))) x = omega arith
+words-least (suc (suc (suc (suc (suc (suc (suc (suc zero)))))))) x = omega arith
+words-least (suc (suc (suc (suc (suc (suc (suc (suc (suc k))))))))) x = omega arith
 
 pub line-length : (n kind x : ℕ) → length (lineFrom n kind x) ≤ longest
 unfolding lineFrom text

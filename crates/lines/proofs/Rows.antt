@@ -18,10 +18,10 @@ pub record Row (k j : ℕ) : Type 0 where
   pub rest : List ℕ
   pub few : length rest ≤ 8
   pub is : take 8 (drop (8 * j) rows) ≡ upToNumber k ++ rest
-  pub size : getD rows (72 + j) 0 % 16 ≡ length (upToNumber k)
-  pub mark : leb 16 (getD rows (72 + j) 0) ≡ hasNumber k
+  pub size : getD rows (80 + j) 0 % 16 ≡ length (upToNumber k)
+  pub mark : leb 16 (getD rows (80 + j) 0) ≡ hasNumber k
 
-pub row : (k : ℕ) → Row k (min k 8)
+pub row : (k : ℕ) → Row k (min k 9)
 unfolding rows upToNumber hasNumber text
 row zero = record { rest = 0 ∷ 0 ∷ 0 ∷ 0 ∷ []; few = omega arith; is = refl; size = refl; mark = refl }
 row (suc zero) = record { rest = 0 ∷ []; few = omega arith; is = refl; size = refl; mark = refl }
@@ -31,18 +31,19 @@ row (suc (suc (suc (suc zero)))) = record { rest = 0 ∷ []; few = omega arith; 
 row (suc (suc (suc (suc (suc zero))))) = record { rest = 0 ∷ 0 ∷ []; few = omega arith; is = refl; size = refl; mark = refl }
 row (suc (suc (suc (suc (suc (suc zero)))))) = record { rest = 0 ∷ 0 ∷ 0 ∷ 0 ∷ []; few = omega arith; is = refl; size = refl; mark = refl }
 row (suc (suc (suc (suc (suc (suc (suc zero))))))) = record { rest = []; few = omega arith; is = refl; size = refl; mark = refl }
-row (suc (suc (suc (suc (suc (suc (suc (suc k)))))))) =
-    let l = suc (suc (suc (suc (suc (suc (suc (suc k))))))) in
-    let m : 8 ≡ min l 8 = omega arith in
+row (suc (suc (suc (suc (suc (suc (suc (suc zero)))))))) = record { rest = 0 ∷ 0 ∷ []; few = omega arith; is = refl; size = refl; mark = refl }
+row (suc (suc (suc (suc (suc (suc (suc (suc (suc k))))))))) =
+    let l = suc (suc (suc (suc (suc (suc (suc (suc (suc k)))))))) in
+    let m : 9 ≡ min l 9 = omega arith in
     subst (λ (j : ℕ). Row l j) m (record { rest = 0 ∷ 0 ∷ 0 ∷ 0 ∷ []; few = omega arith; is = refl; size = refl; mark = refl })
 
-module _ (t : List ℕ) (k j : ℕ) (is : t ≡ rows) (at : j ≡ min k 8) where
+module _ (t : List ℕ) (k j : ℕ) (is : t ≡ rows) (at : j ≡ min k 9) where
   here : Row k j
   here = subst (λ (n : ℕ). Row k n) (sym at) (row k)
 
   -- a row was written
   pub spills-row : {d e : List ℕ} {i n : ℕ} → Appended (take (8 * j + 8 - 8 * j) (drop (8 * j) t)) i d e n
-      → Spills (upToNumber k) i d e (i + getD t (72 + j) 0 % 16)
+      → Spills (upToNumber k) i d e (i + getD t (80 + j) 0 % 16)
   spills-row {d} {e} {i} {n} w =
       let m : 8 * j + 8 - 8 * j ≡ 8 = omega arith in
       record {
@@ -50,17 +51,17 @@ module _ (t : List ℕ) (k j : ℕ) (is : t ≡ rows) (at : j ≡ min k 8) where
         few = here .few;
         memory = w .memory ∙ ap (λ (l : List ℕ). overAt i l d)
             (ap (λ (n : ℕ). take n (drop (8 * j) t)) m ∙ ap (λ (l : List ℕ). take 8 (drop (8 * j) l)) is ∙ here .is);
-        next = ap (λ (n : ℕ). i + n) (ap (λ (l : List ℕ). getD l (72 + j) 0 % 16) is ∙ here .size);
+        next = ap (λ (n : ℕ). i + n) (ap (λ (l : List ℕ). getD l (80 + j) 0 % 16) is ∙ here .size);
       }
 
-  pub row-mark : leb 16 (getD t (72 + j) 0) ≡ hasNumber k
-  row-mark = ap (λ (l : List ℕ). leb 16 (getD l (72 + j) 0)) is ∙ here .mark
+  pub row-mark : leb 16 (getD t (80 + j) 0) ≡ hasNumber k
+  row-mark = ap (λ (l : List ℕ). leb 16 (getD l (80 + j) 0)) is ∙ here .mark
 
 pub after-row : (k : ℕ) {i j : ℕ} {d e : List ℕ} → Spills (upToNumber k) i d e j → j ≤ i + 8
 after-row k w =
     let r = row k in
-    let n : length (take 8 (drop (8 * min k 8) rows)) ≡ length (upToNumber k ++ r .rest) = ap length (r .is) in
-    omega (arith, w .next, n, length-take 8 (drop (8 * min k 8) rows), length-append (upToNumber k) (r .rest))
+    let n : length (take 8 (drop (8 * min k 9) rows)) ≡ length (upToNumber k ++ r .rest) = ap length (r .is) in
+    omega (arith, w .next, n, length-take 8 (drop (8 * min k 9) rows), length-append (upToNumber k) (r .rest))
 
 -- what follows a record's number, by whether a number follows
 pub with-number : (k x : ℕ) {d e f g : List ℕ} {i j n m : ℕ} → hasNumber k ≡ true → i ≤ length d → j ≤ length e → Spills (upToNumber k) i d e j
@@ -82,7 +83,8 @@ tail-parts (suc (suc (suc (suc zero)))) x = refl
 tail-parts (suc (suc (suc (suc (suc zero))))) x = refl
 tail-parts (suc (suc (suc (suc (suc (suc zero)))))) x = refl
 tail-parts (suc (suc (suc (suc (suc (suc (suc zero))))))) x = refl
-tail-parts (suc (suc (suc (suc (suc (suc (suc (suc k)))))))) x = refl
+tail-parts (suc (suc (suc (suc (suc (suc (suc (suc zero)))))))) x = refl
+tail-parts (suc (suc (suc (suc (suc (suc (suc (suc (suc k))))))))) x = refl
 
 pub line-parts : (n k x : ℕ) → decimal n ++ tailFrom k x ≡ lineFrom n k x
 unfolding lineFrom

@@ -3,7 +3,7 @@ use mathlib.Core.Path.{_≡_, refl}
 use Prim.Native.Nat.{ℕ}
 use Rattle.model.specs.Log.{words, line}
 use Rattle.values.specs.declared.Answer.{Answer}
-use Rattle.values.specs.declared.Answer.the-variants.{Ok, Going, Freed, At, Value, Below, Done, No}
+use Rattle.values.specs.declared.Answer.the-variants.{Ok, Going, Freed, At, Value, None, Below, Done, No}
 use Rattle.values.specs.Meaning.{answerOf}
 use Rattle.answers.specs.Numbers.{kindOf, numberOf}
 use Rattle.lines.specs.Words.{wordsFrom, lineFrom, SameWords}
@@ -15,6 +15,7 @@ same-words Going = refl
 same-words (Freed c) = refl
 same-words (At t) = refl
 same-words (Value x) = refl
+same-words None = refl
 same-words (Below x) = refl
 same-words Done = refl
 same-words (No k) = refl

@@ -18,7 +18,8 @@ wordsFrom (suc (suc (suc (suc zero)))) x = text "value " ++ decimal x
 wordsFrom (suc (suc (suc (suc (suc zero))))) x = text "done"
 wordsFrom (suc (suc (suc (suc (suc (suc zero)))))) x = text "no " ++ decimal x
 wordsFrom (suc (suc (suc (suc (suc (suc (suc zero))))))) x = text "value -" ++ decimal x
-wordsFrom (suc (suc (suc (suc (suc (suc (suc (suc k)))))))) x = text "no " ++ decimal x
+wordsFrom (suc (suc (suc (suc (suc (suc (suc (suc zero)))))))) x = text "none"
+wordsFrom (suc (suc (suc (suc (suc (suc (suc (suc (suc k))))))))) x = text "no " ++ decimal x
 
 -- the line of record n with such an answer
 unfoldable pub lineFrom : ℕ → ℕ → ℕ → List ℕ
@@ -34,7 +35,8 @@ upToNumber (suc (suc (suc (suc zero)))) = text " value "
 upToNumber (suc (suc (suc (suc (suc zero))))) = text " done\n"
 upToNumber (suc (suc (suc (suc (suc (suc zero)))))) = text " no "
 upToNumber (suc (suc (suc (suc (suc (suc (suc zero))))))) = text " value -"
-upToNumber (suc (suc (suc (suc (suc (suc (suc (suc k)))))))) = text " no "
+upToNumber (suc (suc (suc (suc (suc (suc (suc (suc zero)))))))) = text " none\n"
+upToNumber (suc (suc (suc (suc (suc (suc (suc (suc (suc k))))))))) = text " no "
 
 unfoldable pub hasNumber : ℕ → Bool
 hasNumber zero = false
@@ -45,7 +47,8 @@ hasNumber (suc (suc (suc (suc zero)))) = true
 hasNumber (suc (suc (suc (suc (suc zero))))) = false
 hasNumber (suc (suc (suc (suc (suc (suc zero)))))) = true
 hasNumber (suc (suc (suc (suc (suc (suc (suc zero))))))) = true
-hasNumber (suc (suc (suc (suc (suc (suc (suc (suc k)))))))) = true
+hasNumber (suc (suc (suc (suc (suc (suc (suc (suc zero)))))))) = false
+hasNumber (suc (suc (suc (suc (suc (suc (suc (suc (suc k))))))))) = true
 
 -- the whole part of a line after the record's number
 unfoldable pub tailFrom : ℕ → ℕ → List ℕ
@@ -63,8 +66,9 @@ rows =
     ++ text " done\n" ++ (0 ∷ 0 ∷ [])
     ++ text " no " ++ (0 ∷ 0 ∷ 0 ∷ 0 ∷ [])
     ++ text " value -"
+    ++ text " none\n" ++ (0 ∷ 0 ∷ [])
     ++ text " no " ++ (0 ∷ 0 ∷ 0 ∷ 0 ∷ [])
-    ++ (4 ∷ 7 ∷ 23 ∷ 20 ∷ 23 ∷ 6 ∷ 20 ∷ 24 ∷ 20 ∷ [])
+    ++ (4 ∷ 7 ∷ 23 ∷ 20 ∷ 23 ∷ 6 ∷ 20 ∷ 24 ∷ 6 ∷ 20 ∷ [])
 
 -- the words from an answer's own kind and number are the model's
 abbrev pub SameWords : Type 0

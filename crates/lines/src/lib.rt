@@ -10,8 +10,8 @@ ghost use Rattle.lines.specs.Written.{Appended, Spills, LineAppended, Li
 
 // A row of eight bytes for each kind, the last for every further one: a space and the words, up to their number or with the line's end. Then a
 // byte for each row: the length of this text, and 16 more where a number follows.
-const ROWS: [u8; 81] =
-    *b" ok\n\0\0\0\0 going\n\0 freed \0 at \0\0\0\0 value \0 done\n\0\0 no \0\0\0\0 value - no \0\0\0\0\x04\x07\x17\x14\x17\x06\x14\x18\x14";
+const ROWS: [u8; 90] =
+    *b" ok\n\0\0\0\0 going\n\0 freed \0 at \0\0\0\0 value \0 done\n\0\0 no \0\0\0\0 value - none\n\0\0 no \0\0\0\0\x04\x07\x17\x14\x17\x06\x14\x18\x06\x14";
 
 // Writes a text at index `at` of out; answers the index after it.
 fn put_text(out: &mut [u8], at: usize, t: &[u8]) -> usize
@@ -152,24 +152,24 @@ fn put_number(out: &mut [u8], at: usize, head: &[u8; 20], n: usize, last: u8) ->
 }
 
 // Writes the row of a kind at index `at` of out, in one move; answers the index after the text in it. The rest of the row spills.
-fn put_row(out: &mut [u8], at: usize, table: &[u8; 81], kind: u8) -> usize
+fn put_row(out: &mut [u8], at: usize, table: &[u8; 90], kind: u8) -> usize
     requires { ⌜ (now table ≡ rows) × (at + 8 ≤ length (now out)) ⌝ }
     ensures { λ r. ⌜ Spills (upToNumber kind) at (now (out .entry)) (now (out .exit)) r ⌝ }
 {
     let all = &table[..];
-    let k = least(kind as usize, 8);
+    let k = least(kind as usize, 9);
     let i = 8 * k;
     let e = i + 8;
     put_text(out, at, &all[i..e]);
-    at + (table[72 + k] % 16) as usize
+    at + (table[80 + k] % 16) as usize
 }
 
 // Whether a number follows in the line of an answer of this kind.
-fn numbered(table: &[u8; 81], kind: u8) -> bool
+fn numbered(table: &[u8; 90], kind: u8) -> bool
     requires { ⌜ now table ≡ rows ⌝ }
     ensures { λ r. ⌜ r ≡ hasNumber kind ⌝ }
 {
-    table[72 + least(kind as usize, 8)] >= 16
+    table[80 + least(kind as usize, 9)] >= 16
 }
 
 // Writes the digit of x at a unit at index `at` of out; answers the index after it. Where it is a zero before x's digits it spills, and the
@@ -215,7 +215,7 @@ fn spill_decimal(out: &mut [u8], at: usize, x: u64) -> usize
 }
 
 // Writes what follows a record's number in its line at index `at` of out; answers the index after it. A few bytes spill.
-fn spill_tail(out: &mut [u8], at: usize, table: &[u8; 81], kind: u8, number: u64) -> usize
+fn spill_tail(out: &mut [u8], at: usize, table: &[u8; 90], kind: u8, number: u64) -> usize
     requires { ⌜ (now table ≡ rows) × (at + 29 ≤ length (now out)) ⌝ }
     ensures { λ r. ⌜ Spills (tailFrom kind number) at (now (out .entry)) (now (out .exit)) r ⌝ }
 {
@@ -232,7 +232,7 @@ fn spill_tail(out: &mut [u8], at: usize, table: &[u8; 81], kind: u8, number: u64
 fn spill_line(
     out: &mut [u8],
     at: usize,
-    table: &[u8; 81],
+    table: &[u8; 90],
     head: &[u8; 20],
     n: usize,
     last: u8,

@@ -3,31 +3,32 @@ ghost use mathlib.Core.Path.{_≡_};
 ghost use Rattle.versions.specs.Versions.{rowOf, aloneSlot, publishedSlot, changeIn, stampedIn, linkedIn, unlinkedIn, withLow, withHigh};
 ghost use Rattle.versions.specs.Versions.{withOlder, withNewer};
 use slots::Slot;
+use values::Content;
 use values::Reading;
 
 // One part of the slot at an index is replaced.
-fn set_low(row: &mut [[u64; 5]], i: usize, x: u64)
+fn set_low(row: &mut [[u64; 6]], i: usize, x: u64)
     ensures { λ _. ⌜ rowOf (now (row .exit)) ≡ changeIn (rowOf (now (row .entry))) i (λ v. withLow v x) ⌝ }
 {
     let s = versions::load(row, i);
     versions::store(row, i, Slot { low: x, ..s });
 }
 
-fn set_high(row: &mut [[u64; 5]], i: usize, x: u64)
+fn set_high(row: &mut [[u64; 6]], i: usize, x: u64)
     ensures { λ _. ⌜ rowOf (now (row .exit)) ≡ changeIn (rowOf (now (row .entry))) i (λ v. withHigh v x) ⌝ }
 {
     let s = versions::load(row, i);
     versions::store(row, i, Slot { high: x, ..s });
 }
 
-fn set_older(row: &mut [[u64; 5]], i: usize, x: usize)
+fn set_older(row: &mut [[u64; 6]], i: usize, x: usize)
     ensures { λ _. ⌜ rowOf (now (row .exit)) ≡ changeIn (rowOf (now (row .entry))) i (λ v. withOlder v x) ⌝ }
 {
     let s = versions::load(row, i);
     versions::store(row, i, Slot { older: x, ..s });
 }
 
-fn set_newer(row: &mut [[u64; 5]], i: usize, x: usize)
+fn set_newer(row: &mut [[u64; 6]], i: usize, x: usize)
     ensures { λ _. ⌜ rowOf (now (row .exit)) ≡ changeIn (rowOf (now (row .entry))) i (λ v. withNewer v x) ⌝ }
 {
     let s = versions::load(row, i);
@@ -35,7 +36,7 @@ fn set_newer(row: &mut [[u64; 5]], i: usize, x: usize)
 }
 
 // The slot at an index has no neighbours any more.
-fn set_alone(row: &mut [[u64; 5]], i: usize)
+fn set_alone(row: &mut [[u64; 6]], i: usize)
     ensures { λ _. ⌜ rowOf (now (row .exit)) ≡ changeIn (rowOf (now (row .entry))) i aloneSlot ⌝ }
 {
     let s = versions::load(row, i);
@@ -48,7 +49,7 @@ fn set_alone(row: &mut [[u64; 5]], i: usize)
 }
 
 // Stamps the register whose newest version is in slot i.
-pub fn stamp(row: &mut [[u64; 5]], i: usize, clock: u32)
+pub fn stamp(row: &mut [[u64; 6]], i: usize, clock: u32)
     ensures { λ _. ⌜ rowOf (now (row .exit)) ≡ stampedIn (rowOf (now (row .entry))) i clock ⌝ }
 {
     let a = versions::load(row, i);
@@ -63,7 +64,7 @@ fn published(reading: Reading, i: usize) -> Slot
     ensures { λ r. ⌜ r ≡ publishedSlot reading i ⌝ }
 {
     Slot {
-        value: reading,
+        value: Content::Of(reading),
         low: 4294967296,
         high: 4294967296,
         older: i,
@@ -72,7 +73,7 @@ fn published(reading: Reading, i: usize) -> Slot
 }
 
 // Links slot f with a reading and no low above slot i.
-pub fn link(row: &mut [[u64; 5]], i: usize, f: usize, reading: Reading)
+pub fn link(row: &mut [[u64; 6]], i: usize, f: usize, reading: Reading)
     ensures { λ _. ⌜ rowOf (now (row .exit)) ≡ linkedIn (rowOf (now (row .entry))) i f reading ⌝ }
 {
     set_newer(row, i, f);
@@ -81,7 +82,7 @@ pub fn link(row: &mut [[u64; 5]], i: usize, f: usize, reading: Reading)
 }
 
 // Unlinks slot i.
-pub fn unlink(row: &mut [[u64; 5]], i: usize)
+pub fn unlink(row: &mut [[u64; 6]], i: usize)
     ensures { λ _. ⌜ rowOf (now (row .exit)) ≡ unlinkedIn (rowOf (now (row .entry))) i ⌝ }
 {
     let a = versions::load(row, i);

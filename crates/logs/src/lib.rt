@@ -56,7 +56,7 @@ pub struct Logged {
 // slots are a lent row of words.
 // No line is lost: as many records are applied as there is room for, with 49 bytes of text, a kind and a number for each.
 pub fn log_part(
-    row: &mut [[u64; 5]],
+    row: &mut [[u64; 6]],
     hub: Hub,
     list: &[u8],
     bytes: &[u8],

@@ -73,6 +73,8 @@ pub runs : Runs
 unfolding wholeModel
 runs =
     record {
+      empty-log = refl;
+      empty-order = refl;
       month-log = refl;
       month-order = refl;
       mark-refusals-log = refl;

@@ -9,7 +9,7 @@ use native.Mathlib.Omega.{arith}
 use lib.Dec.{eqb}
 use lib.ListN.{length}
 use borrow.Author.Tests as Tests
-use Rattle.model.specs.Store.{absent, Reading, Slot}
+use Rattle.model.specs.Store.{absent, Reading, Content, Slot}
 use Rattle.model.specs.Versions.{linkSlots, unlinkSlots}
 use Rattle.model.specs.Demand.{occurrences, All}
 use Rattle.model.proofs.Basic.{hit, hit-same, hit-eq, hit-other, eq-cases}
@@ -189,16 +189,16 @@ Linked-link s c f x l fin t fr cr cin = (
 ------------------------------------------------------------------------
 -- What a time sees
 
-abbrev pub Sees : List Slot → ℕ → Reading → List ℕ → Type 0
+abbrev pub Sees : List Slot → ℕ → Content → List ℕ → Type 0
 Sees s a x [] = ⊥
 Sees s a x (c ∷ l) = ((nth s c .low ≤ a) × (a < nth s c .high) × (nth s c .value ≡ x)) ⊎ ((a < nth s c .low) × Sees s a x l)
 
 -- a read that stands on slot c will see x
-abbrev pub On : List Slot → ℕ → ℕ → Reading → List ℕ → Type 0
+abbrev pub On : List Slot → ℕ → ℕ → Content → List ℕ → Type 0
 On s a c x [] = ⊥
 On s a c x (d ∷ l) = ((d ≡ c) × Sees s a x (d ∷ l)) ⊎ ((a < nth s d .low) × On s a c x l)
 
-pub Sees-mono : (s s′ : List Slot) (a : ℕ) (x : Reading) (l : List ℕ)
+pub Sees-mono : (s s′ : List Slot) (a : ℕ) (x : Content) (l : List ℕ)
     → ((c : ℕ) → 0 < occurrences c l → (nth s c .low ≤ a → nth s′ c .low ≤ a) × (a < nth s c .low → a < nth s′ c .low)
     × (a < nth s c .high → a < nth s′ c .high) × (nth s′ c .value ≡ nth s c .value))
     → Sees s a x l → Sees s′ a x l
@@ -208,7 +208,7 @@ Sees-mono s s′ a x (c ∷ l) f t =
     let e = f c (omega (arith, hit-same c)) in
     ⊎-elim (λ u. inl (e .0 (u .0), e .2 (u .1), e .3 ∙ u .2)) (λ u. inr (e .1 (u .0), Sees-mono s s′ a x l (λ d y. f d (omega arith)) (u .1))) t
 
-pub On-mono : (s s′ : List Slot) (a c : ℕ) (x : Reading) (l : List ℕ)
+pub On-mono : (s s′ : List Slot) (a c : ℕ) (x : Content) (l : List ℕ)
     → ((c : ℕ) → 0 < occurrences c l → (nth s c .low ≤ a → nth s′ c .low ≤ a) × (a < nth s c .low → a < nth s′ c .low)
     × (a < nth s c .high → a < nth s′ c .high) × (nth s′ c .value ≡ nth s c .value))
     → On s a c x l → On s′ a c x l
@@ -219,7 +219,7 @@ On-mono s s′ a c x (d ∷ l) f t =
     ⊎-elim (λ u. inl (u .0, Sees-mono s s′ a x (d ∷ l) f (u .1))) (λ u. inr (e .1 (u .0), On-mono s s′ a c x l (λ i y. f i (omega arith)) (u .1))) t
 
 -- a version that the time does not need may go
-pub Sees-remove : (s : List Slot) (a : ℕ) (x : Reading) (c : ℕ) (l : List ℕ) → (nth s c .low ≤ a → a < nth s c .high → ⊥) → Sees s a x l
+pub Sees-remove : (s : List Slot) (a : ℕ) (x : Content) (c : ℕ) (l : List ℕ) → (nth s c .low ≤ a → a < nth s c .high → ⊥) → Sees s a x l
     → Sees s a x (remove c l)
 Sees-remove s a x c [] n t = absurd t
 Sees-remove s a x c (d ∷ l) n t =
@@ -230,7 +230,7 @@ Sees-remove s a x c (d ∷ l) n t =
     (eq-cases d c)
 
 -- a read that stands elsewhere stays where it is, and one that stands on it moves to the older neighbour
-pub On-remove : (s : List Slot) (a : ℕ) (x : Reading) (c k : ℕ) (l : List ℕ) → (nth s c .low ≤ a → a < nth s c .high → ⊥) → k ≢ c → On s a k x l
+pub On-remove : (s : List Slot) (a : ℕ) (x : Content) (c k : ℕ) (l : List ℕ) → (nth s c .low ≤ a → a < nth s c .high → ⊥) → k ≢ c → On s a k x l
     → On s a k x (remove c l)
 On-remove s a x c k [] n m t = absurd t
 On-remove s a x c k (d ∷ l) n m t =
@@ -243,7 +243,7 @@ On-remove s a x c k (d ∷ l) n m t =
     t)
     (eq-cases d c)
 
-pub On-moves : (s : List Slot) (up a : ℕ) (x : Reading) (c : ℕ) (l : List ℕ) → Linked s up l → ((i : ℕ) → occurrences i l ≤ 1)
+pub On-moves : (s : List Slot) (up a : ℕ) (x : Content) (c : ℕ) (l : List ℕ) → Linked s up l → ((i : ℕ) → occurrences i l ≤ 1)
     → (nth s c .low ≤ a → a < nth s c .high → ⊥) → On s a c x l → On s a (nth s c .older) x (remove c l)
 unfolding occurrences
 On-moves s up a x c [] t one n h = absurd h
@@ -270,7 +270,7 @@ On-moves s up a x c (d ∷ l) t one n h = ⊎-elim own (λ e. other e (λ u. On-
     other e f = rw (remove-other c d l (e .0)) (⊎-elim (λ u. absurd (e .0 (u .0))) (λ u. inr (u .0, f (u .1))) h)
 
 -- where the low of the slot that it stands on is at most its time, a read sees that slot's value; else it goes on
-pub On-found : (s : List Slot) (a c : ℕ) (x : Reading) (l : List ℕ) → On s a c x l → nth s c .low ≤ a → nth s c .value ≡ x
+pub On-found : (s : List Slot) (a c : ℕ) (x : Content) (l : List ℕ) → On s a c x l → nth s c .low ≤ a → nth s c .value ≡ x
 On-found s a c x [] t h = absurd t
 On-found s a c x (d ∷ l) t h =
     ⊎-elim
@@ -279,7 +279,7 @@ On-found s a c x (d ∷ l) t h =
     (λ u. On-found s a c x l (u .1) h)
     t
 
-pub On-on : (s : List Slot) (up a c : ℕ) (x : Reading) (l : List ℕ) → Linked s up l → On s a c x l → a < nth s c .low → On s a (nth s c .older) x l
+pub On-on : (s : List Slot) (up a c : ℕ) (x : Content) (l : List ℕ) → Linked s up l → On s a c x l → a < nth s c .low → On s a (nth s c .older) x l
 On-on s up a c x [] k t h = absurd t
 On-on s up a c x (d ∷ l) k t h =
     ⊎-elim
@@ -296,7 +296,7 @@ On-on s up a c x (d ∷ l) k t h =
     first (y ∷ q) z = inl (refl, z)
 
 -- what it will see is what its time sees
-pub On-sees : (s : List Slot) (a c : ℕ) (x : Reading) (l : List ℕ) → On s a c x l → Sees s a x l
+pub On-sees : (s : List Slot) (a c : ℕ) (x : Content) (l : List ℕ) → On s a c x l → Sees s a x l
 On-sees s a c x [] t = t
 On-sees s a c x (d ∷ l) t = ⊎-elim (λ u. u .1) (λ u. inr (u .0, On-sees s a c x l (u .1))) t
 
@@ -306,17 +306,17 @@ On-sees s a c x (d ∷ l) t = ⊎-elim (λ u. u .1) (λ u. inr (u .0, On-sees s 
 abbrev pub Past : List Slot → ℕ → ℕ → Type 0
 Past s t c = (nth s c .low ≤ t) × (nth s c .high ≤ t)
 
-abbrev pub Next : List Slot → ℕ → Reading → List ℕ → Type 0
+abbrev pub Next : List Slot → ℕ → Content → List ℕ → Type 0
 Next s t x [] = ⊥
 Next s t x (d ∷ l) = (nth s d .low ≤ t) × (nth s d .high ≡ absent) × (nth s d .value ≡ x) × All (Past s t) l
 
-abbrev pub Fine : List Slot → ℕ → Reading → List ℕ → Type 0
+abbrev pub Fine : List Slot → ℕ → Content → List ℕ → Type 0
 Fine s t x [] = ⊥
 Fine s t x (c ∷ l) =
     (nth s c .high ≡ absent) × (((nth s c .low ≤ t) × (nth s c .value ≡ x) × All (Past s t) l) ⊎ ((nth s c .low ≡ absent) × Next s t x l))
 
 -- when the clock passes t, t sees the value of the newest that is stamped
-pub Fine-sees : (s : List Slot) (t : ℕ) (x : Reading) (l : List ℕ) → t < absent → Fine s t x l → Sees s t x l
+pub Fine-sees : (s : List Slot) (t : ℕ) (x : Content) (l : List ℕ) → t < absent → Fine s t x l → Sees s t x l
 Fine-sees s t x [] b f = f
 Fine-sees s t x (c ∷ l) b f = ⊎-elim (λ u. inl (u .0, omega (arith, f .0), u .1)) (λ u. inr (omega (arith, u .0), next l (u .1))) (f .1)
   where

@@ -5,7 +5,7 @@ use mathlib.Core.Option.{Option, none, some}
 use Prim.Native.Nat.{ℕ}
 use lib.Dec.{leb}
 use Rattle.model.specs.Totals.{goesOn, Sum}
-use Rattle.model.specs.Store.{Reading, Purpose, Single, Marked, Totaling, Goal, Idle, ReadEnter, Store, place}
+use Rattle.model.specs.Store.{Content, countOf, Purpose, Single, Marked, Totaling, Goal, Idle, ReadEnter, Store, place}
 use Rattle.model.specs.Rules.{twelveDigits}
 use Rattle.model.specs.Answer.{Answer, Going, No, Stepped, said}
 use Rattle.model.specs.Steps.{answerFor, signed, totalFound, found, stoppedBy}
@@ -18,9 +18,10 @@ pub record Tells (a : Answer) : Type 0 where
   pub refusal : said a .refusal ≡ none
   pub freed : said a .freed ≡ none
 
-pub answerFor-tells : (x : Reading) → Tells (answerFor x)
+pub answerFor-tells : (x : Content) → Tells (answerFor x)
 unfolding answerFor
-answerFor-tells x = record { ends = refl; refusal = refl; freed = refl }
+answerFor-tells none = record { ends = refl; refusal = refl; freed = refl }
+answerFor-tells (some x) = record { ends = refl; refusal = refl; freed = refl }
 
 pub signed-tells : (y : Sum) → Tells (signed y)
 unfolding signed
@@ -42,7 +43,7 @@ unfolding stoppedBy
 stopped-by Q none s w next f g = g refl
 stopped-by Q (some k) s w next f g = f k refl
 
-pub found-by : (Q : Stepped → Type 0) (s : Store) (w : ℕ) (y : Purpose) (x : Reading)
+pub found-by : (Q : Stepped → Type 0) (s : Store) (w : ℕ) (y : Purpose) (x : Content)
     → ((a : Answer) → Tells a → Q (record { store = place s w Idle; answer = a }))
     → Q (record { store = place s w Idle; answer = No 18 })
     → ((g : Goal) → Q (record { store = place s w (ReadEnter g); answer = Going }))
@@ -51,6 +52,6 @@ unfolding found totalFound
 found-by Q s w Single x shown over next = shown (answerFor x) (answerFor-tells x)
 found-by Q s w (Marked m) x shown over next = shown (answerFor x) (answerFor-tells x)
 found-by Q s w (Totaling g i y) x shown over next =
-    cond-both Q (leb (x .count) twelveDigits) _ _
+    cond-both Q (leb (countOf x) twelveDigits) _ _
     (λ e. cond-both Q (goesOn (s .site .rows) g i) _ _ (λ f. next _) (λ f. shown _ (signed-tells _)))
     (λ e. over)

@@ -16,7 +16,7 @@ use lib.ListN.{length, getD, take}
 use borrow.Author.Tests as Tests
 use Rattle.model.specs.Totals.{groupOf, registerOf, rowAt, ofGroup, follow}
 use Rattle.model.specs.Rules.{twelveDigits}
-use Rattle.model.specs.Store.{absent, Reading, Slot, Range, TimeStep, OpenAnnounce, OpenPass, CloseWithdraw, MarkKeep, MarkRelease}
+use Rattle.model.specs.Store.{absent, Reading, Content, Slot, Range, TimeStep, OpenAnnounce, OpenPass, CloseWithdraw, MarkKeep, MarkRelease}
 use Rattle.model.specs.Store.{Purpose, Single, Marked, Totaling, Goal, Doing, Idle, PutPublish, PutStamp, PutHandIn, FlushTake}
 use Rattle.model.specs.Store.{FlushRead, FlushFree, OnTime, ReadEnter, ReadStand, GetShow, Worker, Store, workerAt, newestOf}
 use Rattle.model.specs.Store.{markCount, markAt, holders, held}
@@ -122,7 +122,7 @@ Spared x ρ = (v : ℕ) → v < x .holders → x .held v < absent → ρ .low �
 
 -- the worker's snapshot at time t: it has a copy, and in each register's list the version that the time needs has the copy's value
 abbrev pub Snap : Ctx → Plain → ℕ → ℕ → Type 0
-Snap x p w t = (f : ℕ → Reading) × (p .copy w ≡ some f) × ((r : ℕ) → r < x .registers → Sees (x .slots) t (f r) (chain x r))
+Snap x p w t = (f : ℕ → Content) × (p .copy w ≡ some f) × ((r : ℕ) → r < x .registers → Sees (x .slots) t (f r) (chain x r))
 
 -- a mark is empty; or its time is past, and in each register's list the version that the time needs has the value of the copy under the mark
 abbrev pub MarkHolds : Ctx → Plain → ℕ → Type 0
@@ -130,13 +130,13 @@ MarkHolds x p m =
     let a = getD (x .marks) m absent in
     ((a ≡ absent) × (p .kept m ≡ none))
     ⊎ ((a < x .clock)
-    × (f : ℕ → Reading) × (p .kept m ≡ some f) × ((r : ℕ) → r < x .registers → Sees (x .slots) a (f r) (chain x r)))
+    × (f : ℕ → Content) × (p .kept m ≡ some f) × ((r : ℕ) → r < x .registers → Sees (x .slots) a (f r) (chain x r)))
 
 -- the time as of which a worker with the announced time t reads, and the copy in which the value is shown
 abbrev pub timeIn : Ctx → ℕ → Purpose → ℕ
 timeIn x t y = timeFor (x .marks) t y
 
-abbrev pub copyFor : Plain → ℕ → Purpose → Option (ℕ → Reading)
+abbrev pub copyFor : Plain → ℕ → Purpose → Option (ℕ → Content)
 copyFor p w Single = p .copy w
 copyFor p w (Marked m) = p .kept m
 copyFor p w (Totaling g i y) = p .copy w
@@ -157,7 +157,7 @@ Summed rows p w r (Totaling g i y) =
     × (r ≡ registerOf (rowAt rows i))
     × (groupOf (rowAt rows i) ≡ g)
     × (y .plus + y .minus ≤ twelveDigits * length (ofGroup g (take i rows)))
-    × ((f : ℕ → Reading) × (p .copy w ≡ some f) × (y ≡ sumOver f (ofGroup g (take i rows))))
+    × ((f : ℕ → Content) × (p .copy w ≡ some f) × (y ≡ sumOver f (ofGroup g (take i rows))))
 
 abbrev pub SummedFor : Ctx → Plain → ℕ → Goal → Type 0
 SummedFor x p w g = Summed (x .rows) p w (g .register) (g .purpose)
@@ -185,7 +185,7 @@ PlaceHolds x p w t (ReadStand g c) =
     (g .register < x .registers)
     × Sourced (x .clock) t (g .purpose)
     × ((timeIn x t (g .purpose) < x .clock)
-    × (f : ℕ → Reading)
+    × (f : ℕ → Content)
     × (copyFor p w (g .purpose) ≡ some f)
     × On (x .slots) (timeIn x t (g .purpose)) c (f (g .register)) (chain x (g .register)))
     × SummedFor x p w g
@@ -230,7 +230,7 @@ Fits x t c (PutPublish r y) n = (c ≡ Put r y) × (n ≡ 0)
 Fits x t c (PutStamp r d) n =
     (y : Reading)
     × (c ≡ Put r y)
-    × (((nth (x .slots) d .high ≡ absent) × (n ≡ 0) × (nth (x .slots) (top x r) .value ≡ y))
+    × (((nth (x .slots) d .high ≡ absent) × (n ≡ 0) × (nth (x .slots) (top x r) .value ≡ some y))
     ⊎ ((nth (x .slots) d .high ≤ x .clock) × (n ≡ 1)))
 Fits x t c (PutHandIn r d) n = IsPut c × (n ≡ 1)
 Fits x t c FlushTake n = FitsFlush c n

@@ -1,13 +1,14 @@
 -- Put (1), on a register that is stamped: a free slot is linked as the newest version.
 use mathlib.Core.Path.{_≡_, refl, sym, ap, _∙_, subst}
 use mathlib.Core.Logic.{_≢_, inl, inr, ⊎-elim}
+use mathlib.Core.Option.{some}
 use mathlib.Core.List.{List, [], _∷_}
 use Prim.Native.Nat.{ℕ, zero, suc, _+_, _≤_, _<_}
 use native.Mathlib.Nat.{not-suc-le-zero, le-of-suc-le-suc}
 use native.Mathlib.Omega.{arith}
 use lib.ListN.{length, getD, set, length-set}
 use lib.Seq.{getD-set-same, getD-set-other}
-use Rattle.model.specs.Store.{absent, Reading, Slot, Range, PutPublish, PutStamp, Worker, startWorker, Store, workerAt, newestOf}
+use Rattle.model.specs.Store.{absent, Reading, Content, Slot, Range, PutPublish, PutStamp, Worker, startWorker, Store, workerAt, newestOf}
 use Rattle.model.specs.Store.{markAt, withDoing, place, withSlots, withNewest, withFree}
 use Rattle.model.specs.Versions.{linkSlots}
 use Rattle.model.specs.Demand.{Call, Plain, occurrences, All, callAt}
@@ -123,7 +124,7 @@ module _ (now : ℕ) (s : Store) (olds : List (List ℕ)) (h : List Call) (o : L
   values : (i : ℕ) → i ≢ f → nth sl′ i .value ≡ nth sl i .value
   values = link-part sl n f y (λ v. v .value) (λ v z. refl)
 
-  is-f : nth sl′ f ≡ record { value = y; low = absent; high = absent; older = n; newer = absent }
+  is-f : nth sl′ f ≡ record { value = some y; low = absent; high = absent; older = n; newer = absent }
   is-f = link-new sl n f y f-in
 
   n-chain : 0 < occurrences n (chain x r)
@@ -147,7 +148,7 @@ module _ (now : ℕ) (s : Store) (olds : List (List ℕ)) (h : List Call) (o : L
       let k = chain-f q d i z in
       ((λ u. omega (arith, lows i k)), (λ u. omega (arith, lows i k)), (λ u. omega (arith, highs i k)), values i k)
 
-  sees : (a : ℕ) (v : Reading) (q : ℕ) → q < s .site .V' → a < ck → Sees sl a v (chain x q) → Sees sl′ a v (chain x′ q)
+  sees : (a : ℕ) (v : Content) (q : ℕ) → q < s .site .V' → a < ck → Sees sl a v (chain x q) → Sees sl′ a v (chain x′ q)
   sees a v q d z g =
       let k : Sees sl′ a v (chain x q) = Sees-mono sl sl′ a v (chain x q) (mono a q d) g in
       ⊎-elim
@@ -159,7 +160,7 @@ module _ (now : ℕ) (s : Store) (olds : List (List ℕ)) (h : List Call) (o : L
       (λ u. subst (Sees sl′ a v) (sym (chain-other q (u .0))) k)
       (eq-cases q r)
 
-  ons : (a c : ℕ) (v : Reading) (q : ℕ) → q < s .site .V' → a < ck → On sl a c v (chain x q) → On sl′ a c v (chain x′ q)
+  ons : (a c : ℕ) (v : Content) (q : ℕ) → q < s .site .V' → a < ck → On sl a c v (chain x q) → On sl′ a c v (chain x′ q)
   ons a c v q d z g =
       let k : On sl′ a c v (chain x q) = On-mono sl sl′ a c v (chain x q) (mono a q d) g in
       ⊎-elim

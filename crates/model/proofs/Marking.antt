@@ -11,7 +11,7 @@ use lib.Dec.{ltb}
 use lib.ListN.{length, getD, set, length-set}
 use lib.Seq.{getD-set-same, getD-set-other}
 use borrow.Author.Tests as Tests
-use Rattle.model.specs.Store.{absent, markCount, Reading, MarkKeep, MarkRelease, Purpose, Single, Marked, Totaling, Goal, Doing, Idle}
+use Rattle.model.specs.Store.{absent, markCount, Content, MarkKeep, MarkRelease, Purpose, Single, Marked, Totaling, Goal, Doing, Idle}
 use Rattle.model.specs.Store.{PutStamp, OnTime, ReadStand, Worker, startWorker, Store, workerAt, markAt, withDoing, withMarks, place}
 use Rattle.model.specs.About.{about}
 use Rattle.model.specs.Marks.{EmptyMark, HeldMark, UnreadMark, reads, isRead, markRefusal, needFor}
@@ -95,10 +95,10 @@ module _ (now : ℕ) (s : Store) (olds : List (List ℕ)) (h : List Call) (o : L
   abbrev pub Source : Purpose → Type 0
   Source y =
       (timeIn x t y < s .clock)
-      × (f : ℕ → Reading) × (copyFor p w y ≡ some f) × ((r : ℕ) → r < s .site .V' → Sees (s .slots) (timeIn x t y) (f r) (chain x r))
+      × (f : ℕ → Content) × (copyFor p w y ≡ some f) × ((r : ℕ) → r < s .site .V' → Sees (s .slots) (timeIn x t y) (f r) (chain x r))
 
   own-source : t < s .clock
-      → (t < s .clock) × (f : ℕ → Reading) × (p .copy w ≡ some f) × ((r : ℕ) → r < s .site .V' → Sees (s .slots) t (f r) (chain x r))
+      → (t < s .clock) × (f : ℕ → Content) × (p .copy w ≡ some f) × ((r : ℕ) → r < s .site .V' → Sees (s .slots) t (f r) (chain x r))
   own-source z = let S = I .workers w wb .snapshot z in (z, S .0, S .1, S .2)
 
   pub source : (y : Purpose) → Sourced (s .clock) t y → markRefusal s (needFor y) ≡ none → Source y
@@ -109,7 +109,7 @@ module _ (now : ℕ) (s : Store) (olds : List (List ℕ)) (h : List Call) (o : L
   ------------------------------------------------------------------------
   -- One mark changes, and with it the copy under it; the worker is idle then
 
-  module _ (m b : ℕ) (mb : m < markCount) (d : Doing) (e : workerAt s w .doing ≡ d) (f : Option (ℕ → Reading)) where
+  module _ (m b : ℕ) (mb : m < markCount) (d : Doing) (e : workerAt s w .doing ≡ d) (f : Option (ℕ → Content)) where
     abbrev y⁺ : Worker
     y⁺ = withDoing (workerAt s w) Idle
 
@@ -209,7 +209,7 @@ module _ (now : ℕ) (s : Store) (olds : List (List ℕ)) (h : List Call) (o : L
       (rw (⊎-elim (λ u. u .1) (λ u. absurd (full (u .0))) (I .marks m (d .0)))) refl
       (λ v vb vn g i z j. standing v vb g i z j)
       (subst (λ (i : ℕ). ((i ≡ absent) × (update (p .kept) m (p .copy w) m ≡ none))
-      ⊎ ((i < s .clock) × (f : ℕ → Reading) × (update (p .kept) m (p .copy w) m ≡ some f)
+      ⊎ ((i < s .clock) × (f : ℕ → Content) × (update (p .kept) m (p .copy w) m ≡ some f)
       × ((r : ℕ) → r < s .site .V' → Sees (s .slots) i (f r) (chain x r))))
       (sym (own-mark m t (d .0) (OnTime (MarkKeep m)) e (p .copy w)))
       (inr (d .1, S .0, put-at-same (p .kept) m (p .copy w) ∙ S .1, S .2)))

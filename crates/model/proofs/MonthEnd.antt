@@ -8,7 +8,7 @@ use Prim.Native.Nat.{ℕ, _+_, _<_}
 use native.Mathlib.Nat.{not-suc-le-zero}
 use native.Mathlib.Omega.{arith}
 use lib.ListN.{length}
-use Rattle.model.specs.Store.{Reading}
+use Rattle.model.specs.Store.{Content}
 use Rattle.model.specs.Answer.{Answer, Done}
 use Rattle.model.specs.Steps.{answerFor}
 use Rattle.model.specs.Record.{Operation, Put, Open, Read, Close, Get, Collect, Total, Mark, Release, MarkedRead}
@@ -20,13 +20,13 @@ use Rattle.model.proofs.Basic.{hit-same, hit-other, eq-cases, lt-cases,
 use Rattle.model.proofs.Stamp.{put-at-other}
 
 -- what a copy shows is there
-shown-is : (y : Option (ℕ → Reading)) (q : (ℕ → Reading) → Answer) (a : Answer) → inCopy y q ≡ some a → (f : ℕ → Reading) × (y ≡ some f) × (q f ≡ a)
+shown-is : (y : Option (ℕ → Content)) (q : (ℕ → Content) → Answer) (a : Answer) → inCopy y q ≡ some a → (f : ℕ → Content) × (y ≡ some f) × (q f ≡ a)
 unfolding inCopy
 shown-is none q a e = let z : _≡_ {A = ℕ} 0 1 = cc in absurd (omega (arith, z))
 shown-is (some f) q a e = (f, refl, let z : q f ≡ a = cc in z)
 
 -- a mark shows nothing where there is a copy
-full-shows : (f : ℕ → Reading) (a b : Answer) → noCopy (some f) a ≡ some b → ⊥
+full-shows : (f : ℕ → Content) (a b : Answer) → noCopy (some f) a ≡ some b → ⊥
 unfolding noCopy
 full-shows f a b e = let z : _≡_ {A = ℕ} 0 1 = cc in omega (arith, z)
 
@@ -41,7 +41,7 @@ mark-shown : (rows : List ℕ) (p : Plain) (w m n : ℕ) (a : Answer) → Agrees
 unfolding shows
 mark-shown rows p w m n a q = q
 
-some-inj : {f g : ℕ → Reading} → some f ≡ some g → f ≡ g
+some-inj : {f g : ℕ → Content} → some f ≡ some g → f ≡ g
 some-inj q = cc
 
 module _ (rows : List ℕ) (h : List Call) (m : ℕ) where
@@ -73,7 +73,7 @@ module _ (rows : List ℕ) (h : List Call) (m : ℕ) where
 
   -- a marked read was shown what is under the mark
   read-shown : (p : Plain) (r i n : ℕ) (a : Answer) → op i ≡ MarkedRead r m → end i ≡ FinishedAt n a
-      → Agrees (op i) (end i) (shows rows p (callAt h i .worker) (op i)) → (f : ℕ → Reading) × (p .kept m ≡ some f) × (answerFor (f r) ≡ a)
+      → Agrees (op i) (end i) (shows rows p (callAt h i .worker) (op i)) → (f : ℕ → Content) × (p .kept m ≡ some f) × (answerFor (f r) ≡ a)
   read-shown p r i n a iop iend z =
       shown-is (p .kept m) (λ f. answerFor (f r)) a
       (marked-shown rows p (callAt h i .worker) r m n a
@@ -88,7 +88,7 @@ module _ (rows : List ℕ) (h : List Call) (m : ℕ) where
     j-before e z = subst (FinishedBy e) jend z
 
     -- from plain registers on that have the copy f under the mark, to read j, all with ends after record n
-    walk : (n : ℕ) → (ReleasedBetween h m n k → ⊥) → (f : ℕ → Reading) (p : Plain) (o : List ℕ) → p .kept m ≡ some f
+    walk : (n : ℕ) → (ReleasedBetween h m n k → ⊥) → (f : ℕ → Content) (p : Plain) (o : List ℕ) → p .kept m ≡ some f
         → ((i : ℕ) → 0 < occurrences i o → i < length h)
         → RegistersAgree rows h p o → ByEnds h o → 0 < occurrences j o
         → ((i l : ℕ) (a : Answer) → 0 < occurrences i o → atEnd (op i) ≡ true → end i ≡ FinishedAt l a → n < l)
@@ -105,7 +105,7 @@ module _ (rows : List ℕ) (h : List Call) (m : ℕ) where
         here u =
             let z = read-shown p r j k b jop jend
             (subst (λ (i : ℕ). Agrees (op i) (end i) (shows rows p (callAt h i .worker) (op i))) u (R .0)) in
-            ap (λ (g : ℕ → Reading). answerFor (g r)) (some-inj (sym e ∙ z .1)) ∙ z .2
+            ap (λ (g : ℕ → Content). answerFor (g r)) (some-inj (sym e ∙ z .1)) ∙ z .2
 
         on : c ≢ j → (feed p (callAt h c .worker) (op c) .kept m ≡ some f → answerFor (f r) ≡ b) → answerFor (f r) ≡ b
         on u rest =
@@ -126,7 +126,7 @@ module _ (rows : List ℕ) (h : List Call) (m : ℕ) where
             marks : op c ≡ Mark m → ⊥
             marks z =
                 let q = ended (at-end z) in
-                full-shows f Done (q .1) (sym (ap (λ (y : Option (ℕ → Reading)). noCopy y Done) e)
+                full-shows f Done (q .1) (sym (ap (λ (y : Option (ℕ → Content)). noCopy y Done) e)
                 ∙ mark-shown rows p (callAt h c .worker) m (q .0) (q .1) (subst (λ (i : Ending). Agrees (Mark m) i (shows rows p (callAt h c .worker) (Mark m))) (q .2)
                 (subst (λ (i : Operation). Agrees i (end c) (shows rows p (callAt h c .worker) i)) z (R .0))))
               where

@@ -10,7 +10,7 @@ use native.Mathlib.Nat.{not-suc-le-zero}
 use lib.Dec.{ltb, leb}
 use lib.ListN.{length, getD, take, drop, length-append}
 use borrow.Author.Tests as Tests
-use Rattle.model.specs.Store.{absent, Reading, Slot, Range, markCount, OpenAnnounce, OpenPass, CloseWithdraw, MarkKeep, MarkRelease}
+use Rattle.model.specs.Store.{absent, Reading, Content, countOf, Slot, Range, markCount, OpenAnnounce, OpenPass, CloseWithdraw, MarkKeep, MarkRelease}
 use Rattle.model.specs.Store.{Single, Marked, Totaling, Goal, Doing, Idle, PutPublish, PutStamp, PutHandIn, FlushTake}
 use Rattle.model.specs.Store.{FlushRead, FlushFree, OnTime, ReadEnter, ReadStand, GetShow, Worker, Store, workerAt, slotAt, newestOf}
 use Rattle.model.specs.Store.{holders, held, rangeOf, withQueue, withWorker, withDoing, place}
@@ -59,16 +59,16 @@ none-more {now} {s} {h} o e z K = subst (λ (q : List ℕ). Kept now s h (o ++ q
 pub one-more : {now : ℕ} {s : Store} {h : List Call} (o e : List ℕ) (k : ℕ) → e ≡ k ∷ [] → Kept now s h (o ++ (k ∷ [])) → Kept now s h (o ++ e)
 one-more {now} {s} {h} o e k z K = subst (λ (q : List ℕ). Kept now s h (o ++ q)) (sym z) K
 
-pub fine-low : (s : List Slot) (t : ℕ) (x : Reading) (n c : ℕ) (l : List ℕ) → Fine s t x (n ∷ l) → 0 < occurrences c l → nth s c .low ≤ t
+pub fine-low : (s : List Slot) (t : ℕ) (x : Content) (n c : ℕ) (l : List ℕ) → Fine s t x (n ∷ l) → 0 < occurrences c l → nth s c .low ≤ t
 fine-low s t x n c l f z = ⊎-elim (λ u. All-get (Past s t) l (u .2) c z .0) (λ u. next-low s t x c l (u .1) z) (f .1)
 
-pub fine-high : (s : List Slot) (t : ℕ) (x : Reading) (n c : ℕ) (l : List ℕ) → Fine s t x (n ∷ l) → 0 < occurrences c l → nth s c .high ≢ absent
+pub fine-high : (s : List Slot) (t : ℕ) (x : Content) (n c : ℕ) (l : List ℕ) → Fine s t x (n ∷ l) → 0 < occurrences c l → nth s c .high ≢ absent
     → nth s c .high ≤ t
 fine-high s t x n c l f z e =
     ⊎-elim (λ u. All-get (Past s t) l (u .2) c z .1)
     (λ u. next-high s t x c l (u .1) z (λ v. e (ap (λ (i : ℕ). nth s i .high) (sym v) ∙ next-open s t x l (u .1)))) (f .1)
 
-some-inj : {f g : ℕ → Reading} → some f ≡ some g → f ≡ g
+some-inj : {f g : ℕ → Content} → some f ≡ some g → f ≡ g
 some-inj e = cc
 
 module _ (now : ℕ) (s : Store) (olds : List (List ℕ)) (h : List Call) (o : List ℕ) (p : Plain) (I : Inv now s olds h o p) (w : ℕ)
@@ -146,7 +146,7 @@ module _ (now : ℕ) (s : Store) (olds : List (List ℕ)) (h : List Call) (o : L
       Tests.ltb-true (registerOf row) (s .site .V')
       (and-both (leb (groupOf row) 31 && leb (signOf row) 1) _ (row-fits (s .site .V') 0 0 rows (I .rowsFit) i b) .1)
 
-  none-yet : (f : ℕ → Reading) (g : ℕ) → sum₀ ≡ sumOver f (ofGroup g (take (firstOf g rows) rows))
+  none-yet : (f : ℕ → Content) (g : ℕ) → sum₀ ≡ sumOver f (ofGroup g (take (firstOf g rows) rows))
   unfolding sumOver
   none-yet f g = ap (sumOver f) (sym (first-none g rows))
 
@@ -566,7 +566,7 @@ module _ (now : ℕ) (s : Store) (olds : List (List ℕ)) (h : List Call) (o : L
     abbrev r : ℕ
     r = g .register
 
-    abbrev v : Reading
+    abbrev v : Content
     v = slotAt s c .value
 
     abbrev t′ : ℕ
@@ -576,16 +576,16 @@ module _ (now : ℕ) (s : Store) (olds : List (List ℕ)) (h : List Call) (o : L
     settled = sourced-settled x x t (g .purpose) (doing-is (ReadStand g c) e .1)
 
     -- the copy has the value that is found
-    found-in : slotAt s c .low ≤ t′ → (f : ℕ → Reading) → copyFor p w (g .purpose) ≡ some f → v ≡ f r
+    found-in : slotAt s c .low ≤ t′ → (f : ℕ → Content) → copyFor p w (g .purpose) ≡ some f → v ≡ f r
     found-in z f q =
         let d = doing-is (ReadStand g c) e .2 in
         let i : d .1 ≡ f = some-inj (sym (d .2) ∙ q) in
-        On-found (s .slots) t′ c (d .1 r) (chain x r) (d .3) z ∙ ap (λ (q : ℕ → Reading). q r) i
+        On-found (s .slots) t′ c (d .1 r) (chain x r) (d .3) z ∙ ap (λ (q : ℕ → Content). q r) i
 
     -- a read, or a marked read
     single-kept : slotAt s c .low ≤ t′ → (o′ : Operation) → Looks o′
         → ((k : ℕ) → Serves (callAt h k .operation) r (g .purpose) → callAt h k .operation ≡ o′)
-        → ((f : ℕ → Reading) → copyFor p w (g .purpose) ≡ some f → shows rows p w o′ ≡ some (answerFor (f r)))
+        → ((f : ℕ → Content) → copyFor p w (g .purpose) ≡ some f → shows rows p w o′ ≡ some (answerFor (f r)))
         → Kept now (to Idle) (map (endFor now w (answerFor v)) h) (o ++ endEffects h w (answerFor v))
     single-kept z o′ L is sh =
         let a = cur-is (ReadStand g c) e in
@@ -593,25 +593,25 @@ module _ (now : ℕ) (s : Store) (olds : List (List ℕ)) (h : List Call) (o : L
         let i = is (a .0) (a .2 .0) in
         shown-kept (ReadStand g c) e tt (λ i. refl) settled (a .0) (a .1) (a .2 .1) (subst Looks (sym i) L)
         (answerFor v) (answerFor-tells v)
-        (rw i (sh (d .1) (d .2) ∙ ap (λ (q : Reading). some (answerFor q)) (sym (found-in z (d .1) (d .2)))))
+        (rw i (sh (d .1) (d .2) ∙ ap (λ (q : Content). some (answerFor q)) (sym (found-in z (d .1) (d .2)))))
 
     pub found-kept : slotAt s c .low ≤ t′ → g .purpose ≡ Single
         → Kept now (to Idle) (map (endFor now w (answerFor v)) h) (o ++ endEffects h w (answerFor v))
     unfolding shows inCopy
     found-kept z single =
         single-kept z (Read r) (looks-read r) (λ k q. subst (Serves (callAt h k .operation) r) single q)
-        (λ f q. ap (λ (i : Option (ℕ → Reading)). inCopy i (λ f. answerFor (f r))) (sym (ap (copyFor p w) single) ∙ q))
+        (λ f q. ap (λ (i : Option (ℕ → Content)). inCopy i (λ f. answerFor (f r))) (sym (ap (copyFor p w) single) ∙ q))
 
     pub found-marked : slotAt s c .low ≤ t′ → (m : ℕ) → g .purpose ≡ Marked m
         → Kept now (to Idle) (map (endFor now w (answerFor v)) h) (o ++ endEffects h w (answerFor v))
     unfolding shows inCopy
     found-marked z m marked =
         single-kept z (MarkedRead r m) (looks-marked r m) (λ k q. subst (Serves (callAt h k .operation) r) marked q)
-        (λ f q. ap (λ (i : Option (ℕ → Reading)). inCopy i (λ f. answerFor (f r))) (sym (ap (copyFor p w) marked) ∙ q))
+        (λ f q. ap (λ (i : Option (ℕ → Content)). inCopy i (λ f. answerFor (f r))) (sym (ap (copyFor p w) marked) ∙ q))
 
     module _ (j i : ℕ) (y : Sum) (total : g .purpose ≡ Totaling j i y) (z : slotAt s c .low ≤ t′) where
       abbrev more : Sum
-      more = addRow y (rowAt rows i) (v .count)
+      more = addRow y (rowAt rows i) (countOf v)
 
       call : (k : ℕ) × Running h w k × (callAt h k .operation ≡ Total j) × (occurrences k o ≡ 0)
       call =
@@ -626,8 +626,8 @@ module _ (now : ℕ) (s : Store) (olds : List (List ℕ)) (h : List Call) (o : L
       more-is =
           let f = so-far .4 .0 in
           let q : v ≡ f (registerOf (rowAt rows i)) = found-in z f (ap (copyFor p w) total ∙ so-far .4 .1) ∙ ap f (so-far .1) in
-          ap (λ (k : Reading). addRow y (rowAt rows i) (k .count)) q
-          ∙ ap (λ (k : Sum). addRow k (rowAt rows i) (f (registerOf (rowAt rows i)) .count)) (so-far .4 .2)
+          ap (λ (k : Content). addRow y (rowAt rows i) (countOf k)) q
+          ∙ ap (λ (k : Sum). addRow k (rowAt rows i) (countOf (f (registerOf (rowAt rows i))))) (so-far .4 .2)
           ∙ sym (sum-next f (ofGroup j (take i rows)) (rowAt rows i))
           ∙ ap (sumOver f) (sym (own-next j rows i (so-far .0) (so-far .2)))
 
@@ -647,7 +647,7 @@ module _ (now : ℕ) (s : Store) (olds : List (List ℕ)) (h : List Call) (o : L
           (rw (call .2, so-far .4 .1) (ap (λ (k : Sum). some (signed k)) (sym (more-is ∙ ap (sumOver (so-far .4 .0)) all))))
 
       -- another row follows
-      pub next-kept : v .count ≤ twelveDigits → goesOn rows j i ≡ true → Kept now (to (ReadEnter (goalAt rows j (i + 1) more))) h o
+      pub next-kept : countOf v ≤ twelveDigits → goesOn rows j i ≡ true → Kept now (to (ReadEnter (goalAt rows j (i + 1) more))) h o
       next-kept few n =
           let k = goes rows j i n in
           let own : length (ofGroup j (take (i + 1) rows)) ≡ length (ofGroup j (take i rows)) + 1 =
@@ -659,7 +659,7 @@ module _ (now : ℕ) (s : Store) (olds : List (List ℕ)) (h : List Call) (o : L
               k .0,
               refl,
               k .1,
-              omega (arith, sum-grows y (rowAt rows i) (v .count), so-far .3, own, few),
+              omega (arith, sum-grows y (rowAt rows i) (countOf v), so-far .3, own, few),
               (so-far .4 .0, so-far .4 .1, more-is),
             ),
           )

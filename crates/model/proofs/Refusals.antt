@@ -8,7 +8,7 @@ use lib.Dec.{ltb, leb, eqb}
 use lib.ListN.{length, getD}
 use Rattle.model.specs.Store.{lastClock, Reading, Slot, Range, OpenAnnounce, OpenPass, CloseWithdraw, MarkKeep, MarkRelease, Doing}
 use Rattle.model.specs.Store.{Idle, PutPublish, PutStamp, PutHandIn, FlushTake, FlushRead, FlushFree, OnTime, ReadEnter, ReadStand}
-use Rattle.model.specs.Store.{GetShow, Store, Hub, blank, up, workerAt, slotAt, rangeOf, withWorker, place}
+use Rattle.model.specs.Store.{GetShow, Store, Hub, blank, up, workerAt, slotAt, newestOf, rangeOf, withWorker, place}
 use Rattle.model.specs.Marks.{MarkNeed, EmptyMark, UnreadMark, markRefusal, needFor, timeFor}
 use Rattle.model.specs.Rules.{Rules}
 use Rattle.model.specs.Answer.{Going, Done, No, Stepped, Applied}
@@ -21,7 +21,7 @@ use Rattle.model.specs.Demand.{occurrences}
 use Rattle.model.specs.Refusals.{onReading, atStep, idled, Refused, EndsWell, Demand1}
 use Rattle.model.proofs.Basic.{cond-both}
 use Rattle.model.proofs.Begin.{OfMarks, of-marks, begin-by}
-use Rattle.model.proofs.Found.{found-by, stopped-by}
+use Rattle.model.proofs.Found.{answerFor-tells, found-by, stopped-by}
 
 -- a refusal on reading
 on-reading : (h : Hub) (d : Decoded) (k : ℕ) → takesStep h d ≡ false → 0 < occurrences k onReading → Refused h d k h
@@ -88,7 +88,7 @@ module _ (s : Store) (w : ℕ) (wb : ltb w (s .site .P) ≡ true) where
   step-well (OnTime CloseWithdraw) e = tt
   step-well (OnTime (MarkKeep m)) e = mark-well (EmptyMark m) _ (takes (OnTime (MarkKeep m)) e) tt
   step-well (OnTime (MarkRelease m)) e = mark-well (UnreadMark m) _ (takes (OnTime (MarkRelease m)) e) tt
-  step-well (GetShow r) e = tt
+  step-well (GetShow r) e = rw (answerFor-tells (slotAt s (newestOf s r) .value) .refusal) tt
 
 ------------------------------------------------------------------------
 -- A record

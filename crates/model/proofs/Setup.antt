@@ -2,6 +2,7 @@
 use mathlib.Core.Path.{_≡_, refl, sym, ap, _∙_, subst}
 use mathlib.Core.Bool.{Bool, true, false, cond, _&&_}
 use mathlib.Core.Logic.{_⊎_, inl, inr, ⊎-elim}
+use mathlib.Core.Option.{none}
 use mathlib.Core.List.{List, [], _∷_}
 use Prim.Native.Nat.{ℕ, zero, suc, _+_, _-_, _%_, _≤_, _<_}
 use native.Mathlib.Nat.{not-suc-le-zero, le-of-suc-le-suc}
@@ -10,7 +11,7 @@ use lib.Dec.{ltb, leb, eqb}
 use lib.Seq.{length-take-le}
 use lib.ListN.{length, getD, take, replicate, length-replicate, getD-replicate}
 use borrow.Author.Tests as Tests
-use Rattle.model.specs.Store.{absent, markCount, lastClock, reading₀, Slot, startWorker, Hub, blank, up, upFrom}
+use Rattle.model.specs.Store.{absent, markCount, lastClock, Slot, startWorker, Hub, blank, up, upFrom}
 use Rattle.model.specs.Rules.{Rules}
 use Rattle.model.specs.Answer.{Ok, Applied}
 use Rattle.model.specs.Totals.{follow}
@@ -62,7 +63,7 @@ first-length zero (z ∷ l) = ap suc (first-length zero l)
 first-length (suc v) (z ∷ l) = ap suc (first-length v l)
 
 first-at : (v : ℕ) (l : List Slot) (r : ℕ) → r < v → r < length l
-    → nth (firstSlots v l) r ≡ record { value = reading₀; low = 0; high = absent; older = absent; newer = absent }
+    → nth (firstSlots v l) r ≡ record { value = none; low = 0; high = absent; older = absent; newer = absent }
 unfolding firstSlots
 first-at v [] r h k = absurd (not-suc-le-zero k)
 first-at zero (z ∷ l) r h k = absurd (not-suc-le-zero h)
@@ -118,7 +119,7 @@ module _ (size : ℕ) (z : Sizes) (rows : List ℕ) (row : List Slot) (rf : foll
             λ r b. subst (Linked (firstSlots v (take n row)) absent) (sym (chain-is r b))
             (ap (λ (z : Slot). z .newer) (at r b), ap (λ (z : Slot). z .older) (at r b), tt);
         stamps =
-            λ r b. subst (Fine (firstSlots v (take n row)) c reading₀) (sym (chain-is r b))
+            λ r b. subst (Fine (firstSlots v (take n row)) c none) (sym (chain-is r b))
             (ap (λ (z : Slot). z .high) (at r b), inl (omega (arith, ap (λ (z : Slot). z .low) (at r b)), ap (λ (z : Slot). z .value) (at r b), tt));
         queue = tt;
         workers =
@@ -192,7 +193,7 @@ module _ (size : ℕ) (z : Sizes) (rows : List ℕ) (row : List Slot) (rf : foll
       chain-is : (r : ℕ) → r < v → chain (ctx (fresh size z rows row) olds) r ≡ r ∷ []
       chain-is r b = ap (λ (i : ℕ). i ∷ old (ctx (fresh size z rows row) olds) r) (top-is r b) ∙ ap (λ (l : List ℕ). r ∷ l) (getD-replicate v r [] [] b)
 
-      at : (r : ℕ) → r < v → nth (firstSlots v (take n row)) r ≡ record { value = reading₀; low = 0; high = absent; older = absent; newer = absent }
+      at : (r : ℕ) → r < v → nth (firstSlots v (take n row)) r ≡ record { value = none; low = 0; high = absent; older = absent; newer = absent }
       at r b = first-at v (take n row) r b (omega (arith, length-take-le n row long))
 
       first-lin : Lin rows 0 [] [] plain₀

@@ -2,6 +2,7 @@
 use mathlib.Core.Path.{_≡_, refl, sym, ap, _∙_, subst}
 use mathlib.Core.Bool.{true}
 use mathlib.Core.Logic.{_≢_, ⊎-elim}
+use mathlib.Core.Option.{some}
 use mathlib.Core.List.{List}
 use Prim.Native.Nat.{ℕ, _<_}
 use lib.Dec.{eqb}
@@ -120,13 +121,13 @@ module _ (l : List Slot) (c f : ℕ) (x : Reading) where
   fF v = setNewer v f
 
   abbrev new : Slot
-  new = record { value = x; low = absent; high = absent; older = c; newer = absent }
+  new = record { value = some x; low = absent; high = absent; older = c; newer = absent }
 
   pub link-length : length (linkSlots l c f x) ≡ length l
   unfolding linkSlots
   link-length = length-set (change l c fF) f new ∙ change-length l c fF
 
-  pub link-new : f < length l → nth (linkSlots l c f x) f ≡ record { value = x; low = absent; high = absent; older = c; newer = absent }
+  pub link-new : f < length l → nth (linkSlots l c f x) f ≡ record { value = some x; low = absent; high = absent; older = c; newer = absent }
   unfolding linkSlots
   link-new h = getD-set-same (change l c fF) f new slot₀ (subst (λ (k : ℕ). f < k) (sym (change-length l c fF)) h)
 

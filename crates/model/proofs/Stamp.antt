@@ -2,13 +2,14 @@
 use mathlib.Core.Path.{_≡_, refl, sym, ap, _∙_, subst}
 use mathlib.Core.Bool.{true, false}
 use mathlib.Core.Logic.{_≢_, inl, inr, ⊎-elim}
+use mathlib.Core.Option.{some}
 use mathlib.Core.List.{List, [], _∷_, _++_, map, append-nil}
 use Prim.Native.Nat.{ℕ, _+_, _≤_, _<_}
 use native.Mathlib.Omega.{arith}
 use lib.Dec.{eqb}
 use lib.ListN.{length}
 use borrow.Author.Tests as Tests
-use Rattle.model.specs.Store.{absent, markCount, Reading, Slot, Range, Doing, PutStamp, startWorker, Store, workerAt, newestOf}
+use Rattle.model.specs.Store.{absent, markCount, Reading, Content, Slot, Range, Doing, PutStamp, startWorker, Store, workerAt, newestOf}
 use Rattle.model.specs.Store.{markAt, withSlots}
 use Rattle.model.specs.Versions.{stampSlots, stamp}
 use Rattle.model.specs.Record.{Operation, Put}
@@ -31,25 +32,25 @@ put-at-same f i y = rw (Tests.eq-eqb i i refl)
 pub put-at-other {ℓ} : {A : Type ℓ} (f : ℕ → A) (i : ℕ) (y : A) (j : ℕ) → j ≢ i → update f i y j ≡ f j
 put-at-other f i y j n = rw (Tests.ne-eqb j i n)
 
-pub next-open : (s : List Slot) (t : ℕ) (x : Reading) (l : List ℕ) → Next s t x l → nth s (headOr absent l) .high ≡ absent
+pub next-open : (s : List Slot) (t : ℕ) (x : Content) (l : List ℕ) → Next s t x l → nth s (headOr absent l) .high ≡ absent
 next-open s t x [] a = absurd a
 next-open s t x (d ∷ l) a = a .1
 
-next-head : (s : List Slot) (t : ℕ) (x : Reading) (c : ℕ) (l : List ℕ) → t < absent → Next s t x l → 0 < occurrences c l → nth s c .high ≡ absent
+next-head : (s : List Slot) (t : ℕ) (x : Content) (c : ℕ) (l : List ℕ) → t < absent → Next s t x l → 0 < occurrences c l → nth s c .high ≡ absent
     → headOr absent l ≡ c
 unfolding occurrences
 next-head s t x c [] b a h e = absurd a
 next-head s t x c (d ∷ l) b a h e =
     ⊎-elim (λ u. u .0) (λ u. absurd (omega (arith, e, All-get (Past s t) l (a .3) c (omega (arith, hit-other d c (u .0))) .1))) (eq-cases d c)
 
-pub next-low : (s : List Slot) (t : ℕ) (x : Reading) (c : ℕ) (l : List ℕ) → Next s t x l → 0 < occurrences c l → nth s c .low ≤ t
+pub next-low : (s : List Slot) (t : ℕ) (x : Content) (c : ℕ) (l : List ℕ) → Next s t x l → 0 < occurrences c l → nth s c .low ≤ t
 unfolding occurrences
 next-low s t x c [] a h = absurd a
 next-low s t x c (d ∷ l) a h =
     ⊎-elim (λ u. subst (λ (i : ℕ). nth s i .low ≤ t) (u .0) (a .0)) (λ u. All-get (Past s t) l (a .3) c (omega (arith, hit-other d c (u .0))) .0)
     (eq-cases d c)
 
-pub next-high : (s : List Slot) (t : ℕ) (x : Reading) (c : ℕ) (l : List ℕ) → Next s t x l → 0 < occurrences c l → headOr absent l ≢ c
+pub next-high : (s : List Slot) (t : ℕ) (x : Content) (c : ℕ) (l : List ℕ) → Next s t x l → 0 < occurrences c l → headOr absent l ≢ c
     → nth s c .high ≤ t
 unfolding occurrences
 next-high s t x c [] a h n = absurd a
@@ -96,7 +97,7 @@ module _ (now : ℕ) (s : Store) (olds : List (List ℕ)) (h : List Call) (o : L
 
   module _ (e : nth sl n .low ≡ absent) (w : ℕ) (wb : w < s .site .P) (c : ℕ) (dw : workerAt s w .doing ≡ PutStamp r c) (hc : nth sl c .high ≡ absent)
       (k : ℕ) (kOpen : Running h w k) (y : Reading) (kCall : callAt h k .operation ≡ Put r y) (kNot : occurrences k o ≡ 0)
-      (kVal : nth sl n .value ≡ y) where
+      (kVal : nth sl n .value ≡ some y) where
     abbrev sl′ : List Slot
     sl′ = stampSlots sl n ck
 
@@ -110,7 +111,7 @@ module _ (now : ℕ) (s : Store) (olds : List (List ℕ)) (h : List Call) (o : L
     o′ = o ++ (k ∷ [])
 
     abbrev p′ : Plain
-    p′ = record { registers = update (p .registers) r y; copy = p .copy; kept = p .kept }
+    p′ = record { registers = update (p .registers) r (some y); copy = p .copy; kept = p .kept }
 
     next : Next sl ck (p .registers r) (old x r)
     next = ⊎-elim (λ u. absurd (omega (arith, u .0, e, I .clockFits))) (λ u. u .1) (I .stamps r b .1)
@@ -182,7 +183,7 @@ module _ (now : ℕ) (s : Store) (olds : List (List ℕ)) (h : List Call) (o : L
     unfolding occurrences
     fine-own = (
       highs n (λ z. c≢n (sym z)) ∙ I .stamps r b .0,
-      inl (omega (arith, low-n), values n ∙ kVal ∙ sym (put-at-same (p .registers) r y), All-occurrences (old x r) past),
+      inl (omega (arith, low-n), values n ∙ kVal ∙ sym (put-at-same (p .registers) r (some y)), All-occurrences (old x r) past),
     )
       where
         past : (i : ℕ) → 0 < occurrences i (old x r) → Past sl′ ck i
@@ -199,7 +200,7 @@ module _ (now : ℕ) (s : Store) (olds : List (List ℕ)) (h : List Call) (o : L
       where
         other : (q ≢ r) × (eqb q r ≡ false) → Fine sl′ ck (p′ .registers q) (chain x q)
         other u =
-            Fine-same sl sl′ ck (p .registers q) (p′ .registers q) (chain x q) (put-at-other (p .registers) r y q (u .0))
+            Fine-same sl sl′ ck (p .registers q) (p′ .registers q) (chain x q) (put-at-other (p .registers) r (some y) q (u .0))
             (λ i z.
             let zero-r = chain-apart I q r d b (u .0) i z in (
               lows i (λ v. omega (arith, zero-r, hit-eq n i (sym v))),

@@ -7,7 +7,7 @@ use mathlib.Core.Option.{none, some}
 use Prim.Native.Nat.{ℕ, _≤_, _<_}
 use native.Mathlib.Omega.{arith}
 use lib.Dec.{eqb}
-use Rattle.model.specs.Store.{absent, Reading, Purpose, Single, Marked, Totaling, Idle, PutStamp, PutHandIn, Goal, ReadEnter}
+use Rattle.model.specs.Store.{absent, Content, Purpose, Single, Marked, Totaling, Idle, PutStamp, PutHandIn, Goal, ReadEnter}
 use Rattle.model.specs.Store.{ReadStand, GetShow, Store, workerAt, slotAt, newestOf, place}
 use Rattle.model.specs.Marks.{markRefusal, needFor}
 use Rattle.model.specs.Versions.{stamp}
@@ -109,9 +109,9 @@ module _ (now : ℕ) (s : Store) (olds : List (List ℕ)) (h : List Call) (o : L
       (subst (λ (q : List ℕ). Kept now (place (stamp s r) w Idle) (map (endFor now w (answerFor v)) h) (q ++ endEffects h w (answerFor v))) (T .grown)
       (shown-kept now (stamp s r) olds h (T .o) (T .p) (T .inv) w wb (GetShow r) e tt (λ i. refl) (d .1) (a .0) (a .1) (a .2 .1)
       (subst Looks (sym (a .2 .0)) (looks-get r)) (answerFor v) (answerFor-tells v)
-      (rw (a .2 .0) (ap (λ (q : Reading). some (answerFor q)) (sym val)))))
+      (rw (a .2 .0) (ap (λ (q : Content). some (answerFor q)) (sym val)))))
     where
-      v : Reading
+      v : Content
       v = slotAt s (newestOf s r) .value
 
       d : PlaceHolds (ctx s olds) p w (workerAt s w .announced) (GetShow r)

@@ -10,7 +10,7 @@ use lib.Dec.{ltb, leb, eqb}
 use lib.ListN.{length}
 use lib.Seq.{getD-set-same}
 use borrow.Author.Tests as Tests
-use Rattle.model.specs.Store.{absent, Reading, Slot, Range, OpenAnnounce, OpenPass, CloseWithdraw, MarkKeep, MarkRelease, Purpose}
+use Rattle.model.specs.Store.{absent, Reading, countOf, Slot, Range, OpenAnnounce, OpenPass, CloseWithdraw, MarkKeep, MarkRelease, Purpose}
 use Rattle.model.specs.Store.{Single, Marked, Totaling, Goal, Doing, Idle, PutPublish, PutStamp, PutHandIn, FlushTake, FlushRead}
 use Rattle.model.specs.Store.{FlushFree, OnTime, ReadEnter, ReadStand, GetShow, Store, workerAt, slotAt, newestOf, held, rangeOf}
 use Rattle.model.specs.Store.{withWorker, place, up}
@@ -189,7 +189,7 @@ module _ (now : ℕ) (s : Store) (olds : List (List ℕ)) (h : List Call) (o : L
       top-f : newestOf t r ≡ f
       top-f = getD-set-same (s .newest) r f absent (omega (arith, I .newestLength, b))
 
-      value-f : slotAt t f .value ≡ y
+      value-f : slotAt t f .value ≡ some y
       value-f =
           ap (λ (v : Slot). v .value)
           (link-new (stamp s r .slots) (newestOf s r) f y
@@ -264,10 +264,10 @@ module _ (now : ℕ) (s : Store) (olds : List (List ℕ)) (h : List Call) (o : L
   found-after g c e z Single q = shows-only s _ (answerFor-tells _) (found-kept now s olds h o p I w wb g c e z q)
   found-after g c e z (Marked m) q = shows-only s _ (answerFor-tells _) (found-marked now s olds h o p I w wb g c e z m q)
   found-after g c e z (Totaling j i y) q =
-      cond-both (After now s w h o) (leb (slotAt s c .value .count) twelveDigits) _ _
+      cond-both (After now s w h o) (leb (countOf (slotAt s c .value)) twelveDigits) _ _
       (λ few. cond-both (After now s w h o) (goesOn (s .site .rows) j i) _ _
       (λ n. plain s _ Going refl refl (own-going h w)
-      (next-kept now s olds h o p I w wb g c e j i y q z (Tests.leb-true (slotAt s c .value .count) twelveDigits few) n) refl tt)
+      (next-kept now s olds h o p I w wb g c e j i y q z (Tests.leb-true (countOf (slotAt s c .value)) twelveDigits few) n) refl tt)
       (λ n. shows-only s _ (signed-tells _) (total-kept now s olds h o p I w wb g c e j i y q z n)))
       (λ many. plain s _ (No 18) refl refl (own-refused h w 18) (over-kept now s olds h o p I w wb g c e j i y q z) refl tt)
 

@@ -9,7 +9,7 @@ use native.Mathlib.Omega.{arith}
 use lib.Dec.{ltb, eqb}
 use lib.ListN.{getD}
 use borrow.Author.Tests as Tests
-use Rattle.model.specs.Store.{absent, Reading, Slot, Range, markCount, OpenAnnounce, OpenPass, CloseWithdraw, MarkKeep, MarkRelease}
+use Rattle.model.specs.Store.{absent, Content, Slot, Range, markCount, OpenAnnounce, OpenPass, CloseWithdraw, MarkKeep, MarkRelease}
 use Rattle.model.specs.Store.{Doing, Idle, PutPublish, PutStamp, PutHandIn, FlushTake, FlushRead, FlushFree, OnTime, ReadEnter}
 use Rattle.model.specs.Store.{ReadStand, GetShow, Store, workerAt, slotAt, withClock, place}
 use Rattle.model.specs.About.{Effect, NoEffect, ByStamp, ByClock, about}
@@ -53,7 +53,7 @@ at-clock x p w t d b e = go d
     go (ReadStand g c) a = not-settled (sourced-settled x x t (g .purpose) (a .1))
     go (GetShow r) a = not-settled (a .1)
 
-Fine-tick : (s : List Slot) (t : ℕ) (x x′ : Reading) (l : List ℕ) → x′ ≡ x → Fine s t x l → Fine s (t + 1) x′ l
+Fine-tick : (s : List Slot) (t : ℕ) (x x′ : Content) (l : List ℕ) → x′ ≡ x → Fine s t x l → Fine s (t + 1) x′ l
 Fine-tick s t x x′ [] e f = f
 Fine-tick s t x x′ (c ∷ l) e f =
     (f .0, ⊎-elim (λ u. inl (omega (arith, u .0), u .1 ∙ sym e, All-map past l (u .2))) (λ u. inr (u .0, next l (u .1))) (f .1))
@@ -132,7 +132,7 @@ module _ (now : ℕ) (s : Store) (olds : List (List ℕ)) (h : List Call) (o : L
     pub registers : (r : ℕ) → p′ .registers r ≡ p .registers r
     pub kept : (m : ℕ) → p′ .kept m ≡ p .kept m
     pub did : (v : ℕ) → v < s .site .P → v < m → Ready v
-        → ((f : ℕ → Reading) × (p′ .copy v ≡ some f) × ((r : ℕ) → f r ≡ p .registers r)) × ((k : ℕ) → Running h v k → occurrences k o′ ≡ 1)
+        → ((f : ℕ → Content) × (p′ .copy v ≡ some f) × ((r : ℕ) → f r ≡ p .registers r)) × ((k : ℕ) → Running h v k → occurrences k o′ ≡ 1)
     pub same : (v : ℕ) → v < s .site .P → (m ≤ v) ⊎ (Ready v → ⊥)
         → (p′ .copy v ≡ p .copy v) × ((k : ℕ) → Running h v k → occurrences k o′ ≡ occurrences k o)
 
@@ -186,7 +186,7 @@ module _ (now : ℕ) (s : Store) (olds : List (List ℕ)) (h : List Call) (o : L
             kept = λ i. kept⁺ (T .p′) i ∙ T .kept i;
             did = λ v vb z y.
                 ⊎-elim
-                (λ u. subst (λ (i : ℕ). ((f : ℕ → Reading) × (p⁺ .copy i ≡ some f) × ((r : ℕ) → f r ≡ p .registers r))
+                (λ u. subst (λ (i : ℕ). ((f : ℕ → Content) × (p⁺ .copy i ≡ some f) × ((r : ℕ) → f r ≡ p .registers r))
                 × ((j : ℕ) → Running h i j → occurrences j o⁺ ≡ 1)) (sym (u .0)) (
                   (T .p′ .registers, own⁺ (T .p′), T .registers),
                   (λ j J. let i : j ≡ k = K .only j (J .within) (J .own) (J .unfinished) in subst (λ (q : ℕ). occurrences q o⁺ ≡ 1) (sym i)
@@ -312,7 +312,7 @@ module _ (now : ℕ) (s : Store) (olds : List (List ℕ)) (h : List Call) (o : L
                 a .0 .0,
                 a .0 .1,
                 λ r d. subst (λ (q : ℕ). Sees (s .slots) q (a .0 .0 r) (chain x r)) (sym i)
-                    (subst (λ (q : Reading). Sees (s .slots) (s .clock) q (chain x r)) (sym (a .0 .2 r))
+                    (subst (λ (q : Content). Sees (s .slots) (s .clock) q (chain x r)) (sym (a .0 .2 r))
                     (Fine-sees (s .slots) (s .clock) (p .registers r) (chain x r) (I .clockFits) (I .stamps r d))),
               )
 

@@ -9,7 +9,7 @@ use native.Mathlib.Nat.{le-of-suc-le-suc, not-suc-le-zero}
 use lib.Dec.{ltb, leb, eqb}
 use lib.ListN.{length, getD, take, length-append}
 use borrow.Author.Tests as Tests
-use Rattle.model.specs.Store.{Reading}
+use Rattle.model.specs.Store.{Content, countOf}
 use Rattle.model.specs.Totals.{groupOf, signOf, registerOf, rowFits, before, follow, ofGroup, firstOf, rowAt, goesOn, Sum, addRow}
 use Rattle.model.specs.Demand.{sumOver}
 use Rattle.model.proofs.Basic.{eq-cases, lt-cases, and-both}
@@ -67,12 +67,12 @@ add-comm s x u y v = both (eqb (signOf x) 0) (eqb (signOf y) 0)
         (record { plus = s .plus + cond q v 0 + cond p u 0; minus = s .minus + cond q 0 v + cond p 0 u })
     both p q = sums _ _ _ _ (omega arith) (omega arith)
 
-pub sum-next : (f : ℕ → Reading) (l : List ℕ) (x : ℕ) → sumOver f (l ++ (x ∷ [])) ≡ addRow (sumOver f l) x (f (registerOf x) .count)
+pub sum-next : (f : ℕ → Content) (l : List ℕ) (x : ℕ) → sumOver f (l ++ (x ∷ [])) ≡ addRow (sumOver f l) x (countOf (f (registerOf x)))
 unfolding sumOver
 sum-next f [] x = refl
 sum-next f (y ∷ l) x =
-    ap (λ (s : Sum). addRow s y (f (registerOf y) .count)) (sum-next f l x)
-    ∙ add-comm (sumOver f l) x (f (registerOf x) .count) y (f (registerOf y) .count)
+    ap (λ (s : Sum). addRow s y (countOf (f (registerOf y)))) (sum-next f l x)
+    ∙ add-comm (sumOver f l) x (countOf (f (registerOf x))) y (countOf (f (registerOf y)))
 
 -- a value is added to one of the two sums
 pub sum-grows : (s : Sum) (x u : ℕ) → addRow s x u .plus + addRow s x u .minus ≡ s .plus + s .minus + u

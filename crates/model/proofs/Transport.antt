@@ -6,7 +6,7 @@ use mathlib.Core.List.{List, [], _∷_}
 use Prim.Native.Nat.{ℕ, _+_, _≤_, _<_}
 use native.Mathlib.Omega.{arith}
 use lib.ListN.{length}
-use Rattle.model.specs.Store.{absent, markCount, Reading, Slot, Range, TimeStep, OpenAnnounce, OpenPass, CloseWithdraw, MarkKeep}
+use Rattle.model.specs.Store.{absent, markCount, Content, Slot, Range, TimeStep, OpenAnnounce, OpenPass, CloseWithdraw, MarkKeep}
 use Rattle.model.specs.Store.{MarkRelease, Purpose, Single, Marked, Totaling, Goal, Doing, Idle, PutPublish, PutStamp, PutHandIn}
 use Rattle.model.specs.Store.{FlushTake, FlushRead, FlushFree, OnTime, ReadEnter, ReadStand, GetShow}
 use Rattle.model.specs.About.{about}
@@ -43,7 +43,7 @@ pub record Moves (x x′ : Ctx) (t : ℕ) (d : Doing) : Type 0 where
   pub mem : (r c : ℕ) → r < x .registers → 0 < inDoing c d → 0 < occurrences c (old x r) → 0 < occurrences c (old x′ r)
   pub highs : (c : ℕ) → 0 < inDoing c d → nth (x .slots) c .high ≤ x .clock → nth (x′ .slots) c .high ≤ x′ .clock
   pub source : (g : Goal) (c : ℕ) → d ≡ ReadStand g c → timeIn x′ t (g .purpose) ≡ timeIn x t (g .purpose)
-  pub on : (g : Goal) (c : ℕ) (y : Reading) (a : ℕ) → g .register < x .registers → a < x .clock → d ≡ ReadStand g c
+  pub on : (g : Goal) (c : ℕ) (y : Content) (a : ℕ) → g .register < x .registers → a < x .clock → d ≡ ReadStand g c
       → On (x .slots) a c y (chain x (g .register)) → On (x′ .slots) a c y (chain x′ (g .register))
 
 -- with no other copy under a mark, a read shows the same copy
@@ -208,7 +208,7 @@ current-map x x′ h h′ o o′ w t t′ d f g a = go (about d .idle) a
     go false u = let b = g (u .0) (u .1) (u .2) in (u .0, b .0, b .1)
 
 -- a register's versions, untouched
-pub Fine-same : (s s′ : List Slot) (t : ℕ) (x x′ : Reading) (l : List ℕ) → x′ ≡ x
+pub Fine-same : (s s′ : List Slot) (t : ℕ) (x x′ : Content) (l : List ℕ) → x′ ≡ x
     → ((c : ℕ) → 0 < occurrences c l → (nth s′ c .low ≡ nth s c .low) × (nth s′ c .high ≡ nth s c .high) × (nth s′ c .value ≡ nth s c .value))
     → Fine s t x l → Fine s′ t x′ l
 unfolding occurrences

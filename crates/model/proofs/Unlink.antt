@@ -9,7 +9,7 @@ use lib.Dec.{eqb}
 use lib.ListN.{length, set, length-set, length-map}
 use lib.Seq.{getD-set-same, getD-set-other}
 use borrow.Author.Tests as Tests
-use Rattle.model.specs.Store.{absent, markCount, Reading, Slot, Range, Purpose, Single, Marked, Totaling, Goal, Doing, PutStamp}
+use Rattle.model.specs.Store.{absent, markCount, Content, Slot, Range, Purpose, Single, Marked, Totaling, Goal, Doing, PutStamp}
 use Rattle.model.specs.Store.{FlushFree, ReadStand, Worker, startWorker, Store, workerAt, markAt, holders, held, withDoing, withSlots}
 use Rattle.model.specs.Store.{withFree, withWorkers}
 use Rattle.model.specs.About.{Stance, Nowhere, StandsOn, about}
@@ -35,7 +35,7 @@ All-remove P c (d ∷ l) t =
     ⊎-elim (λ u. subst (All P) (sym (remove-own c d l (u .0))) (t .1))
     (λ u. subst (All P) (sym (remove-other c d l (u .0))) (t .0, All-remove P c l (t .1))) (eq-cases d c)
 
-Fine-remove : (s : List Slot) (t : ℕ) (x : Reading) (n c : ℕ) (l : List ℕ) → t < absent → nth s c .high ≤ t → Fine s t x (n ∷ l)
+Fine-remove : (s : List Slot) (t : ℕ) (x : Content) (n c : ℕ) (l : List ℕ) → t < absent → nth s c .high ≤ t → Fine s t x (n ∷ l)
     → Fine s t x (n ∷ remove c l)
 Fine-remove s t x n c l b h f = (f .0, ⊎-elim (λ u. inl (u .0, u .1, All-remove (Past s t) c l (u .2))) (λ u. inr (u .0, next l (u .1))) (f .1))
   where
@@ -45,7 +45,7 @@ Fine-remove s t x n c l b h f = (f .0, ⊎-elim (λ u. inl (u .0, u .1, All-remo
         subst (Next s t x) (sym (remove-other c d m (λ e. omega (arith, b, h, z .1, ap (λ (i : ℕ). nth s i .high) e))))
         (z .0, z .1, z .2, All-remove (Past s t) c m (z .3))
 
-On-mem : (s : List Slot) (a c : ℕ) (x : Reading) (l : List ℕ) → On s a c x l → 0 < occurrences c l
+On-mem : (s : List Slot) (a c : ℕ) (x : Content) (l : List ℕ) → On s a c x l → 0 < occurrences c l
 unfolding occurrences
 On-mem s a c x [] t = absurd t
 On-mem s a c x (d ∷ l) t = ⊎-elim (λ u. omega (arith, hit-eq d c (u .0))) (λ u. omega (arith, On-mem s a c x l (u .1))) t
@@ -178,7 +178,7 @@ module _ (now : ℕ) (s : Store) (olds : List (List ℕ)) (h : List Call) (o : L
     good : (σ : Range) → Good x σ → Good x′ σ
     good σ g = (g .0 ∙ sym (lows (σ .slot)), g .1 ∙ sym (highs (σ .slot)), g .2, g .3)
 
-    sees : (a : ℕ) → (nth sl c .low ≤ a → a < nth sl c .high → ⊥) → (y : Reading) (q : ℕ) → Sees sl a y (chain x q) → Sees sl′ a y (chain x′ q)
+    sees : (a : ℕ) → (nth sl c .low ≤ a → a < nth sl c .high → ⊥) → (y : Content) (q : ℕ) → Sees sl a y (chain x q) → Sees sl′ a y (chain x′ q)
     sees a nn y q g =
         ⊎-elim
         (λ u. subst (λ (j : ℕ). Sees sl′ a y (chain x′ j)) (sym (u .0))
@@ -188,7 +188,7 @@ module _ (now : ℕ) (s : Store) (olds : List (List ℕ)) (h : List Call) (o : L
         (λ u. subst (Sees sl′ a y) (sym (chain-other q (u .0))) (Sees-mono sl sl′ a y (chain x q) (λ i _. mono a i) g))
         (eq-cases q r)
 
-    ons : (a : ℕ) → (nth sl c .low ≤ a → a < nth sl c .high → ⊥) → (y : Reading) (q : ℕ) → q < s .site .V' → (i : ℕ) → On sl a i y (chain x q)
+    ons : (a : ℕ) → (nth sl c .low ≤ a → a < nth sl c .high → ⊥) → (y : Content) (q : ℕ) → q < s .site .V' → (i : ℕ) → On sl a i y (chain x q)
         → On sl′ a (cond (eqb i c) oc i) y (chain x′ q)
     ons a nn y q d i g =
         ⊎-elim
@@ -249,7 +249,7 @@ module _ (now : ℕ) (s : Store) (olds : List (List ℕ)) (h : List Call) (o : L
         (λ u. subst (Fine sl′ ck (p .registers q)) (sym (chain-other q (u .0))) (same (p .registers q) (chain x q) (I .stamps q d)))
         (eq-cases q r)
       where
-        same : (y : Reading) (m : List ℕ) → Fine sl ck y m → Fine sl′ ck y m
+        same : (y : Content) (m : List ℕ) → Fine sl ck y m → Fine sl′ ck y m
         same y m = Fine-same sl sl′ ck y y m refl (λ i _. (lows i, highs i, values i))
 
     len⁺ : length (set (s .workers) w y⁺) ≡ s .site .P

@@ -8,7 +8,7 @@ use native.Mathlib.Omega.{arith}
 use lib.Dec.{ltb}
 use lib.ListN.{length, getD, set, length-set}
 use lib.Seq.{getD-set-same, getD-set-other}
-use Rattle.model.specs.Store.{absent, markCount, Reading, Range, Purpose, Single, Marked, Totaling, Goal, Doing, PutStamp, ReadStand}
+use Rattle.model.specs.Store.{absent, markCount, Content, Range, Purpose, Single, Marked, Totaling, Goal, Doing, PutStamp, ReadStand}
 use Rattle.model.specs.Store.{Worker, startWorker, Store, workerAt, markAt, held, withQueue, withMarks, withWorker}
 use Rattle.model.specs.Record.{Operation}
 use Rattle.model.specs.Demand.{Call, Plain, occurrences, All, callAt}
@@ -96,7 +96,7 @@ module _ (now : ℕ) (s : Store) (olds : List (List ℕ)) (h : List Call) (o : L
           once = λ c. omega (arith, I .once c, same c);
           pendingOld = λ c. omega (arith, I .pendingOld c, same c);
           linked = I .linked;
-          stamps = λ r b. subst (λ (z : Reading). Fine (s .slots) (s .clock) z (chain x r)) (sym (H .registers r)) (I .stamps r b);
+          stamps = λ r b. subst (λ (z : Content). Fine (s .slots) (s .clock) z (chain x r)) (sym (H .registers r)) (I .stamps r b);
           queue = gq;
           workers =
               λ v vb. ⊎-elim (λ u. subst (λ (i : ℕ). Works x′ h′ o′ p′ i (workerAt after i)) (sym (u .0))

@@ -15,6 +15,8 @@ pub data Answer : Type 0 where
   At : ℕ → Answer
   -- H5.37, H5.39
   Value : Reading → Answer
+  -- H5.37, H5.39: there is no reading
+  None : Answer
   -- H12.8: a total below zero, by so much
   Below : Reading → Answer
   -- H5.3
@@ -39,6 +41,7 @@ said Going = record { ok = false; ends = false; freed = none; refusal = none }
 said (Freed c) = record { ok = false; ends = false; freed = some c; refusal = none }
 said (At t) = record { ok = false; ends = true; freed = none; refusal = none }
 said (Value x) = record { ok = false; ends = true; freed = none; refusal = none }
+said None = record { ok = false; ends = true; freed = none; refusal = none }
 said (Below x) = record { ok = false; ends = true; freed = none; refusal = none }
 said Done = record { ok = false; ends = true; freed = none; refusal = none }
 said (No k) = record { ok = false; ends = true; freed = none; refusal = some k }

@@ -6,7 +6,7 @@ use mathlib.Core.Option.{Option, none, some}
 use Prim.Native.Nat.{ℕ, zero, suc, _-_}
 use lib.Dec.{ltb, leb}
 use lib.ListN.{length, take, replicate}
-use Rattle.model.specs.Store.{absent, lastClock, reading₀, Slot, markCount, OpenAnnounce, CloseWithdraw, MarkKeep, MarkRelease}
+use Rattle.model.specs.Store.{absent, lastClock, Slot, markCount, OpenAnnounce, CloseWithdraw, MarkKeep, MarkRelease}
 use Rattle.model.specs.Store.{Single, Marked, Doing, PutPublish, FlushTake, OnTime, ReadEnter, GetShow, startWorker, Store, Hub}
 use Rattle.model.specs.Store.{blank, up, upFrom, workerAt, place}
 use Rattle.model.specs.About.{about}
@@ -44,7 +44,7 @@ unfoldable pub firstSlots : ℕ → List Slot → List Slot
 firstSlots v [] = []
 firstSlots zero (z ∷ l) = alone z ∷ firstSlots zero l
 firstSlots (suc v) (z ∷ l) =
-    record { value = reading₀; low = 0; high = absent; older = absent; newer = absent } ∷ firstSlots v l
+    record { value = none; low = 0; high = absent; older = absent; newer = absent } ∷ firstSlots v l
 
 -- H2.5 to H2.11: what a setup makes: P workers at their start, an empty queue, register r in slot r, the slots from V on free, upwards, and
 -- empty marks (H13.1). The batch size is b, and the rows of the list of totals are kept (H12.3). The row beyond N is not in the store; that it

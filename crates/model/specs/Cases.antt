@@ -8,7 +8,7 @@ use Rattle.model.specs.Totals.{groupOf, signOf, registerOf}
 use Rattle.model.specs.Store.{absent, markCount, Range, Slot, slot₀, FlushRead, startWorker, Store, Hub, blank, up}
 use Rattle.model.specs.Batch.{batchOf}
 use Rattle.model.specs.Rules.{document01, inForce, Ruled, under}
-use Rattle.model.specs.Answer.{Answer, Ok, Going, At, Value, No}
+use Rattle.model.specs.Answer.{Answer, Ok, Going, At, None, No}
 use Rattle.model.specs.Ranges.{needed, merge}
 use Rattle.model.specs.Steps.{flushSplit}
 use Rattle.model.specs.Record.{Put, Open, Read, Close, Get, Collect, Total, Mark, Release, MarkedRead, Command, SetUp, Begin, Step}
@@ -138,7 +138,7 @@ pub record Stars : Type 0 where
   pub both-at-5 : answers 1 bothOpen ≡ Ok ∷ Ok ∷ Ok ∷ Going ∷ Going ∷ At 5 ∷ At 5 ∷ []
   pub clock-6 : clockOf (leaves (rowOf 1) bothOpen) ≡ 6
   -- H5.36, H5.37: the read stamps the put, at 6, and goes on to the version before
-  pub older-shown : answers 2 unstampedPut ≡ Ok ∷ Ok ∷ Going ∷ Ok ∷ Going ∷ At 5 ∷ Ok ∷ Going ∷ Going ∷ Value (record { count = 0 }) ∷ []
+  pub older-shown : answers 2 unstampedPut ≡ Ok ∷ Ok ∷ Going ∷ Ok ∷ Going ∷ At 5 ∷ Ok ∷ Going ∷ Going ∷ None ∷ []
   pub low-6 : getD (slotsOf (leaves (rowOf 2) unstampedPut)) 1 slot₀ .low ≡ 6
 
 ------------------------------------------------------------------------

@@ -15,7 +15,7 @@ use mathlib.Core.Option.{Option, none, some}
 use Prim.Native.Nat.{ℕ, zero, suc, _+_, _≤_, _<_}
 use lib.Dec.{ltb, leb, eqb}
 use lib.ListN.{length, getD}
-use Rattle.model.specs.Store.{absent, Reading, Slot, Doing, PutPublish, Store, Hub, blank, up, workerAt, slotAt, newestOf, holders}
+use Rattle.model.specs.Store.{absent, Reading, Content, countOf, Slot, Doing, PutPublish, Store, Hub, blank, up, workerAt, slotAt, newestOf, holders}
 use Rattle.model.specs.Store.{held}
 use Rattle.model.specs.About.{Effect, NoEffect, ByStamp, ByClock, about}
 use Rattle.model.specs.Rules.{Ruled}
@@ -136,31 +136,31 @@ StepsTaken i (e ∷ es) h =
     StepTaken h (decode (e .bytes)) (e .before) × StepsTaken (i + 1) es (observe i (decode (e .bytes)) (e .answer) h)
 
 ------------------------------------------------------------------------
--- H6.16: plain registers, all 0 at first, for each worker a copy of them or none, none at first, and for each mark one or none, none at first
+-- H6.16: plain registers, all without a value at first, for each worker a copy of them or none, none at first, and for each mark one or none, none at first
 -- (H13.9). They are a function of the register's number here; an operation that began names one below V.
 
 pub record Plain : Type 0 where
-  pub registers : ℕ → Reading
-  pub copy : ℕ → Option (ℕ → Reading)
-  pub kept : ℕ → Option (ℕ → Reading)
+  pub registers : ℕ → Content
+  pub copy : ℕ → Option (ℕ → Content)
+  pub kept : ℕ → Option (ℕ → Content)
 
 abbrev pub plain₀ : Plain
-plain₀ = record { registers = λ r. record { count = 0 }; copy = λ w. none; kept = λ m. none }
+plain₀ = record { registers = λ r. none; copy = λ w. none; kept = λ m. none }
 
 -- f with x at i
 abbrev pub update {ℓ} : {A : Type ℓ} → (ℕ → A) → ℕ → A → ℕ → A
 update f i x j = cond (eqb j i) x (f j)
 
-abbrev pub withCopies : Plain → (ℕ → Option (ℕ → Reading)) → Plain
+abbrev pub withCopies : Plain → (ℕ → Option (ℕ → Content)) → Plain
 withCopies p f = record { registers = p .registers; copy = f; kept = p .kept }
 
-abbrev pub withKept : Plain → (ℕ → Option (ℕ → Reading)) → Plain
+abbrev pub withKept : Plain → (ℕ → Option (ℕ → Content)) → Plain
 withKept p f = record { registers = p .registers; copy = p .copy; kept = f }
 
 -- H6.17: a put sets its register, an open gives its worker a new copy, a close takes it away; H13.9: a mark keeps its worker's copy under the mark,
 -- a release drops it; the others change nothing.
 unfoldable pub feed : Plain → ℕ → Operation → Plain
-feed p w (Put r x) = record { registers = update (p .registers) r x; copy = p .copy; kept = p .kept }
+feed p w (Put r x) = record { registers = update (p .registers) r (some x); copy = p .copy; kept = p .kept }
 feed p w Open = withCopies p (update (p .copy) w (some (p .registers)))
 feed p w (Read r) = p
 feed p w Close = withCopies p (update (p .copy) w none)
@@ -172,17 +172,17 @@ feed p w (Release m) = withKept p (update (p .kept) m none)
 feed p w (MarkedRead r m) = p
 
 -- what is shown of a copy; nothing without one
-unfoldable pub inCopy : Option (ℕ → Reading) → ((ℕ → Reading) → Answer) → Option Answer
+unfoldable pub inCopy : Option (ℕ → Content) → ((ℕ → Content) → Answer) → Option Answer
 inCopy none q = none
 inCopy (some f) q = some (q f)
 
 -- H12.10: the sums of rows over a copy
-unfoldable pub sumOver : (ℕ → Reading) → List ℕ → Sum
+unfoldable pub sumOver : (ℕ → Content) → List ℕ → Sum
 sumOver f [] = sum₀
-sumOver f (x ∷ l) = addRow (sumOver f l) x (f (registerOf x) .count)
+sumOver f (x ∷ l) = addRow (sumOver f l) x (countOf (f (registerOf x)))
 
 -- what shows that there is no copy
-unfoldable pub noCopy : Option (ℕ → Reading) → Answer → Option Answer
+unfoldable pub noCopy : Option (ℕ → Content) → Answer → Option Answer
 noCopy none a = some a
 noCopy (some f) a = none
 
@@ -407,7 +407,7 @@ TookIn c w (up s) a (up t) =
     (a ≡ Going)
     × (r : ℕ) × (x : Reading) × (workerAt s w .doing ≡ PutPublish r x)
     × (l : List ℕ) × (s .free ≡ c ∷ l)
-    × (newestOf t r ≡ c) × (slotAt t c .value ≡ x)
+    × (newestOf t r ≡ c) × (slotAt t c .value ≡ some x)
 
 abbrev pub TookBy : ℕ → Decoded → Hub → Answer → Hub → Type 0
 TookBy c (Asks (SetUp z)) before a after = ⊥

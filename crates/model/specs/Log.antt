@@ -7,7 +7,7 @@ use Prim.Native.Char.{code}
 use lib.Dec.{ltb}
 use Rattle.model.specs.Store.{Slot, blank}
 use Rattle.model.specs.Rules.{Rules, allUnder}
-use Rattle.model.specs.Answer.{Answer, Ok, Going, Freed, At, Value, Below, Done, No}
+use Rattle.model.specs.Answer.{Answer, Ok, Going, Freed, At, Value, None, Below, Done, No}
 use Rattle.model.specs.Record.{recordsOf}
 use Rattle.model.specs.Apply.{answersTo}
 
@@ -32,6 +32,7 @@ words Going = text "going"
 words (Freed c) = text "freed " ++ decimal c
 words (At t) = text "at " ++ decimal t
 words (Value x) = text "value " ++ decimal (x .count)
+words None = text "none"
 words (Below x) = text "value -" ++ decimal (x .count)
 words Done = text "done"
 words (No k) = text "no " ++ decimal k

@@ -1,10 +1,11 @@
 -- The read-out row, H9 of docs/HUB.md, and its refusals 4 and 7.
 use mathlib.Core.Bool.{cond}
 use mathlib.Core.List.{List, [], _∷_, _++_}
+use mathlib.Core.Option.{none, some}
 use Prim.Native.Nat.{ℕ, zero, suc, _+_, _*_, _/_, _%_}
 use lib.Dec.{ltb}
 use lib.ListN.{length, take, drop}
-use Rattle.model.specs.Store.{Reading}
+use Rattle.model.specs.Store.{Reading, Content}
 
 -- H3.2: the n bytes of a number, the least first
 abbrev pub bytesOf : ℕ → ℕ → List ℕ
@@ -17,6 +18,8 @@ rowBytes r t x = bytesOf 2 r ++ (0 ∷ 0 ∷ []) ++ bytesOf 4 t ++ bytesOf 8 (x 
 
 pub data RowAnswer : Type 0 where
   Written : RowAnswer
+  -- there is no reading to write
+  RowNone : RowAnswer
   -- the refusal's number, 4 or 7
   RowNo : ℕ → RowAnswer
 
@@ -25,12 +28,13 @@ pub record RowWritten : Type 0 where
   pub answer : RowAnswer
   pub buffer : List ℕ
 
--- H9.2: 4 for a register not below 256. H9.3: else 7 for a buffer shorter than 16 × (register + 1). H9.4: else the row from byte 16 × register on.
--- H9.5: the other bytes stay, after 4 or 7 all of them.
-unfoldable pub writeRow : ℕ → ℕ → Reading → List ℕ → RowWritten
+-- H9.4: the row from byte 16 × register on; the other bytes stay. H9.6: without a reading nothing is written.
+abbrev pub rowFor : ℕ → ℕ → Content → List ℕ → RowWritten
+rowFor r t none buf = record { answer = RowNone; buffer = buf }
+rowFor r t (some x) buf = record { answer = Written; buffer = take (16 * r) buf ++ rowBytes r t x ++ drop (16 * r + 16) buf }
+
+-- H9.2: 4 for a register not below 256. H9.3: else 7 for a buffer shorter than 16 × (register + 1). H9.5: after either all bytes stay.
+unfoldable pub writeRow : ℕ → ℕ → Content → List ℕ → RowWritten
 writeRow r t x buf =
-    let row = take (16 * r) buf ++ rowBytes r t x ++ drop (16 * r + 16) buf in
-    record {
-      answer = cond (ltb r 256) (cond (ltb (length buf) (16 * (r + 1))) (RowNo 7) Written) (RowNo 4);
-      buffer = cond (ltb r 256) (cond (ltb (length buf) (16 * (r + 1))) buf row) buf;
-    }
+    cond (ltb r 256) (cond (ltb (length buf) (16 * (r + 1))) (record { answer = RowNo 7; buffer = buf }) (rowFor r t x buf))
+    (record { answer = RowNo 4; buffer = buf })

@@ -52,7 +52,7 @@ movedRead =
     ++ steps 1 1
 
 -- A collect of worker 0 takes its pools, none, and reads the times and the marks. Then worker 1 opens a snapshot, covers the version that it needs and hands
--- it in. The collect frees nothing, and the snapshot still reads 0.
+-- it in. The collect frees nothing, and the snapshot still finds no reading.
 abbrev pub lateSetup : Command
 lateSetup = setup 2 1 4 1
 
@@ -253,7 +253,7 @@ markRefusals =
     ++ (Begin 1 (Release 0) ∷ Begin 0 (Release 0) ∷ Step 1 ∷ Step 0 ∷ Step 0 ∷ [])
 
 -- H13.2: a collect has read worker 0's time; then worker 1, whose time it has yet to read, marks that time and closes. The collect reads no time of
--- worker 1, and then the mark's: it frees slot 1, and a marked read shows 0, from slot 0.
+-- worker 1, and then the mark's: it frees slot 1, and a marked read shows `none`, from slot 0.
 abbrev pub lastSetup : Command
 lastSetup = setup 2 1 4 1
 
@@ -268,7 +268,30 @@ marksLast =
     ++ steps 5 0
     ++ (Begin 1 (MarkedRead 0 0) ∷ steps 3 1)
 
+-- Registers that nobody has put anything to: a get, a read and a total of both registers. A put of 0 is a reading of 0, also while only its first
+-- step is taken: a get stamps it and shows it, and a read at the snapshot's time goes on to the version from setup.
+abbrev pub emptySetup : Command
+emptySetup = setup 2 2 6 1
+
+abbrev pub empty : List Command
+empty =
+    (Begin 0 (Get 0) ∷ steps 1 0)
+    ++ (Begin 1 Open ∷ steps 2 1)
+    ++ (put 0 0 0 ∷ steps 1 0)
+    ++ (Begin 1 (Read 0) ∷ steps 3 1)
+    ++ (Begin 1 (Total 1) ∷ steps 5 1)
+    ++ steps 2 0
+    ++ (Begin 0 (Get 0) ∷ steps 1 0)
+    ++ (put 0 1 5 ∷ steps 1 0)
+    ++ (Begin 1 (Get 1) ∷ steps 1 1)
+    ++ (Begin 1 (Read 1) ∷ steps 3 1)
+
 pub record Runs : Type 0 where
+  pub empty-log : logWith movedList 6 (emptySetup ∷ empty)
+      ≡ text "0 ok\n1 ok\n2 none\n3 ok\n4 going\n5 at 1\n6 ok\n7 going\n8 ok\n9 going\n10 going\n11 none\n12 ok\n"
+      ++ text "13 going\n14 going\n15 going\n16 going\n17 value 0\n18 going\n19 done\n20 ok\n21 value 0\n22 ok\n"
+      ++ text "23 going\n24 ok\n25 value 5\n26 ok\n27 going\n28 going\n29 none\n"
+  pub empty-order : orderOf 6 (with movedList emptySetup) (map handed empty) ≡ 0 ∷ 1 ∷ 2 ∷ 3 ∷ 4 ∷ 5 ∷ 6 ∷ 7 ∷ 8 ∷ []
   pub month-log : logFor 4 (monthSetup ∷ monthEnd)
       ≡ text "0 ok\n1 ok\n2 going\n3 going\n4 done\n5 ok\n6 going\n7 at 1\n8 ok\n9 done\n10 ok\n11 done\n12 ok\n"
       ++ text "13 going\n14 going\n15 going\n16 going\n17 going\n18 going\n19 going\n20 going\n21 done\n22 ok\n"
@@ -279,14 +302,14 @@ pub record Runs : Type 0 where
   pub mark-refusals-log : logFor 2 (markSetup ∷ markRefusals)
       ≡ text "0 ok\n1 no 13\n2 no 4\n3 no 20\n4 no 20\n5 no 4\n6 no 4\n7 ok\n8 going\n9 at 1\n10 ok\n11 going\n"
       ++ text "12 at 2\n13 ok\n14 ok\n15 done\n16 no 19\n17 no 19\n18 ok\n19 ok\n20 done\n21 no 20\n22 no 20\n"
-      ++ text "23 ok\n24 done\n25 ok\n26 ok\n27 going\n28 no 21\n29 no 21\n30 value 0\n31 ok\n32 ok\n33 done\n"
+      ++ text "23 ok\n24 done\n25 ok\n26 ok\n27 going\n28 no 21\n29 no 21\n30 none\n31 ok\n32 ok\n33 done\n"
       ++ text "34 no 20\n35 no 11\n"
   pub mark-refusals-order : orderFor 2 markSetup markRefusals ≡ 0 ∷ 1 ∷ 3 ∷ 5 ∷ 6 ∷ 8 ∷ 9 ∷ []
   pub marks-last-log : logFor 4 (lastSetup ∷ marksLast)
       ≡ text "0 ok\n1 ok\n2 going\n3 at 1\n4 ok\n5 going\n6 going\n7 done\n8 ok\n9 going\n10 going\n11 going\n"
       ++ text "12 going\n13 going\n14 going\n15 going\n16 going\n17 done\n18 ok\n19 going\n20 going\n21 ok\n"
       ++ text "22 done\n23 ok\n24 done\n25 going\n26 going\n27 going\n28 freed 1\n29 done\n30 ok\n31 going\n"
-      ++ text "32 going\n33 value 0\n"
+      ++ text "32 going\n33 none\n"
   pub marks-last-order : orderFor 4 lastSetup marksLast ≡ 0 ∷ 1 ∷ 2 ∷ 4 ∷ 5 ∷ 3 ∷ 6 ∷ []
   pub sums-log : logWith sumsList 9 (sumsSetup ∷ sums)
       ≡ text "0 ok\n1 no 13\n2 no 17\n3 no 17\n4 no 3\n5 ok\n6 going\n7 going\n8 done\n9 ok\n10 going\n"
@@ -324,10 +347,10 @@ pub record Runs : Type 0 where
   pub late-log : logFor 4 (lateSetup ∷ latePool)
       ≡ text "0 ok\n1 ok\n2 going\n3 going\n4 going\n5 going\n6 ok\n7 going\n8 at 1\n9 ok\n10 going\n11 going\n"
       ++ text "12 done\n13 ok\n14 going\n15 going\n16 going\n17 going\n18 going\n19 going\n20 going\n21 going\n"
-      ++ text "22 done\n23 going\n24 done\n25 ok\n26 going\n27 going\n28 going\n29 value 0\n"
+      ++ text "22 done\n23 going\n24 done\n25 ok\n26 going\n27 going\n28 going\n29 none\n"
   pub late-order : orderFor 4 lateSetup latePool ≡ 1 ∷ 2 ∷ 3 ∷ 0 ∷ 4 ∷ []
   pub get-log : logFor 3 (getSetup ∷ stampingGet)
-      ≡ text "0 ok\n1 ok\n2 going\n3 ok\n4 going\n5 at 5\n6 ok\n7 value 7\n8 ok\n9 going\n10 going\n11 value 0\n"
+      ≡ text "0 ok\n1 ok\n2 going\n3 ok\n4 going\n5 at 5\n6 ok\n7 value 7\n8 ok\n9 going\n10 going\n11 none\n"
       ++ text "12 going\n13 done\n"
   -- the open, then the put that the get stamped, then the get
   pub get-order : orderFor 3 getSetup stampingGet ≡ 1 ∷ 0 ∷ 2 ∷ 3 ∷ []
@@ -339,7 +362,7 @@ pub record Runs : Type 0 where
       ≡ text "0 ok\n1 ok\n2 going\n3 at 1\n4 ok\n5 going\n6 going\n7 going\n8 going\n9 going\n10 going\n"
       ++ text "11 going\n12 done\n13 ok\n14 going\n15 going\n16 going\n17 going\n18 going\n19 going\n20 going\n"
       ++ text "21 done\n22 ok\n23 going\n24 going\n25 going\n26 going\n27 freed 1\n28 done\n29 ok\n30 going\n"
-      ++ text "31 going\n32 value 0\n"
+      ++ text "31 going\n32 none\n"
   pub pool-order : logFor 5 poolOrder
       ≡ text "0 ok\n1 ok\n2 going\n3 ok\n4 going\n5 going\n6 going\n7 done\n8 ok\n9 done\n10 going\n11 ok\n"
       ++ text "12 going\n13 going\n14 going\n15 going\n16 going\n17 going\n18 going\n19 going\n20 going\n"

@@ -5,7 +5,7 @@ use mathlib.Core.Option.{Option, none, some}
 use Prim.Native.Nat.{ℕ, _+_, _-_}
 use lib.Dec.{ltb, leb, eqb}
 use lib.ListN.{length, set, drop}
-use Rattle.model.specs.Store.{absent, lastClock, Reading, Range, TimeStep, OpenAnnounce, OpenPass, CloseWithdraw, MarkKeep}
+use Rattle.model.specs.Store.{absent, lastClock, Reading, Content, countOf, Range, TimeStep, OpenAnnounce, OpenPass, CloseWithdraw, MarkKeep}
 use Rattle.model.specs.Store.{MarkRelease, Purpose, Single, Marked, Totaling, Goal, Doing, Idle, PutPublish, PutStamp, PutHandIn}
 use Rattle.model.specs.Store.{FlushTake, FlushRead, FlushFree, OnTime, ReadEnter, ReadStand, GetShow, Worker, Store, workerAt, slotAt}
 use Rattle.model.specs.Store.{newestOf, rangeOf, withClock, withSlots, withNewest, withFree, withQueue, withWorkers, withMarks}
@@ -14,7 +14,7 @@ use Rattle.model.specs.About.{Stance, Nowhere, StandsOn, about}
 use Rattle.model.specs.Marks.{EmptyMark, UnreadMark, markRefusal, needFor, timeFor}
 use Rattle.model.specs.Rules.{twelveDigits}
 use Rattle.model.specs.Totals.{Sum, registerOf, rowAt, goesOn, addRow}
-use Rattle.model.specs.Answer.{Answer, Going, Freed, At, Value, Below, Done, No, Stepped}
+use Rattle.model.specs.Answer.{Answer, Going, Freed, At, Value, None, Below, Done, No, Stepped}
 use Rattle.model.specs.Versions.{stamp, linkSlots, unlinkSlots}
 use Rattle.model.specs.Ranges.{firstTwo, merge, neededOf, needlessOf, neededPools, joining, queuedPool}
 
@@ -150,8 +150,9 @@ openPass s w =
 -- Read, total, get, close
 
 -- H10.3: what a get or a read answers that found this
-unfoldable pub answerFor : Reading → Answer
-answerFor x = Value x
+unfoldable pub answerFor : Content → Answer
+answerFor none = None
+answerFor (some x) = Value x
 
 -- H7.5: a refusal met at a step sets the worker idle and changes nothing else; without one, what follows
 unfoldable pub stoppedBy : Option ℕ → Store → ℕ → Stepped → Stepped
@@ -187,11 +188,11 @@ totalFound s w g i sum x =
     let last : Stepped = record { store = place s w Idle; answer = signed more } in
     cond (leb x twelveDigits) (cond (goesOn rows g i) next last) over
 
--- what follows where the version that the time needs has the reading x
-unfoldable pub found : Store → ℕ → Purpose → Reading → Stepped
+-- what follows where the version that the time needs holds x
+unfoldable pub found : Store → ℕ → Purpose → Content → Stepped
 found s w Single x = record { store = place s w Idle; answer = answerFor x }
 found s w (Marked m) x = record { store = place s w Idle; answer = answerFor x }
-found s w (Totaling g i sum) x = totalFound s w g i sum (x .count)
+found s w (Totaling g i sum) x = totalFound s w g i sum (countOf x)
 
 -- Read (2) H5.37, H13.5: with a low that is at most the worker's time, or the mark's, the value there is found, which is a read's answer; else the
 -- read goes to the older neighbour.

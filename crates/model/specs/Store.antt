@@ -1,6 +1,7 @@
 -- What the hub holds: H1 of docs/HUB.md, whose rules the comments of these files cite by number. All numbers are natural numbers.
 use mathlib.Core.Bool.{cond}
 use mathlib.Core.List.{List, [], _∷_}
+use mathlib.Core.Option.{Option, none, some}
 use Prim.Native.Nat.{ℕ, zero, suc, _+_, _-_}
 use lib.Dec.{ltb}
 use lib.ListN.{getD, set}
@@ -15,17 +16,22 @@ absent = 4294967296
 abbrev pub lastClock : ℕ
 lastClock = 4294967295
 
--- H1.7: the value of a version, a count of watt-hours.
+-- H1.7: a reading, a count of watt-hours.
 pub record Reading : Type 0 where
   pub count : ℕ
 
--- H2.9: the value of a version from setup.
-abbrev pub reading₀ : Reading
-reading₀ = record { count = 0 }
+-- H1.7, H2.9: what a version holds: a reading, which a put brought, or none, where the version is from setup
+abbrev pub Content : Type 0
+Content = Option Reading
 
--- H1.7: a slot for a version, with its value, its times and its neighbours.
+-- H12.6: what a total adds for it: without a reading 0
+abbrev pub countOf : Content → ℕ
+countOf none = 0
+countOf (some x) = x .count
+
+-- H1.7: a slot for a version, with what it holds, its times and its neighbours.
 pub record Slot : Type 0 where
-  pub value : Reading
+  pub value : Content
   pub low : ℕ
   pub high : ℕ
   pub older : ℕ
@@ -127,7 +133,7 @@ pub data Hub : Type 0 where
 
 -- What stands where a list of slots has no entry, as at an absent neighbour. Nothing of it is ever stored.
 abbrev pub slot₀ : Slot
-slot₀ = record { value = reading₀; low = 0; high = 0; older = 0; newer = 0 }
+slot₀ = record { value = none; low = 0; high = 0; older = 0; newer = 0 }
 
 ------------------------------------------------------------------------
 -- Parts of a store

@@ -1,5 +1,6 @@
 -- The version lists: stamping a register, linking a version as its newest, unlinking a version.
 use mathlib.Core.Bool.{cond}
+use mathlib.Core.Option.{some}
 use mathlib.Core.List.{List}
 use Prim.Native.Nat.{ℕ}
 use lib.Dec.{eqb}
@@ -40,7 +41,7 @@ stamp s r = withSlots s (stampSlots (s .slots) (newestOf s r) (s .clock))
 
 -- H5.7: a put's version: x, unset low, open high, above the version in slot c
 abbrev pub published : Reading → ℕ → Slot
-published x c = record { value = x; low = absent; high = absent; older = c; newer = absent }
+published x c = record { value = some x; low = absent; high = absent; older = c; newer = absent }
 
 -- H5.7: slot f gets the version of a put and stands above slot c
 unfoldable pub linkSlots : List Slot → ℕ → ℕ → Reading → List Slot

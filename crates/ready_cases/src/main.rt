@@ -95,6 +95,7 @@ fn write_answer(answer: Answer) {
         Answer::Freed(_) => write(b"freed"),
         Answer::At(_) => write(b"at"),
         Answer::Value(_) => write(b"value"),
+        Answer::None => write(b"none"),
         Answer::Below(_) => write(b"below"),
         Answer::Done => write(b"done"),
     }

@@ -40,9 +40,10 @@ pub fn try_record(m: Memory, long: usize, list: &[u8], rec: &[u8]) -> Tried {
         &mut lens,
         &mut merged,
     );
-    let left = done.hub;
+    let applied = done.applied;
+    let left = applied.hub;
     let row = done.slots;
-    let answer = done.answer;
+    let answer = applied.answer;
     Tried {
         memory: Memory {
             hub: left,

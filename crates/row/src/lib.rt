@@ -4,12 +4,15 @@ ghost use Prim.Native.Nat.{_+_, _≤_};
 ghost use lib.ListN.{length};
 ghost use Rattle.lists.specs.Over.{overAt};
 ghost use Rattle.model.specs.Row.{bytesOf, rowBytes, writeRow};
-ghost use Rattle.values.specs.Meaning.{readingOf};
+ghost use Rattle.values.specs.Meaning.{contentOf, readingOf};
 ghost use Rattle.row.specs.Meaning.{rowAnswerOf};
+use values::Content;
 use values::Reading;
 
 pub enum RowAnswer {
     Written,
+    // There is no reading to write.
+    None,
     // The number of the refusal.
     No(u8),
 }
@@ -39,10 +42,10 @@ fn put_row(row: &mut [u8], register: u16, time: u32, reading: Reading)
     put_number(row, 8, 8, reading.count);
 }
 
-// Writes the row of a register into the lent buffer, or refuses and leaves the buffer untouched.
-pub fn write_row(out: &mut [u8], register: u16, time: u32, reading: Reading) -> RowAnswer
-    ensures { λ r. ⌜ rowAnswerOf r ≡ writeRow register time (readingOf reading) (now (out .entry)) .answer ⌝ }
-    ensures { λ _. ⌜ now (out .exit) ≡ writeRow register time (readingOf reading) (now (out .entry)) .buffer ⌝ }
+// Writes the row of a register into the lent buffer. A refusal, or no reading, leaves the buffer untouched.
+pub fn write_row(out: &mut [u8], register: u16, time: u32, content: Content) -> RowAnswer
+    ensures { λ r. ⌜ rowAnswerOf r ≡ writeRow register time (contentOf content) (now (out .entry)) .answer ⌝ }
+    ensures { λ _. ⌜ now (out .exit) ≡ writeRow register time (contentOf content) (now (out .entry)) .buffer ⌝ }
 {
     if register >= 256 {
         return RowAnswer::No(4);
@@ -52,6 +55,11 @@ pub fn write_row(out: &mut [u8], register: u16, time: u32, reading: Reading) -> 
     if out.len() < e {
         return RowAnswer::No(7);
     }
-    put_row(&mut out[at..e], register, time, reading);
-    RowAnswer::Written
+    match content {
+        Content::NoReading => RowAnswer::None,
+        Content::Of(reading) => {
+            put_row(&mut out[at..e], register, time, reading);
+            RowAnswer::Written
+        }
+    }
 }

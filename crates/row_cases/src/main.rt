@@ -1,25 +1,37 @@
-// The cases of the read-out row in H11 of docs/HUB.md, and their neighbours: for each the number of the refusal, 0 where there is
-// none, and then every byte of the lent buffer, as bytes on standard output.
+// The cases of the read-out row in H11 of docs/HUB.md, and their neighbours: for each the number of the refusal, 0 where the row is
+// written and 255 where there is no reading, and then every byte of the lent buffer, as bytes on standard output.
 use libc::STDOUT_FILENO;
 use row::RowAnswer;
+use values::Content;
 use values::Reading;
 
 fn number_of(answer: RowAnswer) -> u8 {
     match answer {
         RowAnswer::Written => 0,
+        RowAnswer::None => 255,
         RowAnswer::No(refusal) => refusal,
     }
 }
 
-// Writes the row of a register into a buffer, and the outcome to standard output.
+// Hands what a version holds to the row writer, and shows the outcome on standard output.
+fn outcome(out: &mut [u8], register: u16, content: Content) {
+    let answer = row::write_row(out, register, 16909060, content);
+    let number = [number_of(answer)];
+    io::write_all(STDOUT_FILENO, &number);
+    io::write_all(STDOUT_FILENO, out);
+}
+
+// With a reading.
 fn show(out: &mut [u8], register: u16) {
     let reading = Reading {
         count: 72623859790382856,
     };
-    let answer = row::write_row(out, register, 16909060, reading);
-    let number = [number_of(answer)];
-    io::write_all(STDOUT_FILENO, &number);
-    io::write_all(STDOUT_FILENO, out);
+    outcome(out, register, Content::Of(reading));
+}
+
+// Without one.
+fn show_none(out: &mut [u8], register: u16) {
+    outcome(out, register, Content::NoReading);
 }
 
 fn main() {
@@ -33,4 +45,7 @@ fn main() {
     show(&mut second, 1);
     let mut absent = [9; 32];
     show(&mut absent, 256);
+    show_none(&mut [9; 15], 0);
+    show_none(&mut [9; 16], 0);
+    show_none(&mut [9; 32], 256);
 }

@@ -38,7 +38,7 @@ pub struct Applied {
 
 // One record, with the list of totals lent, on the first n slots of the words. The words after them keep their contents.
 pub fn run_one(
-    row: &mut [[u64; 5]],
+    row: &mut [[u64; 6]],
     n: usize,
     hub: Hub,
     list: &[u8],
@@ -107,7 +107,7 @@ pub struct Counted {
 // The records of the bytes, as many as there is room for answers, with the list of totals lent, on the first n slots of the words. The words after them keep
 // their contents.
 pub fn run_all(
-    row: &mut [[u64; 5]],
+    row: &mut [[u64; 6]],
     n: usize,
     hub: Hub,
     list: &[u8],

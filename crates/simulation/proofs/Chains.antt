@@ -7,7 +7,7 @@ use mathlib.Core.List.{List, [], _∷_}
 use Prim.Native.Nat.{ℕ, _≤_, _<_}
 use native.Mathlib.Omega.{arith}
 use lib.Dec.{eqb}
-use Rattle.model.specs.Store.{absent, Reading, Slot}
+use Rattle.model.specs.Store.{absent, Content, Slot}
 use Rattle.model.specs.Demand.{occurrences}
 use Rattle.model.proofs.Basic.{hit-same, hit-eq, hit-other, eq-cases, All-map, All-get}
 use Rattle.model.proofs.Slots.{nth}
@@ -46,7 +46,7 @@ three s up d (e ∷ l) c t h one b =
         heads (y ∷ q) i none k z = omega (arith, none, hit-eq y i z)
 
 -- the older neighbour of an unstamped newest version is the next slot of the list
-pub next-older : (s : List Slot) (t : ℕ) (x : Reading) (c : ℕ) (l : List ℕ) → t < absent → Linked s absent (c ∷ l) → Fine s t x (c ∷ l)
+pub next-older : (s : List Slot) (t : ℕ) (x : Content) (c : ℕ) (l : List ℕ) → t < absent → Linked s absent (c ∷ l) → Fine s t x (c ∷ l)
     → nth s c .low ≡ absent → 0 < occurrences (nth s c .older) l
 unfolding occurrences
 next-older s t x c [] b k f e = absurd (⊎-elim (λ u. omega (arith, u .0, e)) (λ u. u .1) (f .1))
@@ -59,7 +59,7 @@ head-older s up c [] k = inl (k .1)
 head-older s up c (d ∷ l) k = inr (omega (arith, hit-eq d (nth s c .older) (sym (k .1))))
 
 -- a version below the newest is stamped
-pub old-low : (s : List Slot) (t : ℕ) (x : Reading) (c : ℕ) (l : List ℕ) → Fine s t x (c ∷ l) → (d : ℕ) → 0 < occurrences d l → nth s d .low ≤ t
+pub old-low : (s : List Slot) (t : ℕ) (x : Content) (c : ℕ) (l : List ℕ) → Fine s t x (c ∷ l) → (d : ℕ) → 0 < occurrences d l → nth s d .low ≤ t
 old-low s t x c l f d h = ⊎-elim (λ u. All-get (Past s t) l (u .2) d h .0) (λ u. next l (u .1) h) (f .1)
   where
     next : (q : List ℕ) → Next s t x q → 0 < occurrences d q → nth s d .low ≤ t
@@ -67,7 +67,7 @@ old-low s t x c l f d h = ⊎-elim (λ u. All-get (Past s t) l (u .2) d h .0) (�
     next (e ∷ q) z y = All-get (λ i. nth s i .low ≤ t) (e ∷ q) (z .0, All-map (λ i p. p .0) q (z .3)) d y
 
 -- a read stands on a slot of the list
-pub stands-in : (s : List Slot) (a c : ℕ) (x : Reading) (l : List ℕ) → On s a c x l → 0 < occurrences c l
+pub stands-in : (s : List Slot) (a c : ℕ) (x : Content) (l : List ℕ) → On s a c x l → 0 < occurrences c l
 unfolding occurrences
 stands-in s a c x [] t = absurd t
 stands-in s a c x (d ∷ l) t =

@@ -50,6 +50,7 @@ ok-back Is.Going = refl
 ok-back (Is.Freed c) = refl
 ok-back (Is.At t) = refl
 ok-back (Is.Value x) = refl
+ok-back Is.None = refl
 ok-back (Is.Below x) = refl
 ok-back Is.Done = refl
 ok-back (Is.No k) = refl

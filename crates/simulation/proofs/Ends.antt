@@ -26,7 +26,8 @@ use Rattle.worker.specs.declared.Announced.{Announced}
 use Rattle.worker.specs.declared.Announced.the-variants.{Nothing, At}
 use Rattle.model.specs.Rules.{twelveDigits}
 use Rattle.model.specs.Totals.{signOf, rowAt, goesOn}
-use Rattle.values.specs.declared.Reading.{Reading}
+use Rattle.values.specs.declared.Content.{Content}
+use Rattle.values.specs.declared.Content.the-variants.{NoReading, Of}
 use Rattle.worker.specs.declared.Purpose.{Purpose}
 use Rattle.worker.specs.declared.Purpose.the-variants.{Single, Marked, Totaling}
 use Rattle.worker.specs.declared.Doing.{Doing}
@@ -52,7 +53,7 @@ use Rattle.step.specs.declared.Next.the-variants.{Taken, Mark}
 use Rattle.announcing.specs.Announcing.{outcomeOf}
 use Rattle.step.specs.Step.{Stepped, newestAt, stillAt, needOf, readOrSplit, freeOrDone, stepOf}
 use Rattle.announcing.specs.Announcing.{openAnnounceStep, openPassStep, closeWithdrawStep}
-use Rattle.step.specs.Step.{signedOf, totalFoundOf, foundOf, putPublishStep, putStampStep, readEnterStep, readStandStep, getShowStep}
+use Rattle.step.specs.Step.{answerTo, addsFor, signedOf, totalFoundOf, foundOf, putPublishStep, putStampStep, readEnterStep, readStandStep, getShowStep}
 use Rattle.flush.specs.Flush.{handedPool, putHandInStep}
 use Rattle.simulation.specs.Memory.{Memory, withHub}
 use Rattle.simulation.specs.Shell.{Result, rowsKept, marksRead, readAfter, takenIn, handedIn, tookIn, readIn, allReadIn, markedIn}
@@ -220,17 +221,22 @@ module _ (up : Bool) (m : Memory) (r : Record.Decoded) where
         cond-both (λ (y : Answer). StillEnds (outcomeOf Idle (x .announced) (m .hub .clock) (m .hub .free) y)) (leb minus plus)
         (Value (record { count = plus - minus })) (Below (record { count = minus - plus })) (λ q. tt) (λ q. tt)
 
+    -- what a get or a read answers
+    shown-ends : (v : Content) (m′ : Memory) → EndsWell (answerTo v) m′
+    shown-ends NoReading m′ = tt
+    shown-ends (Of v) m′ = tt
+
     -- read (2) where the version is found; 18
-    found-ends : takesStepIn up m r ≡ true → (y : Purpose) (v : Reading) → readBy (x .doing) ≡ readAs y
+    found-ends : takesStepIn up m r ≡ true → (y : Purpose) (v : Content) → readBy (x .doing) ≡ readAs y
         → StillEnds (foundOf y v (x .announced) (m .hub .clock) (m .hub .free) (rowsKept (m .hub)))
     unfolding nextIn takenIn totalFoundOf occurrences
-    found-ends e Single v q = tt
-    found-ends e (Marked i) v q = tt
+    found-ends e Single v q = shown-ends v _
+    found-ends e (Marked i) v q = shown-ends v _
     found-ends e (Totaling g i plus minus) v q =
         let adds = eqb (signOf (rowAt (rowsKept (m .hub)) i)) 0 in
-        cond-both StillEnds (leb (v .count) twelveDigits) _ _
+        cond-both StillEnds (leb (addsFor v) twelveDigits) _ _
         (λ f. cond-both StillEnds (goesOn (rowsKept (m .hub)) g i) _ _ (λ n. tt)
-        (λ n. signed-ends (addedTo plus (cond adds (v .count) 0)) (addedTo minus (cond adds 0 (v .count)))))
+        (λ n. signed-ends (addedTo plus (cond adds (addsFor v) 0)) (addedTo minus (cond adds 0 (addsFor v)))))
         (λ f. sets-idle 18 e (omega arith) q)
 
     -- by the worker's place
@@ -264,7 +270,7 @@ module _ (up : Bool) (m : Memory) (r : Record.Decoded) where
     step-ends (ReadStand i v) e =
         cond-both StillEnds (leb (slotAtIn (m .slots) v .low) (timeIn (i .purpose) (x .announced) (m .hub .marks))) _ _
         (λ f. found-ends (takes (ReadStand i v) e) (i .purpose) (slotAtIn (m .slots) v .value) (ap readBy e)) (λ f. tt)
-    step-ends (GetShow i) e = tt
+    step-ends (GetShow i) e = shown-ends (slotAtIn (m .slots) (newestAt (m .newest) i) .value) _
 
 ------------------------------------------------------------------------
 -- A record

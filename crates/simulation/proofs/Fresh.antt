@@ -3,6 +3,7 @@
 use mathlib.Core.Path.{_≡_, refl, sym, ap, _∙_}
 use mathlib.Core.Bool.{Bool, true, false, cond, _&&_}
 use mathlib.Core.List.{List, [], _∷_, _++_, map, reverse, reverse-cons}
+use mathlib.Core.Option.{none}
 use Prim.Native.Nat.{ℕ, zero, suc, _+_, _-_, _/_, _%_, _≤_, _<_}
 use native.Mathlib.Nat.{mod-eq-of-lt}
 use native.Mathlib.Omega.{arith}
@@ -12,7 +13,7 @@ use lib.Seq.{take-suc, length-take-le, take-all}
 use Rattle.lists.specs.Over.{over}
 use Rattle.lists.proofs.Over.{over-nil, over-push, getD-over-past}
 use Rattle.model.specs.Store as Model
-use Rattle.model.specs.Store.{absent, reading₀, slot₀, startWorker, upFrom}
+use Rattle.model.specs.Store.{absent, slot₀, startWorker, upFrom}
 use Rattle.model.specs.Record.{Sizes, rowsOf, listFits}
 use Rattle.model.specs.Apply.{firstSlots, fresh}
 use Rattle.model.specs.Versions.{alone}
@@ -20,11 +21,14 @@ use Rattle.model.proofs.Basic.{getD-map, map-app, and-both}
 use Rattle.model.proofs.Totals.{few-rows}
 use Rattle.worker.specs.declared.Worker.{Worker}
 use Rattle.worker.specs.Rep.{timesRead, workerRep}
+use Rattle.values.specs.declared.Content.{Content}
+use Rattle.values.specs.declared.Content.the-variants.{NoReading}
 use Rattle.slots.specs.declared.Slot.{Slot}
 use Rattle.slots.specs.Slots.{slotRep, slotOf, vacantSlot, madeSlot, madeTo}
 use Rattle.state.specs.State.{emptyHub, freshHub}
 use Rattle.arrays.specs.Arrays.{short, fillTo}
 use Rattle.simulation.specs.Memory.{partsOver, readOf, hubRep, handWords, inHandWords, mergedOver}
+use Rattle.simulation.proofs.Contents.{content-back}
 use Rattle.simulation.proofs.Laid.{hub-path}
 
 ------------------------------------------------------------------------
@@ -69,7 +73,7 @@ free-made d n (suc k) v e h b =
 -- what a setup of v registers makes of slot i, in the model
 abbrev madeOf : ℕ → ℕ → Model.Slot → Model.Slot
 madeOf i v z =
-    cond (ltb i v) (record { value = reading₀; low = 0; high = absent; older = absent; newer = absent }) (alone z)
+    cond (ltb i v) (record { value = none; low = 0; high = absent; older = absent; newer = absent }) (alone z)
 
 first-last : (v : ℕ) (l : List Model.Slot) (z : Model.Slot) → firstSlots v (l ++ (z ∷ [])) ≡ firstSlots v l ++ (madeOf (length l) v z ∷ [])
 unfolding firstSlots
@@ -83,11 +87,12 @@ first-last (suc v) (y ∷ l) z = rw (first-last v l z, leb·suc-suc (suc (length
 same-made : (i v : ℕ) (y : Slot) → slotRep (madeOf i v (slotOf y)) ≡ madeSlot i v y
 same-made i v y = go (ltb i v)
   where
-    go : (t : Bool) → slotRep (cond t (record { value = reading₀; low = 0; high = absent; older = absent; newer = absent }) (alone (slotOf y)))
-        ≡ cond t (record { value = record { count = 0 }; low = 0; high = absent; older = absent; newer = absent })
+    go : (t : Bool) → slotRep (cond t (record { value = none; low = 0; high = absent; older = absent; newer = absent }) (alone (slotOf y)))
+        ≡ cond t (record { value = NoReading; low = 0; high = absent; older = absent; newer = absent })
         (record { value = y .value; low = y .low; high = y .high; older = absent; newer = absent })
     go true = refl
-    go false = refl
+    go false =
+        ap (λ (c : Content). record { value = c; low = y .low; high = y .high; older = absent; newer = absent }) (content-back (y .value))
 
 pub first-length : (v : ℕ) (l : List Model.Slot) → length (firstSlots v l) ≡ length l
 unfolding firstSlots

@@ -5,6 +5,7 @@ pub mod Laws
 pub mod Facts
 pub mod Sound
 pub mod Marks
+pub mod Contents
 pub mod Simulates
 pub mod Laid
 pub mod Rows

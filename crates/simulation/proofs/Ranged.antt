@@ -3,15 +3,16 @@
 use mathlib.Core.Path.{_≡_, sym, subst}
 use mathlib.Core.Bool.{_&&_}
 use mathlib.Core.List.{List, [], _∷_}
+use mathlib.Core.Option.{none, some}
 use Prim.Native.Nat.{ℕ, _<_}
 use native.Mathlib.Omega.{arith}
 use lib.Dec.{ltb, leb, eqb, lit<}
 use lib.ListN.{length, getD}
 use Rattle.model.specs.Store as Model
-use Rattle.model.specs.Store.{Store, Range, blank, up, lastClock, workerAt, slotAt}
+use Rattle.model.specs.Store.{Store, Range, blank, up, lastClock, workerAt, slotAt, newestOf}
 use Rattle.model.specs.Rules.{twelveDigits, inForce}
 use Rattle.model.specs.Totals.{goesOn, Sum}
-use Rattle.model.specs.Answer.{Answer, Ok, Going, Freed, At, Value, Below, Done, No, Stepped, Applied}
+use Rattle.model.specs.Answer.{Answer, Ok, Going, Freed, At, Value, None, Below, Done, No, Stepped, Applied}
 use Rattle.model.specs.Record.{SetUp, Begin, Step, Decoded, Asks, Refuses, commandOf, unusedZero, decode, listFits}
 use Rattle.model.specs.Steps.{putPublish, putStamp, putHandIn, flushTake, flushSplit, flushRead, flushFree}
 use Rattle.model.specs.Steps.{openAnnounce, openPass, answerFor, signed, totalFound, found, readEnter, readStand, getShow, closeWithdraw}
@@ -41,6 +42,7 @@ Ranged Going = Unit {0}
 Ranged (Freed c) = c < 65536
 Ranged (At t) = t < 4294967296
 Ranged (Value x) = Unit {0}
+Ranged None = Unit {0}
 Ranged (Below x) = Unit {0}
 Ranged Done = Unit {0}
 Ranged (No k) = k < 256
@@ -69,12 +71,17 @@ module _ (s : Store) (S : Sound s) (w : ℕ) (below : w < s .site .P) where
   unfolding signed
   signed-ranged y = cond-both Ranged (leb (y .minus) (y .plus)) _ _ (λ q. tt) (λ q. tt)
 
-  found-ranged : (y : Model.Purpose) (x : Model.Reading) → RangedStep (found s w y x)
-  unfolding found totalFound answerFor
-  found-ranged Model.Single x = tt
-  found-ranged (Model.Marked m) x = tt
+  shown-ranged : (x : Model.Content) → Ranged (answerFor x)
+  unfolding answerFor
+  shown-ranged none = tt
+  shown-ranged (some x) = tt
+
+  found-ranged : (y : Model.Purpose) (x : Model.Content) → RangedStep (found s w y x)
+  unfolding found totalFound
+  found-ranged Model.Single x = shown-ranged x
+  found-ranged (Model.Marked m) x = shown-ranged x
   found-ranged (Model.Totaling g i y) x =
-      cond-both RangedStep (leb (x .count) twelveDigits) _ _
+      cond-both RangedStep (leb (Model.countOf x) twelveDigits) _ _
       (λ e. cond-both RangedStep (goesOn (s .site .rows) g i) _ _ (λ f. tt)
       (λ f. signed-ranged _))
       (λ e. lit< tt)
@@ -100,7 +107,7 @@ module _ (s : Store) (S : Sound s) (w : ℕ) (below : w < s .site .P) where
   step-ranged (Model.ReadEnter g) p = mark-ranged (needFor (g .purpose)) _ tt
   step-ranged (Model.ReadStand g c) p =
       cond-both RangedStep (leb (slotAt s c .low) (timeFor (s .marks) (workerAt s w .announced) (g .purpose))) _ _ (λ e. found-ranged (g .purpose) (slotAt s c .value)) (λ e. tt)
-  step-ranged (Model.GetShow r) p = tt
+  step-ranged (Model.GetShow r) p = shown-ranged (slotAt s (newestOf s r) .value)
 
 ------------------------------------------------------------------------
 -- A record
@@ -153,6 +160,7 @@ in-range Is.Going r = tt
 in-range (Is.Freed c) r = r
 in-range (Is.At t) r = r
 in-range (Is.Value x) r = tt
+in-range Is.None r = tt
 in-range (Is.Below x) r = tt
 in-range Is.Done r = tt
 in-range (Is.No k) r = r

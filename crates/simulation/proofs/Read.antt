@@ -21,7 +21,7 @@ use Rattle.model.specs.Rules.{twelveDigits}
 use Rattle.model.specs.About.{about}
 use Rattle.model.specs.Reached.{TotalFits}
 use Rattle.model.proofs.Basic.{All-at}
-use Rattle.values.specs.Meaning.{answerOf}
+use Rattle.values.specs.Meaning.{contentRep, answerOf}
 use Rattle.values.specs.declared.Answer.{Answer}
 use Rattle.values.specs.declared.Answer.the-variants.{Going, Value, Below, No}
 use Rattle.slots.specs.declared.Slot.{Slot}
@@ -30,13 +30,13 @@ use Rattle.arrays.specs.Arrays.{short}
 use Rattle.versions.specs.Versions.{slotAtIn}
 use Rattle.worker.specs.declared.Doing as Code
 use Rattle.worker.specs.declared.Doing.the-variants.{ReadStand}
-use Rattle.worker.specs.Rep.{readingRep, announcedRep, goalRep}
+use Rattle.worker.specs.Rep.{announcedRep, goalRep}
 use Rattle.marks.specs.declared.MarkNeed as Need
 use Rattle.marks.specs.Marks.{refusalIn, timeIn}
 use Rattle.totals.specs.Rows.{addedTo}
 use Rattle.announcing.specs.declared.Outcome.{Outcome}
 use Rattle.announcing.specs.Announcing.{outcomeOf}
-use Rattle.step.specs.Step.{Stepped, newestAt, stillAt, needOf, readEnterStep, signedOf, totalFoundOf, foundOf, readStandStep, getShowStep}
+use Rattle.step.specs.Step.{Stepped, newestAt, stillAt, needOf, readEnterStep, answerTo, addsFor, signedOf, totalFoundOf, foundOf, readStandStep, getShowStep}
 use Rattle.step.specs.Step.{stepOf}
 use Rattle.simulation.specs.Memory.{Memory, readOf, handWords, write}
 use Rattle.simulation.specs.Left.{Sized}
@@ -46,6 +46,7 @@ use Rattle.simulation.proofs.Simulates.{Simulates}
 use Rattle.simulation.proofs.Laid.{slots-is, rows-is, place-at, among}
 use Rattle.simulation.proofs.Found.{stepFound, short-is, slot-is, newest-is, newest-short, stamp-row, time-is}
 use Rattle.simulation.proofs.Marks.{numberOf, refusal-same, Numbered, numbered, need-same, need-unread, time-same}
+use Rattle.simulation.proofs.Contents.{answer-same, adds-same}
 use Rattle.simulation.proofs.Kept.{kept-sim}
 
 module _ (s : Store) (m : Memory) (w : ℕ) (S : Sound s) (Z : Sized m) (laid : m ≡ write s m) (wb : w < s .site .P) where
@@ -81,7 +82,7 @@ module _ (s : Store) (m : Memory) (w : ℕ) (S : Sound s) (Z : Sized m) (laid : 
           (rw (same, q, ne-eqb j 0 (λ z. omega (arith, z, b .0)))) (slots-is s m laid) (rw q) refl refl
 
   pub get-show-sim : (r : ℕ) → workerAt s w .doing ≡ Model.GetShow r → Simulates s m w (Model.GetShow r)
-  unfolding stepOf getShowStep stepAt getShow answerFor stamp handWords
+  unfolding stepOf getShowStep stepAt getShow stamp handWords
   get-show-sim r e =
       let d : Model.Doing = Model.GetShow r in
       let n : ℕ = newestOf s r in
@@ -89,7 +90,7 @@ module _ (s : Store) (m : Memory) (w : ℕ) (S : Sound s) (Z : Sized m) (laid : 
       let shown : slotAtIn (m .slots) (newestAt (m .newest) r) ≡ slotRep (slotAt s n) =
       ap (slotAtIn (m .slots)) (newest-is s m S laid r h) ∙ slot-is s m S laid n (S .newest r h) in
       kept-sim s m w d S Z laid wb e Model.Idle (workerAt s w .announced) (s .clock) (stampSlots (s .slots) n (s .clock))
-      (Value (readingRep (slotAt s n .value))) (rw shown) (stamp-row s m S laid r h) refl refl refl
+      (answerTo (contentRep (slotAt s n .value))) (rw shown) (stamp-row s m S laid r h) (rw (answer-same (slotAt s n .value))) refl refl
 
 -- the code's answer with the sums of a total is the model's
 signed-is : (y : Sum) → answerOf (signedOf (y .plus) (y .minus)) ≡ signed y
@@ -149,22 +150,22 @@ module _ (s : Store) (m : Memory) (w : ℕ) (g : Model.Goal) (c : ℕ)
   module _ (z : leb (slotAt s c .low) t′ ≡ true) where
     -- a read shows the value
     single-sim : g .purpose ≡ Model.Single → Simulates s m w d
-    unfolding stepAt readStand found answerFor handWords
+    unfolding stepAt readStand found handWords
     single-sim q =
-        kept-sim s m w d S Z laid wb e Model.Idle t (s .clock) (s .slots) (Value (readingRep (slotAt s c .value)))
-        (looked ∙ rw (z, q)) (slots-is s m laid) (rw (z, q)) refl refl
+        kept-sim s m w d S Z laid wb e Model.Idle t (s .clock) (s .slots) (answerTo (contentRep (slotAt s c .value)))
+        (looked ∙ rw (z, q)) (slots-is s m laid) (rw (z, q, answer-same (slotAt s c .value))) refl refl
 
     -- and so does a marked read
     marked-sim : (i : ℕ) → g .purpose ≡ Model.Marked i → Simulates s m w d
-    unfolding stepAt readStand found answerFor handWords
+    unfolding stepAt readStand found handWords
     marked-sim i q =
-        kept-sim s m w d S Z laid wb e Model.Idle t (s .clock) (s .slots) (Value (readingRep (slotAt s c .value)))
-        (looked ∙ rw (z, q)) (slots-is s m laid) (rw (z, q)) refl refl
+        kept-sim s m w d S Z laid wb e Model.Idle t (s .clock) (s .slots) (answerTo (contentRep (slotAt s c .value)))
+        (looked ∙ rw (z, q)) (slots-is s m laid) (rw (z, q, answer-same (slotAt s c .value))) refl refl
 
     -- a total adds it
     module _ (j i : ℕ) (y : Sum) (q : g .purpose ≡ Model.Totaling j i y) where
       abbrev x : ℕ
-      x = slotAt s c .value .count
+      x = Model.countOf (slotAt s c .value)
 
       abbrev row : ℕ
       row = rowAt rows i
@@ -196,7 +197,7 @@ module _ (s : Store) (m : Memory) (w : ℕ) (g : Model.Goal) (c : ℕ)
       over-sim : leb x twelveDigits ≡ false → Simulates s m w d
       unfolding stepAt readStand found totalFound totalFoundOf handWords
       over-sim f =
-          kept-sim s m w d S Z laid wb e Model.Idle t (s .clock) (s .slots) (No 18) (looked ∙ rw (z, q, f)) (slots-is s m laid) (rw (z, q, f)) refl refl
+          kept-sim s m w d S Z laid wb e Model.Idle t (s .clock) (s .slots) (No 18) (looked ∙ rw (z, q, adds-same (slotAt s c .value), f)) (slots-is s m laid) (rw (z, q, f)) refl refl
 
       module _ (f : leb x twelveDigits ≡ true) where
         small : x ≤ twelveDigits
@@ -206,14 +207,14 @@ module _ (s : Store) (m : Memory) (w : ℕ) (g : Model.Goal) (c : ℕ)
         unfolding stepAt readStand found totalFound totalFoundOf handWords
         last-sim n =
             kept-sim s m w d S Z laid wb e Model.Idle t (s .clock) (s .slots) (signedOf (more .plus) (more .minus))
-            (looked ∙ rw (z, q, f, n, plus-is small, minus-is small)) (slots-is s m laid) (rw (z, q, f, n, signed-is more)) refl refl
+            (looked ∙ rw (z, q, adds-same (slotAt s c .value), f, n, plus-is small, minus-is small)) (slots-is s m laid) (rw (z, q, f, n, signed-is more)) refl refl
 
         next-sim : goesOn rows j i ≡ true → Simulates s m w d
         unfolding stepAt readStand found totalFound totalFoundOf handWords
         next-sim n =
             let short : (i + 1) % 65536 ≡ i + 1 = mod-eq-of-lt (omega (arith, fits .0, S .bounds .rows .1)) in
             kept-sim s m w d S Z laid wb e (Model.ReadEnter (goalAt rows j (i + 1) more)) t (s .clock) (s .slots) Going
-            (looked ∙ rw (z, q, f, n, plus-is small, minus-is small, short)) (slots-is s m laid) (rw (z, q, f, n)) refl refl
+            (looked ∙ rw (z, q, adds-same (slotAt s c .value), f, n, plus-is small, minus-is small, short)) (slots-is s m laid) (rw (z, q, f, n)) refl refl
 
       total-sim : Simulates s m w d
       total-sim = by (leb x twelveDigits) refl (goesOn rows j i) refl

@@ -27,7 +27,7 @@ use Rattle.slots.specs.Slots.{vacantSlot, linkedAnd, madeSlot}
 use Rattle.slots.proofs.Slot as T
 use Rattle.slots.proofs.Slot.Laws as T′
 use Rattle.slots.proofs.Calls.{call-value}
-use Rattle.slots.proofs.Row.{vals, tells, makes}
+use Rattle.slots.proofs.Row.{vals, tells, makes, lowered}
 use Rattle.slots.proofs.vacant as vacant
 use Rattle.slots.proofs.vacant.Symbol.{name as #slots·vacant}
 use Rattle.slots.proofs.linked_and as linked-and
@@ -97,7 +97,7 @@ module _ {M : Type 1} {𝓤 : URA M} {H : Heap 𝓤} {A : Atoms 𝓤} {K : Type 
     (Item 𝓤)} {E : Env 𝓤 H} {C : Calls 𝓤 H} {Λ : Loops 𝓤 H} {q : Post 𝓤 H} {dst : Place} {rest : Body} {xs : List Operand} where
   pub call-vacant : K → (mem : Memory → SProp 𝓤) (run : Routine → Fun 𝓤) → FmC 𝓤 H (W .laws) C → Triple 𝓤 (C #slots·vacant) (Vacant 𝓤 H A mem run)
       → ((j : Item 𝓤) → Opds K W (j ∷ Γ) E xs [])
-      → (Is T.the-row vacantSlot (vals vacantSlot) → Seq K W Γ (lands C Λ E dst (T′.lowered vacantSlot) rest q))
+      → (Is T.the-row vacantSlot (vals vacantSlot) → Seq K W Γ (lands C Λ E dst (lowered vacantSlot) rest q))
       → Seq K W Γ (runs C Λ E (seq (call #slots·vacant xs dst) rest) q)
   call-vacant t mem run fm known os k =
       call-value t fm (Vacant 𝓤 H A mem run) known T.the-row vals tells vacantSlot (to-vacant 𝓤 H A W mem run) (Vacated 𝓤 H A W mem run)
@@ -106,7 +106,7 @@ module _ {M : Type 1} {𝓤 : URA M} {H : Heap 𝓤} {A : Atoms 𝓤} {K : Type 
   pub call-linked-and : K → (mem : Memory → SProp 𝓤) (run : Routine → Fun 𝓤) → FmC 𝓤 H (W .laws) C
       → Triple 𝓤 (C #slots·linked-and) (LinkedAnd 𝓤 H A mem run)
       → (ok : Bool) (s : Slot) (n : ℕ) → Is T.the-row s (vals s) → n < 2 ^ 64
-      → ((j : Item 𝓤) → Opds K W (j ∷ Γ) E xs (vbool ok ∷ T′.lowered s ∷ vint w64 n ∷ []))
+      → ((j : Item 𝓤) → Opds K W (j ∷ Γ) E xs (vbool ok ∷ lowered s ∷ vint w64 n ∷ []))
       → Step K W Γ (lands C Λ E dst (vbool (linkedAnd ok s n)) rest q) Γ (runs C Λ E (seq (call #slots·linked-and xs dst) rest) q)
   call-linked-and t mem run fm known ok s n gs gn os = step (λ k.
       call-value t fm (LinkedAnd 𝓤 H A mem run) known bool bool-vals bool-tells (linkedAnd ok s n) (to-linked-and 𝓤 H A W mem run ok s n)
@@ -114,8 +114,8 @@ module _ {M : Type 1} {𝓤 : URA M} {H : Heap 𝓤} {A : Atoms 𝓤} {K : Type 
 
   pub call-made : K → (mem : Memory → SProp 𝓤) (run : Routine → Fun 𝓤) → FmC 𝓤 H (W .laws) C → Triple 𝓤 (C #slots·made) (Made 𝓤 H A mem run)
       → (i v : ℕ) (s : Slot) → i < 2 ^ 64 → v < 2 ^ 64 → Is T.the-row s (vals s)
-      → ((j : Item 𝓤) → Opds K W (j ∷ Γ) E xs (vint w64 i ∷ vint w64 v ∷ T′.lowered s ∷ []))
-      → (Is T.the-row (madeSlot i v s) (vals (madeSlot i v s)) → Seq K W Γ (lands C Λ E dst (T′.lowered (madeSlot i v s)) rest q))
+      → ((j : Item 𝓤) → Opds K W (j ∷ Γ) E xs (vint w64 i ∷ vint w64 v ∷ lowered s ∷ []))
+      → (Is T.the-row (madeSlot i v s) (vals (madeSlot i v s)) → Seq K W Γ (lands C Λ E dst (lowered (madeSlot i v s)) rest q))
       → Seq K W Γ (runs C Λ E (seq (call #slots·made xs dst) rest) q)
   call-made t mem run fm known i v s gi gv gs os k =
       call-value t fm (Made 𝓤 H A mem run) known T.the-row vals tells (madeSlot i v s) (to-made 𝓤 H A W mem run i v s) (Making 𝓤 H A W mem run i v s)

@@ -31,7 +31,7 @@ use Rattle.slots.specs.Slots.{vacantSlot}
 use Rattle.slots.proofs.Slot as T
 use Rattle.slots.proofs.Slot.Laws as T′
 use Rattle.slots.proofs.Calls.{slice, call-shared, call-copied}
-use Rattle.slots.proofs.Row.{vals, tells, Slots, Shared}
+use Rattle.slots.proofs.Row.{vals, tells, Slots, Shared, lowered}
 use Rattle.slots.proofs.load as load
 use Rattle.slots.proofs.load.Symbol.{name as #slots·load}
 
@@ -62,7 +62,7 @@ module _ {M : Type 1} {𝓤 : URA M} {H : Heap 𝓤} {A : Atoms 𝓤} {K : Type 
       → (n b o : ℕ) (ys : List Slot) (i : ℕ) → length ys ≡ n → Room T.the-row n → i < 2 ^ 64
       → ((j k : Item 𝓤) → Opds K W (j ∷ k ∷ Γ) E xs (sliceVal (b, o) n ∷ vint w64 i ∷ []))
       → (Is T.the-row (getD ys i vacantSlot) (vals (getD ys i vacantSlot))
-      → Seq K W (‵ (Slots κ n b o γ ys) ∷ ‵ (flft κ p) ∷ Γ) (lands C Λ E dst (T′.lowered (getD ys i vacantSlot)) rest q))
+      → Seq K W (‵ (Slots κ n b o γ ys) ∷ ‵ (flft κ p) ∷ Γ) (lands C Λ E dst (lowered (getD ys i vacantSlot)) rest q))
       → Seq K W (‵ (Slots κ n b o γ ys) ∷ ‵ (flft κ p) ∷ Γ) (runs C Λ E (seq (call #slots·load xs dst) rest) q)
   call-load t mem run fm known n b o ys i len room gi os k =
       call-shared t fm (Load 𝓤 H A mem run) known T.the-row vals tells (getD ys i vacantSlot) T.the-row n b o ys len room
@@ -73,7 +73,7 @@ module _ {M : Type 1} {𝓤 : URA M} {H : Heap 𝓤} {A : Atoms 𝓤} {K : Type 
       → (n b o : ℕ) (ys : List Slot) (i : ℕ) → i < 2 ^ 64
       → ((j k : Item 𝓤) → Opds K W (j ∷ k ∷ Γ) E xs (sliceVal (b, o) n ∷ vint w64 i ∷ []))
       → (Is T.the-row (getD ys i vacantSlot) (vals (getD ys i vacantSlot))
-      → Seq K W (‵ (Shared κ n b o γ ys) ∷ ‵ (flft κ p) ∷ Γ) (lands C Λ E dst (T′.lowered (getD ys i vacantSlot)) rest q))
+      → Seq K W (‵ (Shared κ n b o γ ys) ∷ ‵ (flft κ p) ∷ Γ) (lands C Λ E dst (lowered (getD ys i vacantSlot)) rest q))
       → Seq K W (‵ (Shared κ n b o γ ys) ∷ ‵ (flft κ p) ∷ Γ) (runs C Λ E (seq (call #slots·load xs dst) rest) q)
   call-load-shared t mem run fm known n b o ys i gi os k =
       call-copied t fm (Load 𝓤 H A mem run) known T.the-row vals tells (getD ys i vacantSlot) T.the-row n b o ys

@@ -11,6 +11,7 @@ use ghost.Atoms.{Atoms}
 use types.Kit.{Given}
 use denote.Laws.{Is, Tells, Makes}
 use denote.Slice.{Room}
+use denote.Steps.{only}
 use denote.Struct.Laws as LL
 use Rattle.slots.specs.declared.Slot.{Slot}
 use Rattle.slots.proofs.Slot as T
@@ -20,13 +21,16 @@ use Rattle.slots.proofs.Calls.{Mut, Shr}
 abbrev pub vals : Slot → List Val
 vals = LL.vals T.the-type T′.the-laws
 
+abbrev pub lowered : Slot → Val
+lowered u = only (vals u)
+
 -- a value's machine values are `vals` of it,
 pub tells : Tells T.the-row (Is T.the-row) vals
 tells = LL.tells T.the-type T′.the-laws
 
 -- they are of the slot's type,
 pub typed : {M : Type 1} (𝓤 : URA M) (H : Heap 𝓤) (A : Atoms 𝓤) → Given 𝓤 H A → (u : Slot) → Is T.the-row u (vals u)
-    → Holds (hasTy T′.mir (T′.lowered u)) × WT (T′.lowered u)
+    → Holds (hasTy T′.mir (lowered u)) × WT (lowered u)
 typed 𝓤 H A W u g = LL.lawful T.the-type T′.the-laws 𝓤 H A W .typed u (vals u) g .0
 
 -- and a slot owns nothing beyond them
@@ -41,5 +45,5 @@ abbrev pub Shared : Lft → ℕ → ℕ → ℕ → GName → List Slot → Fml
 Shared = Shr T.the-row
 
 -- the place of a slot in the row fits a machine word
-pub place-fits : (i n : ℕ) → i < n → Room T.the-row n → i * 40 < 2 ^ 64
+pub place-fits : (i n : ℕ) → i < n → Room T.the-row n → i * 48 < 2 ^ 64
 place-fits i n l room = omega (arith, room .1)

@@ -29,7 +29,7 @@ use Rattle.slots.specs.declared.Slot.{Slot}
 use Rattle.slots.proofs.Slot as T
 use Rattle.slots.proofs.Slot.Laws as T′
 use Rattle.slots.proofs.Calls.{slice, call-lent}
-use Rattle.slots.proofs.Row.{vals, makes, Slots}
+use Rattle.slots.proofs.Row.{vals, makes, Slots, lowered}
 use Rattle.slots.proofs.store as store
 use Rattle.slots.proofs.store.Symbol.{name as #slots·store}
 
@@ -58,7 +58,7 @@ module _ {M : Type 1} {𝓤 : URA M} {H : Heap 𝓤} {A : Atoms 𝓤} {K : Type 
     Operand} {κ : Lft} {p : Share} {γ : GName} where
   pub call-store : K → (mem : Memory → SProp 𝓤) (run : Routine → Fun 𝓤) → FmC 𝓤 H (W .laws) C → Triple 𝓤 (C #slots·store) (Store 𝓤 H A mem run)
       → (n b o : ℕ) (ys : List Slot) (i : ℕ) (s : Slot) → length ys ≡ n → Room T.the-row n → i < 2 ^ 64 → Is T.the-row s (vals s)
-      → ((j k : Item 𝓤) → Opds K W (j ∷ k ∷ Γ) E xs (sliceVal (b, o) n ∷ vint w64 i ∷ T′.lowered s ∷ []))
+      → ((j k : Item 𝓤) → Opds K W (j ∷ k ∷ Γ) E xs (sliceVal (b, o) n ∷ vint w64 i ∷ lowered s ∷ []))
       → Step K W (‵ (Slots κ n b o γ (set ys i s)) ∷ ‵ (flft κ p) ∷ Γ) (lands C Λ E dst vunit rest q) (‵ (Slots κ n b o γ ys) ∷ ‵ (flft κ p) ∷ Γ)
       (runs C Λ E (seq (call #slots·store xs dst) rest) q)
   call-store t mem run fm known n b o ys i s len room gi gs os = step (λ k.

@@ -6,19 +6,20 @@ use lib.Dec.{ltb, eqb}
 use lib.ListN.{getD, set}
 use Rattle.model.specs.Store.{absent}
 use Rattle.model.specs.Store as Model
-use Rattle.values.specs.Meaning.{readingOf}
+use Rattle.values.specs.declared.Content.the-variants.{NoReading}
+use Rattle.values.specs.Meaning.{contentOf, contentRep}
 use Rattle.slots.specs.declared.Slot.{Slot}
 
 -- the model's slot, in memory and back
 abbrev pub slotRep : Model.Slot → Slot
-slotRep v = record { value = record { count = v .value .count }; low = v .low; high = v .high; older = v .older; newer = v .newer }
+slotRep v = record { value = contentRep (v .value); low = v .low; high = v .high; older = v .older; newer = v .newer }
 
 abbrev pub slotOf : Slot → Model.Slot
-slotOf s = record { value = readingOf (s .value); low = s .low; high = s .high; older = s .older; newer = s .newer }
+slotOf s = record { value = contentOf (s .value); low = s .low; high = s .high; older = s .older; newer = s .newer }
 
 -- what is loaded past the end of the row
 abbrev pub vacantSlot : Slot
-vacantSlot = record { value = record { count = 0 }; low = 0; high = 0; older = 0; newer = 0 }
+vacantSlot = record { value = NoReading; low = 0; high = 0; older = 0; newer = 0 }
 
 -- a neighbour is a slot below n or absent
 abbrev pub near : ℕ → ℕ → Bool
@@ -35,7 +36,7 @@ linkedTo l n (suc k) = linkedAnd (linkedTo l n k) (getD l k vacantSlot) n
 -- what a setup of v registers makes of slot i: the one version of register i, or a free slot, which has no neighbours
 abbrev pub madeSlot : ℕ → ℕ → Slot → Slot
 madeSlot i v s =
-    cond (ltb i v) (record { value = record { count = 0 }; low = 0; high = absent; older = absent; newer = absent })
+    cond (ltb i v) (record { value = NoReading; low = 0; high = absent; older = absent; newer = absent })
     (record { value = s .value; low = s .low; high = s .high; older = absent; newer = absent })
 
 -- the first n slots made

@@ -2,11 +2,11 @@
 ghost use mathlib.Core.Path.{_≡_};
 ghost use lib.ListN.{set, getD};
 ghost use Rattle.slots.specs.Slots.{vacantSlot, linkedAnd, madeSlot};
-use values::Reading;
+use values::Content;
 
 // H1.7: a slot for a version. H8.9: an unset low, an open high and an absent neighbour are 4294967296.
 pub struct Slot {
-    pub value: Reading,
+    pub value: Content,
     pub low: u64,
     pub high: u64,
     pub older: usize,
@@ -18,7 +18,7 @@ pub fn vacant() -> Slot
     ensures { λ r. ⌜ r ≡ vacantSlot ⌝ }
 {
     Slot {
-        value: Reading { count: 0 },
+        value: Content::NoReading,
         low: 0,
         high: 0,
         older: 0,
@@ -59,7 +59,7 @@ pub fn made(i: usize, v: usize, s: Slot) -> Slot
 {
     if i < v {
         return Slot {
-            value: Reading { count: 0 },
+            value: Content::NoReading,
             low: 0,
             high: 4294967296,
             older: 4294967296,

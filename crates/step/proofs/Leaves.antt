@@ -8,7 +8,8 @@ use lib.Dec.{eqb, leb}
 use lib.ListN.{set}
 use Rattle.model.specs.Store.{absent}
 use Rattle.values.specs.declared.Reading.{Reading}
-use Rattle.values.specs.declared.Answer.the-variants.{Going, Value, No}
+use Rattle.values.specs.declared.Answer.{Answer}
+use Rattle.values.specs.declared.Answer.the-variants.{Going, No}
 use Rattle.slots.specs.declared.Slot.{Slot}
 use Rattle.arrays.specs.Arrays.{short}
 use Rattle.versions.specs.Versions.{slotAtIn, stampedIn, linkedIn}
@@ -20,7 +21,7 @@ use Rattle.marks.specs.Marks.{refusalIn, timeIn}
 use Rattle.announcing.specs.declared.Outcome.{Outcome}
 use Rattle.step.specs.declared.Next.the-variants.{Taken}
 use Rattle.announcing.specs.Announcing.{outcomeOf}
-use Rattle.step.specs.Step.{Stepped, newestAt, nextFree, putPublishStep, putStampStep, stopped, needOf, readEnterStep, foundOf}
+use Rattle.step.specs.Step.{Stepped, newestAt, nextFree, putPublishStep, putStampStep, stopped, needOf, readEnterStep, answerTo, foundOf}
 use Rattle.step.specs.Step.{readStandStep, getShowStep}
 
 abbrev leaves : Outcome → List Slot → List ℕ → Stepped
@@ -79,8 +80,8 @@ unfolding readStandStep
 read-moved l rows marks ew ev et late eo = rw (← ew, ← ev, ← et, late, eo)
 
 -- get
-pub got : (r : ℕ) (l : List Slot) {t : Announced} {k n i : ℕ} {v : Slot} {l₁ : List Slot} {newest : List ℕ} {o : Outcome}
-    → i ≡ newestAt newest r → l₁ ≡ stampedIn l i k → v ≡ slotAtIn l i → o ≡ outcomeOf Idle t k n (Value (v .value))
+pub got : (r : ℕ) (l : List Slot) {t : Announced} {k n i : ℕ} {v : Slot} {a : Answer} {l₁ : List Slot} {newest : List ℕ} {o : Outcome}
+    → i ≡ newestAt newest r → l₁ ≡ stampedIn l i k → v ≡ slotAtIn l i → a ≡ answerTo (v .value) → o ≡ outcomeOf Idle t k n a
     → leaves o l₁ newest ≡ getShowStep r t k n l newest
 unfolding getShowStep
-got r l ei e₁ ev eo = rw (eo, e₁, ev, ei)
+got r l ei e₁ ev ea eo = rw (eo, e₁, ea, ev, ei)

@@ -11,8 +11,10 @@ use Rattle.model.specs.Store.{absent}
 use Rattle.model.specs.Rules.{twelveDigits}
 use Rattle.model.specs.Totals.{signOf, rowAt, goesOn}
 use Rattle.values.specs.declared.Reading.{Reading}
+use Rattle.values.specs.declared.Content.{Content}
+use Rattle.values.specs.declared.Content.the-variants.{NoReading, Of}
 use Rattle.values.specs.declared.Answer.{Answer}
-use Rattle.values.specs.declared.Answer.the-variants.{Going, Value, Below, Done, No}
+use Rattle.values.specs.declared.Answer.the-variants.{Going, Value, None, Below, Done, No}
 use Rattle.slots.specs.declared.Slot.{Slot}
 use Rattle.arrays.specs.Arrays.{short}
 use Rattle.versions.specs.Versions.{slotAtIn, stampedIn, linkedIn}
@@ -120,11 +122,21 @@ totalFoundOf g i plus minus x t k n rows =
     let last = outcomeOf Idle t k n (signedOf plus′ minus′) in
     cond (leb x twelveDigits) (cond (goesOn rows g i) next last) (outcomeOf Idle t k n (No 18))
 
--- what follows where the version that the time needs has the reading x
-abbrev pub foundOf : Purpose → Reading → Announced → ℕ → ℕ → List ℕ → Outcome
-foundOf Single x t k n rows = outcomeOf Idle t k n (Value x)
-foundOf (Marked m) x t k n rows = outcomeOf Idle t k n (Value x)
-foundOf (Totaling g i plus minus) x t k n rows = totalFoundOf g i plus minus (x .count) t k n rows
+-- H10.3: what a get or a read answers that found this
+abbrev pub answerTo : Content → Answer
+answerTo NoReading = None
+answerTo (Of x) = Value x
+
+-- H12.6: what a total adds for it
+abbrev pub addsFor : Content → ℕ
+addsFor NoReading = 0
+addsFor (Of x) = x .count
+
+-- what follows where the version that the time needs holds x
+abbrev pub foundOf : Purpose → Content → Announced → ℕ → ℕ → List ℕ → Outcome
+foundOf Single x t k n rows = outcomeOf Idle t k n (answerTo x)
+foundOf (Marked m) x t k n rows = outcomeOf Idle t k n (answerTo x)
+foundOf (Totaling g i plus minus) x t k n rows = totalFoundOf g i plus minus (addsFor x) t k n rows
 
 -- Read (2) H5.37, H13.5: with a low that is at most the worker's time, or the mark's, the value there is found, which is a read's answer; else the
 -- read goes to the older neighbour.
@@ -138,7 +150,7 @@ readStandStep g c t k n l rows marks =
 unfoldable pub getShowStep : ℕ → Announced → ℕ → ℕ → List Slot → List ℕ → Stepped
 getShowStep r t k n l newest =
     record {
-      next = Taken (outcomeOf Idle t k n (Value (slotAtIn l (newestAt newest r) .value)));
+      next = Taken (outcomeOf Idle t k n (answerTo (slotAtIn l (newestAt newest r) .value)));
       row = stampedIn l (newestAt newest r) k;
       newest = newest;
     }

@@ -5,10 +5,11 @@ ghost use mathlib.Core.Bool.{cond};
 ghost use lib.ListN.{take};
 ghost use Rattle.versions.specs.Versions.{rowOf};
 ghost use Rattle.step.specs.Step.{newestAt, nextFree, putPublishStep, putStampStep, needOf, readEnterStep, signedOf, totalFoundOf};
-ghost use Rattle.step.specs.Step.{foundOf, readStandStep, getShowStep, markOrStop, timeStepOf, readOrSplit, freeOrDone, stepOf};
+ghost use Rattle.step.specs.Step.{answerTo, addsFor, foundOf, readStandStep, getShowStep, markOrStop, timeStepOf, readOrSplit, freeOrDone, stepOf};
 use announcing::Outcome;
 use marks::MarkNeed;
 use values::Answer;
+use values::Content;
 use values::Reading;
 use worker::Announced;
 use worker::Doing;
@@ -62,7 +63,7 @@ fn next_free(free: &[u16; 2048], n: usize) -> usize
 
 // Put (1).
 fn put_publish(
-    row: &mut [[u64; 5]],
+    row: &mut [[u64; 6]],
     newest: &mut [u16; 256],
     free: &[u16; 2048],
     register: u16,
@@ -91,7 +92,7 @@ fn put_publish(
 
 // Put (2).
 fn put_stamp(
-    row: &mut [[u64; 5]],
+    row: &mut [[u64; 6]],
     newest: &[u16; 256],
     register: u16,
     covered: u16,
@@ -131,7 +132,7 @@ fn need_for(x: Purpose) -> MarkNeed
 
 // Read (1).
 fn read_enter<'a>(
-    row: &mut [[u64; 5]],
+    row: &mut [[u64; 6]],
     newest: &[u16; 256],
     goal: Goal,
     t: Announced,
@@ -212,10 +213,30 @@ fn total_found(
     announcing::outcome_of(Doing::Idle, t, clock, n, Answer::No(18))
 }
 
-// What follows where the version that the time needs has the reading x.
+// What a get or a read answers that found x.
+fn answer_for(x: Content) -> Answer
+    ensures { λ r. ⌜ r ≡ answerTo x ⌝ }
+{
+    match x {
+        Content::NoReading => Answer::None,
+        Content::Of(reading) => Answer::Value(reading),
+    }
+}
+
+// What a total adds for x.
+fn count_of(x: Content) -> u64
+    ensures { λ r. ⌜ r ≡ addsFor x ⌝ }
+{
+    match x {
+        Content::NoReading => 0,
+        Content::Of(reading) => reading.count,
+    }
+}
+
+// What follows where the version that the time needs holds x.
 fn found(
     purpose: Purpose,
-    x: Reading,
+    x: Content,
     t: Announced,
     clock: u32,
     n: usize,
@@ -225,20 +246,31 @@ fn found(
     ensures { λ r. ⌜ r ≡ foundOf purpose x t clock n (take listed (now (rows .entry))) ⌝ }
 {
     match purpose {
-        Purpose::Single => announcing::outcome_of(Doing::Idle, t, clock, n, Answer::Value(x)),
-        Purpose::Marked(_) => announcing::outcome_of(Doing::Idle, t, clock, n, Answer::Value(x)),
+        Purpose::Single => announcing::outcome_of(Doing::Idle, t, clock, n, answer_for(x)),
+        Purpose::Marked(_) => announcing::outcome_of(Doing::Idle, t, clock, n, answer_for(x)),
         Purpose::Totaling {
             group,
             row,
             plus,
             minus,
-        } => total_found(group, row, plus, minus, x.count, t, clock, n, rows, listed),
+        } => total_found(
+            group,
+            row,
+            plus,
+            minus,
+            count_of(x),
+            t,
+            clock,
+            n,
+            rows,
+            listed,
+        ),
     }
 }
 
 // Read (2).
 fn read_stand(
-    row: &[[u64; 5]],
+    row: &[[u64; 6]],
     goal: Goal,
     slot: u16,
     t: Announced,
@@ -265,7 +297,7 @@ fn read_stand(
 
 // Get.
 fn get_show(
-    row: &mut [[u64; 5]],
+    row: &mut [[u64; 6]],
     newest: &[u16; 256],
     register: u16,
     t: Announced,
@@ -281,7 +313,7 @@ fn get_show(
     let v = versions::load(row, i);
     linking::stamp(row, i, clock);
     let x = v.value;
-    Next::Taken(announcing::outcome_of(Doing::Idle, t, clock, n, Answer::Value(x)))
+    Next::Taken(announcing::outcome_of(Doing::Idle, t, clock, n, answer_for(x)))
 }
 
 // A mark gets a time, or none, unless it meets the refusal k.
@@ -348,7 +380,7 @@ fn free_or_done(left: u16, t: Announced, clock: u32, n: usize) -> Next
 // A step of a worker at the place d with the announced time t, of p workers, with n slots free, and so many rows of totals. `reading` says of
 // the first p workers which mark each reads.
 pub fn step<'a>(
-    row: &mut [[u64; 5]],
+    row: &mut [[u64; 6]],
     newest: &mut [u16; 256],
     free: &[u16; 2048],
     d: Doing,

@@ -1,8 +1,14 @@
 // The values that the crates hand to each other.
 
-// What a version stores: a count of watt-hours.
+// A reading: a count of watt-hours.
 pub struct Reading {
     pub count: u64,
+}
+
+// What a version holds: no reading, where it is from setup, or the one that a put brought.
+pub enum Content {
+    NoReading,
+    Of(Reading),
 }
 
 // What the hub answers to a record.
@@ -12,6 +18,8 @@ pub enum Answer {
     Freed(u16),
     At(u32),
     Value(Reading),
+    // there is no reading
+    None,
     // a total below zero, by so much
     Below(Reading),
     Done,

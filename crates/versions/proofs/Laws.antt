@@ -1,6 +1,6 @@
 -- Laws of a row of words as the slots that it means: what is loaded and stored, a turn of the setup, and the neighbours of slots past the
 -- end.
-use mathlib.Core.Path.{_≡_, refl, sym, ap, _∙_}
+use mathlib.Core.Path.{_≡_, refl, sym, ap, ap₂, _∙_}
 use mathlib.Core.Bool.{Bool, true, false, _&&_}
 use mathlib.Core.List.{List, [], _∷_}
 use Prim.Native.Nat.{ℕ, zero, suc, _≤_, _<_, _+_, _-_, min}
@@ -11,9 +11,11 @@ use lib.Dec.{leb}
 use lib.ListN.{length, getD, set, length-map, List·getD-map, List·getD-eq-default}
 use lib.Seq.{set-out}
 use borrow.Author.Tests.{leb-true, leb-false, lt-ltb}
+use Rattle.values.specs.declared.Content.{Content}
+use Rattle.values.specs.declared.Content.the-variants.{NoReading, Of}
 use Rattle.slots.specs.declared.Slot.{Slot}
 use Rattle.slots.specs.Slots.{vacantSlot, linkedTo, madeSlot, madeTo}
-use Rattle.versions.specs.Versions.{slotIn, rowOf, slotAtIn}
+use Rattle.versions.specs.Versions.{contentIn, countWord, heldWord, slotIn, rowOf, slotAtIn}
 
 ------------------------------------------------------------------------
 -- Loads and stores
@@ -29,6 +31,19 @@ pub row-set : (l : List (List ℕ)) (i : ℕ) (x : List ℕ) → rowOf (set l i 
 row-set [] i x = refl
 row-set (y ∷ l) zero x = refl
 row-set (y ∷ l) (suc i) x = ap (λ (z : List Slot). slotIn y ∷ z) (row-set l i x)
+
+-- the two words of what a version holds mean that
+content-words : (c : Content) → contentIn (countWord c) (heldWord c) ≡ c
+content-words NoReading = refl
+content-words (Of x) = refl
+
+-- the words of a slot, stored
+pub row-stored : (l : List (List ℕ)) (i : ℕ) (s : Slot) (x k : ℕ) → x ≡ countWord (s .value) → k ≡ heldWord (s .value)
+    → rowOf (set l i (x ∷ s .low ∷ s .high ∷ s .older ∷ s .newer ∷ k ∷ [])) ≡ set (rowOf l) i s
+row-stored l i s x k e f =
+    row-set l i (x ∷ s .low ∷ s .high ∷ s .older ∷ s .newer ∷ k ∷ [])
+    ∙ ap (λ (c : Content). set (rowOf l) i (record { value = c; low = s .low; high = s .high; older = s .older; newer = s .newer }))
+    (ap₂ contentIn e f ∙ content-words (s .value))
 
 pub row-out : (l : List (List ℕ)) (i : ℕ) (s : Slot) → length l ≤ i → rowOf l ≡ set (rowOf l) i s
 row-out l i s h = sym (set-out (rowOf l) i s (rw (length-map l slotIn) h))

@@ -1,4 +1,4 @@
--- The version lists in a row of words, five a slot: the same changes as the model's (model/specs/Versions.antt), on the slots that the
+-- The version lists in a row of words, six a slot: the same changes as the model's (model/specs/Versions.antt), on the slots that the
 -- words mean.
 use mathlib.Core.Bool.{cond}
 use mathlib.Core.List.{List, map}
@@ -7,15 +7,30 @@ use lib.Dec.{eqb}
 use lib.ListN.{getD, set}
 use Rattle.model.specs.Store.{absent}
 use Rattle.values.specs.declared.Reading.{Reading}
+use Rattle.values.specs.declared.Content.{Content}
+use Rattle.values.specs.declared.Content.the-variants.{NoReading, Of}
 use Rattle.slots.specs.declared.Slot.{Slot}
 use Rattle.slots.specs.Slots.{vacantSlot}
 
 ------------------------------------------------------------------------
 -- Words
 
--- H1.7: value, low and high time, older and newer neighbour
+-- what a version holds, of the word that has its count and the word that is 0 where there is no reading
+abbrev pub contentIn : ℕ → ℕ → Content
+contentIn x k = cond (eqb k 0) NoReading (Of (record { count = x }))
+
+-- these two words of what a version holds
+abbrev pub countWord : Content → ℕ
+countWord NoReading = 0
+countWord (Of x) = x .count
+
+abbrev pub heldWord : Content → ℕ
+heldWord NoReading = 0
+heldWord (Of x) = 1
+
+-- H1.7: the count, low and high time, older and newer neighbour, and whether there is a reading
 abbrev pub slotIn : List ℕ → Slot
-slotIn l = record { value = record { count = getD l 0 0 }; low = getD l 1 0; high = getD l 2 0; older = getD l 3 0; newer = getD l 4 0 }
+slotIn l = record { value = contentIn (getD l 0 0) (getD l 5 0); low = getD l 1 0; high = getD l 2 0; older = getD l 3 0; newer = getD l 4 0 }
 
 abbrev pub rowOf : List (List ℕ) → List Slot
 rowOf l = map slotIn l
@@ -41,7 +56,7 @@ aloneSlot s = withOlder (withNewer s absent) absent
 
 -- H5.7: the version that a put publishes above slot i
 abbrev pub publishedSlot : Reading → ℕ → Slot
-publishedSlot x i = record { value = x; low = absent; high = absent; older = i; newer = absent }
+publishedSlot x i = record { value = Of x; low = absent; high = absent; older = i; newer = absent }
 
 ------------------------------------------------------------------------
 -- A row with some slots changed

@@ -1,15 +1,45 @@
-// The version slots as one lent row of words, five a slot: what stands in a slot, the test of neighbours and a setup. The words are those
-// of the struct `slots::Slot`, in its order.
+// The version slots as one lent row of words, six a slot: what stands in a slot, the test of neighbours and a setup. The words are the
+// count of its reading, low, high, older, newer, and one that is 0 where there is no reading.
 ghost use mathlib.Core.Path.{_≡_};
 ghost use Prim.Native.Nat.{min};
 ghost use lib.ListN.{set, getD};
 ghost use Rattle.slots.specs.Slots.{vacantSlot, linkedTo, madeTo};
-ghost use Rattle.versions.specs.Versions.{rowOf};
+ghost use Rattle.versions.specs.Versions.{rowOf, contentIn, countWord, heldWord};
 use slots::Slot;
+use values::Content;
 use values::Reading;
 
+// What the two words of a version say that it holds.
+fn content(x: u64, held: u64) -> Content
+    ensures { λ r. ⌜ r ≡ contentIn x held ⌝ }
+{
+    if held == 0 {
+        return Content::NoReading;
+    }
+    Content::Of(Reading { count: x })
+}
+
+// The two words of what a version holds.
+fn count(c: Content) -> u64
+    ensures { λ r. ⌜ r ≡ countWord c ⌝ }
+{
+    match c {
+        Content::NoReading => 0,
+        Content::Of(x) => x.count,
+    }
+}
+
+fn held(c: Content) -> u64
+    ensures { λ r. ⌜ r ≡ heldWord c ⌝ }
+{
+    match c {
+        Content::NoReading => 0,
+        Content::Of(_) => 1,
+    }
+}
+
 // The slot at an index; a vacant one past the end.
-pub fn load(row: &[[u64; 5]], i: usize) -> Slot
+pub fn load(row: &[[u64; 6]], i: usize) -> Slot
     ensures { λ r. ⌜ r ≡ getD (rowOf (now (row .entry))) i vacantSlot ⌝ }
 {
     if row.len() <= i {
@@ -17,7 +47,7 @@ pub fn load(row: &[[u64; 5]], i: usize) -> Slot
     }
     let w = row[i];
     Slot {
-        value: Reading { count: w[0] },
+        value: content(w[0], w[5]),
         low: w[1],
         high: w[2],
         older: w[3] as usize,
@@ -26,14 +56,22 @@ pub fn load(row: &[[u64; 5]], i: usize) -> Slot
 }
 
 // The slot at an index is replaced; past the end nothing is.
-pub fn store(row: &mut [[u64; 5]], i: usize, s: Slot)
+pub fn store(row: &mut [[u64; 6]], i: usize, s: Slot)
     ensures { λ _. ⌜ rowOf (now (row .exit)) ≡ set (rowOf (now (row .entry))) i s ⌝ }
 {
     if row.len() <= i {
         return;
     }
-    let v = s.value;
-    row[i] = [v.count, s.low, s.high, s.older as u64, s.newer as u64];
+    let value = s.value;
+    let x = count(value);
+    row[i] = [
+        x,
+        s.low,
+        s.high,
+        s.older as u64,
+        s.newer as u64,
+        held(value),
+    ];
 }
 
 fn at_most(n: usize, most: usize) -> usize
@@ -46,7 +84,7 @@ fn at_most(n: usize, most: usize) -> usize
 }
 
 // Whether the neighbours of the first n slots are slots below n or absent. Past the end of the row there are none to look at.
-pub fn all_linked(row: &[[u64; 5]], n: usize) -> bool
+pub fn all_linked(row: &[[u64; 6]], n: usize) -> bool
     ensures { λ r. ⌜ r ≡ linkedTo (rowOf (now (row .entry))) n n ⌝ }
 {
     let most = at_most(n, row.len());
@@ -59,7 +97,7 @@ pub fn all_linked(row: &[[u64; 5]], n: usize) -> bool
 }
 
 // The first n slots as a setup of v registers leaves them.
-pub fn set_up(row: &mut [[u64; 5]], v: usize, n: usize)
+pub fn set_up(row: &mut [[u64; 6]], v: usize, n: usize)
     ensures { λ _. ⌜ rowOf (now (row .exit)) ≡ madeTo (rowOf (now (row .entry))) v n ⌝ }
 {
     for i in 0..n {

@@ -36,10 +36,13 @@ returns-7 : tie.Need-returns-7
 returns-7 c = rw (c .match .keys7)
 
 returns-8 : tie.Need-returns-8
-returns-8 c =
+returns-8 c = rw (c .match .keys8)
+
+returns-9 : tie.Need-returns-9
+returns-9 c =
     let r = c .match .rest in
-    let a = past-three 0 zero-le (r .0 .0 .0 .0 .0 .0 .1) (r .0 .0 .0 .0 .0 .1) (r .0 .0 .0 .0 .1) in
-    refusal-past _ _ (past-three 3 a (r .0 .0 .0 .1) (r .0 .0 .1) (r .0 .1)) (r .1)
+    let a = past-three 0 zero-le (r .0 .0 .0 .0 .0 .0 .0 .1) (r .0 .0 .0 .0 .0 .0 .1) (r .0 .0 .0 .0 .0 .1) in
+    refusal-past _ _ (past-three 3 a (r .0 .0 .0 .0 .1) (r .0 .0 .0 .1) (r .0 .0 .1)) (r .0 .1) (r .1)
 
 pub answer-spec : {M : Type 1} → statement M
 answer-spec =
@@ -55,4 +58,5 @@ answer-spec =
     returns-5
     returns-6
     returns-7
-    returns-8)
+    returns-8
+    returns-9)

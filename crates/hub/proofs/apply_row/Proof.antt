@@ -121,14 +121,11 @@ module _ {M : Type 1} (𝓤 : URA M) (H : Heap 𝓤) (A : Atoms 𝓤) (W : Given
 
   -- what is given back
   abbrev back : Applied → List Slot → Answered
-  back r us = record { hub = r .hub; slots = us; answer = r .answer }
+  back r us = record { applied = r; slots = us }
 
   is-back : (r : Applied) (us : List Slot) → Is P.the-row r (applied-vals r) → Is (Array T.the-row 2048) us (array-vals vals us)
       → Is N.the-row (back r us) (answered-vals (back r us))
-  is-back r us gr gu = LL.owes N.the-type N′.the-laws (back r us) (
-    LL.owed P.the-type P′.the-laws r _ gr .0,
-    (field-is us gu, (LL.owed P.the-type P′.the-laws r _ gr .1 .0, tt)),
-  )
+  is-back r us gr gu = LL.owes N.the-type N′.the-laws (back r us) (gr, (field-is us gu, tt))
 
   exits : (r : Applied) (us : List Slot) (z : SingleLeft) → Said r us z (min m 2048) → Is N.the-row (back r us) (answered-vals (back r us))
       → ent 𝓤 (⋆ 𝓤 H A (raw (toks 𝓤 A 7 ks qs) ∷ ‵ (single-end x z) ∷ [])) (Fin (only (answered-vals (back r us))))
@@ -153,66 +150,63 @@ module _ {M : Type 1} (𝓤 : URA M) (H : Heap 𝓤) (A : Atoms 𝓤) (W : Given
         alloc1 ! (λ l0. alloc1 ! (λ l1. alloc1 ! (λ l2. alloc1 ! (λ l3. alloc1 ! (λ l4. alloc1 ! (λ l5. alloc1 ! (λ l6. alloc1 ! (λ l7.
         alloc1 ! (λ l8. alloc1 ! (λ l9. alloc1 ! (λ l10. alloc1 ! (λ l11. alloc1 ! (λ l12. alloc1 ! (λ l13. alloc1 ! (λ l14. alloc1 ! (λ l15.
         alloc1 ! (λ l16. alloc1 ! (λ l17. alloc1 ! (λ l18. alloc1 ! (λ l19. alloc1 ! (λ l20. alloc1 ! (λ l21. alloc1 ! (λ l22. alloc1 ! (λ l23.
-        alloc1 ! (λ l24. alloc1 ! (λ l25. alloc0 ! $ params1 ! $
-        pass1 ! (init ! 48 refl (typed-slots 𝓤 H A W ys gy)) $ pass1 ! (init ! 46 refl (tt, record { fits = gm })) $
-        pass1 ! (init ! 44 refl (typed-hub 𝓤 H A W hub gh)) $ pass1 ! (init ! 42 refl (tt, (tt, (record { fits = room₀ .0 }, tt)))) $
-        pass1 ! (init ! 40 refl (tt, (tt, (record { fits = room₁ .0 }, tt)))) $
-        pass1 ! (init ! 38 refl (tt, tt)) $ pass1 ! (init ! 36 refl (tt, tt)) $ pass1 ! (init ! 34 refl (tt, tt)) $
-        pass1 ! (init ! 32 refl (tt, tt)) $
-        pass1 ! (init ! 30 refl (tt, tt)) $ pass0 ! $
-        move ! (53 ∷ []) $ fsplit ! $ drop ! $ fsplit ! $ drop ! $ fsplit ! $ drop ! $ move ! (53 ∷ 0 ∷ []) $
-        -- [the tokens; what is lent; _25; …; _0]: local i stands at 52 - 2 i
-        assigns ! (of-opd ! (load ! (from ! (stop !)) (look ! 50 refl))) (from ! (stop !)) (init ! 30 refl (typed-slots 𝓤 H A W ys gy)) $
-        call-at-most ! mem run fm known-most m 2048 k is-k gm (lit< tt) (λ j. and-then ! (load ! (from ! (stop !)) (look ! 49 refl))
+        alloc1 ! (λ l24. alloc0 ! $ params1 ! $
+        pass1 ! (init ! 46 refl (typed-slots 𝓤 H A W ys gy)) $ pass1 ! (init ! 44 refl (tt, record { fits = gm })) $
+        pass1 ! (init ! 42 refl (typed-hub 𝓤 H A W hub gh)) $ pass1 ! (init ! 40 refl (tt, (tt, (record { fits = room₀ .0 }, tt)))) $
+        pass1 ! (init ! 38 refl (tt, (tt, (record { fits = room₁ .0 }, tt)))) $
+        pass1 ! (init ! 36 refl (tt, tt)) $ pass1 ! (init ! 34 refl (tt, tt)) $ pass1 ! (init ! 32 refl (tt, tt)) $
+        pass1 ! (init ! 30 refl (tt, tt)) $ pass1 ! (init ! 28 refl (tt, tt)) $ pass0 ! $
+        move ! (51 ∷ []) $ fsplit ! $ drop ! $ fsplit ! $ drop ! $ fsplit ! $ drop ! $ move ! (51 ∷ 0 ∷ []) $
+        -- [the tokens; what is lent; _24; …; _0]: local i stands at 50 - 2 i
+        assigns ! (of-opd ! (load ! (from ! (stop !)) (look ! 48 refl))) (from ! (stop !)) (init ! 28 refl (typed-slots 𝓤 H A W ys gy)) $
+        call-at-most ! mem run fm known-most m 2048 k is-k gm (lit< tt) (λ j. and-then ! (load ! (from ! (stop !)) (look ! 47 refl))
         (and-then ! (big-lit ! (record { fits = lit< tt })) (no-more !)))
-        (λ gk. land ! (from ! (stop !)) (init ! 28 refl (tt, record { fits = gk })) $
+        (λ gk. land ! (from ! (stop !)) (init ! 26 refl (tt, record { fits = gk })) $
         assigns ! (addr ! (from ! (stop !))) (from ! (stop !)) (init ! 22 refl (tt, tt)) $
         assigns ! (bin ! (load ! (from ! (stop !)) (look ! 22 refl)) (lit ! tt) tt) (from ! (stop !)) (init ! 20 refl (tt, tt)) $
-        assigns ! (bin ! (load ! (from ! (stop !)) (look ! 28 refl)) (lit ! tt) zero-le) (from ! (stop !))
+        assigns ! (bin ! (load ! (from ! (stop !)) (look ! 26 refl)) (lit ! tt) zero-le) (from ! (stop !))
         (init ! 18 refl (tt, record { fits = subst (λ (j : ℕ). j < 2 ^ 64) (sym (sub-zero k)) gk })) $
-        rewrite ! 18 (λ (j : ℕ). ‵ (fat fullShare (tyInt w64) l17 0 (vint w64 j))) (sub-zero k) refl $
+        rewrite ! 18 (λ (j : ℕ). ‵ (fat fullShare (tyInt w64) l16 0 (vint w64 j))) (sub-zero k) refl $
         assigns ! (addr ! (from ! (hop ! (look ! 20 refl) (stop !)))) (from ! (stop !)) (init ! 16 refl (tt, tt)) $
         assigns ! (agg ! (and-then ! (load ! (from ! (stop !)) (look ! 16 refl))
         (and-then ! (load ! (from ! (stop !)) (look ! 18 refl)) (no-more !))))
         (from ! (stop !)) (init ! 14 refl (tt, (tt, (record { fits = gk }, tt)))) $
-        assigns ! (addr ! (from ! (hop ! (look ! 40 refl) (stop !)))) (from ! (stop !)) (init ! 12 refl (tt, tt)) $
-        assigns ! (addr ! (from ! (hop ! (look ! 38 refl) (stop !)))) (from ! (stop !)) (init ! 10 refl (tt, tt)) $
-        assigns ! (addr ! (from ! (hop ! (look ! 36 refl) (stop !)))) (from ! (stop !)) (init ! 8 refl (tt, tt)) $
-        assigns ! (addr ! (from ! (hop ! (look ! 34 refl) (stop !)))) (from ! (stop !)) (init ! 6 refl (tt, tt)) $
-        assigns ! (addr ! (from ! (hop ! (look ! 32 refl) (stop !)))) (from ! (stop !)) (init ! 4 refl (tt, tt)) $
+        assigns ! (addr ! (from ! (hop ! (look ! 38 refl) (stop !)))) (from ! (stop !)) (init ! 12 refl (tt, tt)) $
+        assigns ! (addr ! (from ! (hop ! (look ! 36 refl) (stop !)))) (from ! (stop !)) (init ! 10 refl (tt, tt)) $
+        assigns ! (addr ! (from ! (hop ! (look ! 34 refl) (stop !)))) (from ! (stop !)) (init ! 8 refl (tt, tt)) $
+        assigns ! (addr ! (from ! (hop ! (look ! 32 refl) (stop !)))) (from ! (stop !)) (init ! 6 refl (tt, tt)) $
+        assigns ! (addr ! (from ! (hop ! (look ! 30 refl) (stop !)))) (from ! (stop !)) (init ! 4 refl (tt, tt)) $
         -- `_11` is lent, and the first k of it are lent on
-        move ! (30 ∷ []) $ lends-local ! tt T.the-row tt vals tells 2048 l11 (makes 𝓤 H A) ys gy slots-roomy (λ ν δ.
+        move ! (28 ∷ []) $ lends-local ! tt T.the-row tt vals tells 2048 l11 (makes 𝓤 H A) ys gy slots-roomy (λ ν δ.
         lends-front ! tt T.the-row 2048 l11 0 ys (gy .1 .0 .1) k within (λ β ε. move ! (0 ∷ 1 ∷ 4 ∷ 5 ∷ 2 ∷ 3 ∷ []) $
-        -- [the first slots; their token; the other tokens; what else is lent; what is kept; the lender's part; _25; …; that _11 dies; …; _0; …]
+        -- [the first slots; their token; the other tokens; what else is lent; what is kept; the lender's part; _24; …; that _11 dies; …; _0; …]
         call-apply ! mem run fm known k l11 0 (take k ys) long-front (front-roomy k within) hub ks qs x gh
-        (λ i j. and-then ! (load ! (from ! (stop !)) (look ! 16 refl)) (and-then ! (load ! (from ! (stop !)) (look ! 47 refl))
-        (and-then ! (load ! (from ! (stop !)) (look ! 45 refl)) (and-then ! (load ! (from ! (stop !)) (look ! 43 refl)) (and-then ! (load ! (from ! (stop !)) (look ! 14 refl))
-        (and-then ! (load ! (from ! (stop !)) (look ! 12 refl)) (and-then ! (load ! (from ! (stop !)) (look ! 10 refl))
-        (and-then ! (load ! (from ! (stop !)) (look ! 8 refl)) (and-then ! (load ! (from ! (stop !)) (look ! 6 refl)) (no-more !))))))))))
-        (λ r zs z e long gr. land ! (from ! (stop !)) (init ! 30 refl (typed-applied 𝓤 H A W r gr)) $
+        (λ i j. and-then ! (load ! (from ! (stop !)) (look ! 16 refl)) (and-then ! (load ! (from ! (stop !)) (look ! 45 refl))
+        (and-then ! (load ! (from ! (stop !)) (look ! 43 refl)) (and-then ! (load ! (from ! (stop !)) (look ! 41 refl))
+        (and-then ! (load ! (from ! (stop !)) (look ! 14 refl)) (and-then ! (load ! (from ! (stop !)) (look ! 12 refl))
+        (and-then ! (load ! (from ! (stop !)) (look ! 10 refl)) (and-then ! (load ! (from ! (stop !)) (look ! 8 refl))
+        (and-then ! (load ! (from ! (stop !)) (look ! 6 refl)) (no-more !))))))))))
+        (λ r zs z e long gr. land ! (from ! (stop !)) (init ! 28 refl (typed-applied 𝓤 H A W r gr)) $
         -- `_11` is back
         move ! (0 ∷ 1 ∷ 4 ∷ []) $ front-back ! tt T.the-row 2048 l11 0 ys (gy .1 .0 .1) k β ε zs $
         move ! (0 ∷ 1 ∷ 4 ∷ []) $ takes-back ! tt T.the-row tt vals tells 2048 l11 ν δ (joined zs) (λ gz.
-        assigns ! (of-opd ! (load ! (from ! (fld ! refl (stop !))) (look-in ! 27 (sub ! 0 refl (whole !))))) (from ! (stop !))
-        (init ! 25 refl (typed-hub 𝓤 H A W (r .hub) (LL.owed P.the-type P′.the-laws r _ gr .0))) $
         assigns ! (of-opd ! (load ! (from ! (stop !)) (look ! 0 refl))) (from ! (stop !)) (init ! 3 refl (typed-slots 𝓤 H A W (joined zs) gz)) $
-        rewrite ! 3 (λ (v : Val). ‵ (fat fullShare (tyArray T′.mir 2048) l25 0 v)) (field-val (joined zs)) refl $
+        rewrite ! 3 (λ (v : Val). ‵ (fat fullShare (tyArray T′.mir 2048) l24 0 v)) (field-val (joined zs)) refl $
         assigns ! (agg ! (and-then ! (load ! (from ! (stop !)) (look ! 25 refl))
-        (and-then ! (load ! (from ! (stop !)) (look ! 3 refl))
-        (and-then ! (load ! (from ! (fld ! refl (stop !))) (look-in ! 27 (sub ! 1 refl (whole !))))
-        (no-more !))))) (from ! (stop !)) (init ! 52 refl (typed-answered 𝓤 H A W (back r (joined zs)) (is-back r (joined zs) gr gz))) $
-        returns ! (look ! 52 refl) $ forget ! 52 refl $ forget ! 50 refl $ forget ! 48 refl $ forget ! 46 refl $ forget ! 44 refl $ forget ! 42 refl $ forget ! 40 refl $
-        forget ! 38 refl $ forget ! 36 refl $ forget ! 34 refl $ forget ! 32 refl $ forget ! 0 refl $ forget ! 29 refl $ forget ! 27 refl $
+        (and-then ! (load ! (from ! (stop !)) (look ! 3 refl)) (no-more !)))) (from ! (stop !))
+        (init ! 50 refl (typed-answered 𝓤 H A W (back r (joined zs)) (is-back r (joined zs) gr gz))) $
+        returns ! (look ! 50 refl) $ forget ! 50 refl $ forget ! 48 refl $ forget ! 46 refl $ forget ! 44 refl $ forget ! 42 refl $ forget ! 40 refl $
+        forget ! 38 refl $ forget ! 36 refl $ forget ! 34 refl $ forget ! 32 refl $ forget ! 30 refl $ forget ! 0 refl $ forget ! 27 refl $
         forget ! 25 refl $ forget ! 23 refl $ forget ! 21 refl $ forget ! 19 refl $ forget ! 17 refl $ forget ! 15 refl $ forget ! 13 refl $
         forget ! 11 refl $ forget ! 9 refl $ forget ! 7 refl $ forget ! 5 refl $ forget ! 3 refl $
-        move ! (52 ∷ 53 ∷ []) $ free1 ! $ move ! (50 ∷ 51 ∷ []) $ free1 ! $ move ! (48 ∷ 49 ∷ []) $ free1 ! $ move ! (46 ∷ 47 ∷ []) $ free1 ! $ move ! (44 ∷ 45 ∷ []) $ free1 ! $
+        move ! (50 ∷ 51 ∷ []) $ free1 ! $ move ! (48 ∷ 49 ∷ []) $ free1 ! $ move ! (46 ∷ 47 ∷ []) $ free1 ! $ move ! (44 ∷ 45 ∷ []) $ free1 ! $
         move ! (42 ∷ 43 ∷ []) $ free1 ! $ move ! (40 ∷ 41 ∷ []) $ free1 ! $ move ! (38 ∷ 39 ∷ []) $ free1 ! $ move ! (36 ∷ 37 ∷ []) $ free1 ! $
-        move ! (34 ∷ 35 ∷ []) $ free1 ! $ move ! (32 ∷ 33 ∷ []) $ free1 ! $ move ! (0 ∷ 31 ∷ []) $ free1 ! $ move ! (28 ∷ 29 ∷ []) $ free1 ! $
+        move ! (34 ∷ 35 ∷ []) $ free1 ! $ move ! (32 ∷ 33 ∷ []) $ free1 ! $ move ! (30 ∷ 31 ∷ []) $ free1 ! $ move ! (0 ∷ 29 ∷ []) $ free1 ! $
         move ! (26 ∷ 27 ∷ []) $ free1 ! $ move ! (24 ∷ 25 ∷ []) $ free1 ! $ move ! (22 ∷ 23 ∷ []) $ free1 ! $ move ! (20 ∷ 21 ∷ []) $ free1 ! $
         move ! (18 ∷ 19 ∷ []) $ free1 ! $ move ! (16 ∷ 17 ∷ []) $ free1 ! $ move ! (14 ∷ 15 ∷ []) $ free1 ! $ move ! (12 ∷ 13 ∷ []) $ free1 ! $
         move ! (10 ∷ 11 ∷ []) $ free1 ! $ move ! (8 ∷ 9 ∷ []) $ free1 ! $ move ! (6 ∷ 7 ∷ []) $ free1 ! $ move ! (4 ∷ 5 ∷ []) $ free1 ! $
         move ! (2 ∷ 3 ∷ []) $ free1 ! $ free0 ! $
-        by ! (exits r (joined zs) z (said r zs z long e) (is-back r (joined zs) gr gz)))))))))))))))))))))))))))))))))
+        by ! (exits r (joined zs) z (said r zs z long e) (is-back r (joined zs) gr gz))))))))))))))))))))))))))))))))
 
 module _ {M : Type 1} (𝓤 : URA M) (H : Heap 𝓤) (A : Atoms 𝓤) (W : Given 𝓤 H A) (mem : Memory → SProp 𝓤) (run : Routine → Fun 𝓤) (𝓣 : Tables 𝓤 H)
     (known-most : Triple 𝓤 (𝓣 .C #runs·at-most) (AtMost 𝓤 H A mem run)) (known : Triple 𝓤 (𝓣 .C #hub·apply) (Apply 𝓤 H A mem run)) where

@@ -51,7 +51,7 @@ use Rattle.hub.proofs.load_row.Code as code
 abbrev stayed : Stays (f.ended .signature .params) (f.ended .kept)
 stayed = (
   stay-dropped (shrSliceOf (0 ∷ []) tt (plain (λ _. T.the-row))) yes,
-  (stay-slice (1 ∷ []) tt (arrayOf (plain (λ _. u64)) 5), (stay-dropped (plain (λ _. usize)) yes, tt)),
+  (stay-slice (1 ∷ []) tt (arrayOf (plain (λ _. u64)) 6), (stay-dropped (plain (λ _. usize)) yes, tt)),
 )
 
 module _ {M : Type 1} (𝓤 : URA M) (H : Heap 𝓤) (A : Atoms 𝓤) (W : Given 𝓤 H A) (mem : Memory → SProp 𝓤) (run : Routine → Fun 𝓤)
@@ -87,7 +87,7 @@ module _ {M : Type 1} (𝓤 : URA M) (H : Heap 𝓤) (A : Atoms 𝓤) (W : Given
     walk : ent 𝓤 (onEntry 𝓤 H A f.signature (κ, (κ₁, tt)) (q, (q₁, tt)) (slice b o γ ys, (slice b₁ o₁ γ₁ ws, (n, tt))) at)
         (WpFn 𝓤 H (𝓣 .C) (𝓣 .Λ) code.function (sliceVal (b, o) (length ys) ∷ sliceVal (b₁, o₁) (length ws) ∷ vint w64 n ∷ []) Post)
     walk =
-        copied W 𝓣 T.the-row Words rowOf (tyArray (tyInt w64) 5) #slots·load #versions·store κ κ₁ q q₁ b o γ ys b₁ o₁ γ₁ ws n ys
+        copied W 𝓣 T.the-row Words rowOf (tyArray (tyInt w64) 6) #slots·load #versions·store κ κ₁ q q₁ b o γ ys b₁ o₁ γ₁ ws n ys
         (λ Γ E Q dst rest xs i gi os k. call-load-shared ! mem run fm known-load (length ys) b o ys i gi os k)
         (λ Γ E Q dst rest xs us i s l gi gs os k.
         call-store-words ! mem run fm known-store (length ws) b₁ o₁ us i s l room₁ gi gs os k)
@@ -109,7 +109,7 @@ module _ {M : Type 1} (𝓤 : URA M) (H : Heap 𝓤) (A : Atoms 𝓤) (W : Given
   load-row-meets =
       walk-meets 𝓤 H A f.ended stayed W (
         goes-dropped 𝓤 H A W 2 (shrSliceOf (0 ∷ []) tt (plain (λ _. T.the-row))) yes (λ κs x f. refl),
-        (goes-slice 𝓤 H A W 2 1 tt (arrayOf (plain (λ _. u64)) 5), (goes-dropped 𝓤 H A W 2 (plain (λ _. usize)) yes (λ κs x f. refl), tt)),
+        (goes-slice 𝓤 H A W 2 1 tt (arrayOf (plain (λ _. u64)) 6), (goes-dropped 𝓤 H A W 2 (plain (λ _. usize)) yes (λ κs x f. refl), tt)),
       )
       (f.clauses 𝓤 H A mem run) (WpFn 𝓤 H (𝓣 .C) (𝓣 .Λ) code.function) (WpFn-mono 𝓤 H (W .laws) 𝓣 code.function) load-row-walks
 

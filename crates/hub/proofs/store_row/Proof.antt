@@ -51,7 +51,7 @@ use Rattle.hub.proofs.store_row.Code as code
 
 abbrev stayed : Stays (f.ended .signature .params) (f.ended .kept)
 stayed = (
-  stay-dropped (shrSliceOf (0 ∷ []) tt (arrayOf (plain (λ _. u64)) 5)) yes,
+  stay-dropped (shrSliceOf (0 ∷ []) tt (arrayOf (plain (λ _. u64)) 6)) yes,
   (stay-slice (1 ∷ []) tt (plain (λ _. T.the-row)), (stay-dropped (plain (λ _. usize)) yes, tt)),
 )
 
@@ -110,7 +110,7 @@ module _ {M : Type 1} (𝓤 : URA M) (H : Heap 𝓤) (A : Atoms 𝓤) (W : Given
   store-row-meets : Meets 𝓤 H A f.signature (WpFn 𝓤 H (𝓣 .C) (𝓣 .Λ) code.function) (f.spec 𝓤 H A mem run)
   store-row-meets =
       walk-meets 𝓤 H A f.ended stayed W (
-        goes-dropped 𝓤 H A W 2 (shrSliceOf (0 ∷ []) tt (arrayOf (plain (λ _. u64)) 5)) yes (λ κs x f. refl),
+        goes-dropped 𝓤 H A W 2 (shrSliceOf (0 ∷ []) tt (arrayOf (plain (λ _. u64)) 6)) yes (λ κs x f. refl),
         (goes-slice 𝓤 H A W 2 1 tt (plain (λ _. T.the-row)), (goes-dropped 𝓤 H A W 2 (plain (λ _. usize)) yes (λ κs x f. refl), tt)),
       )
       (f.clauses 𝓤 H A mem run) (WpFn 𝓤 H (𝓣 .C) (𝓣 .Λ) code.function) (WpFn-mono 𝓤 H (W .laws) 𝓣 code.function) store-row-walks

@@ -26,6 +26,21 @@ returns-2 c =
     let a = c .before .before .before .args in
     simp (lt-ltb _ _ (c .before .if1 .left), lt-ltb (length (a .out .now)) (16 * (a .register + 1)) (omega arith)) (refl, refl)
 
+returns-3 : tie.Need-returns-3
+unfolding writeRow
+returns-3 c =
+    let s = c .before .before in
+    let a = s .before .before .before .args in
+    simp
+    (lt-ltb _ _ (s .before .if1 .left), le-ltb (length (a .out .now)) (16 * (a .register + 1)) (omega (arith, s .if2 .left)), c .enum-told .given .1)
+    (refl, refl)
+
+enum-told : tie.Need-enum-told
+enum-told c = search needs
+
+enum-known-content : tie.Need-enum-known-content
+enum-known-content c = search needs
+
 sub-put-row : tie.Need-sub-put-row
 sub-put-row c = search needs
 
@@ -41,12 +56,14 @@ put-row-requires c κs = search needs
 same-length : tie.Need-same-length
 same-length c = search needs
 
-returns-3 : tie.Need-returns-3
+returns-4 : tie.Need-returns-4
 unfolding writeRow
-returns-3 c =
-    let s = c .before .before .before .before in
+returns-4 c =
+    let k = c .before .before .before .before .before in
+    let s = k .before .before in
     let a = s .before .before .before .args in
-    simp (lt-ltb _ _ (s .before .if1 .left), le-ltb (length (a .out .now)) (16 * (a .register + 1)) (omega (arith, s .if2 .left)))
+    simp
+    (lt-ltb _ _ (s .before .if1 .left), le-ltb (length (a .out .now)) (16 * (a .register + 1)) (omega (arith, s .if2 .left)), k .content .given .1)
     (refl, row-back (a .out .now) _ _ (16 * a .register) (c .before .before .put-row .ensures))
 
 pub write-row-spec : {M : Type 1} → statement M
@@ -57,9 +74,12 @@ write-row-spec =
     mul-at
     add-e
     returns-2
+    enum-told
+    enum-known-content
     sub-put-row
     part-put-row-start
     part-put-row-end
     put-row-requires
+    returns-3
     same-length
-    returns-3)
+    returns-4)

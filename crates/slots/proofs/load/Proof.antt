@@ -43,7 +43,7 @@ use Rattle.slots.proofs.Slot as T
 use Rattle.slots.proofs.Slot.Laws as T′
 use Rattle.slots.proofs.Flow.{guards}
 use Rattle.slots.proofs.Calls.{slice}
-use Rattle.slots.proofs.Row.{vals, tells, typed, makes, place-fits}
+use Rattle.slots.proofs.Row.{vals, tells, typed, makes, place-fits, lowered}
 use Rattle.slots.proofs.ByValue.{Vacant, call-vacant}
 use Rattle.slots.proofs.vacant.Symbol as vacant-def
 use Rattle.slots.proofs.vacant.Symbol.{name as #slots·vacant}
@@ -67,10 +67,10 @@ module _ {M : Type 1} (𝓤 : URA M) (H : Heap 𝓤) (A : Atoms 𝓤) (W : Given
   abbrev Post : Val → SProp 𝓤
   Post = walkOf 𝓤 H A f.ended stayed (f.clauses 𝓤 H A mem run) .post (((κ, tt), (q, tt), tt, (slice b o γ ys, (i, tt)), at), tt)
 
-  exits : (e : Slot) → e ≡ getD ys i vacantSlot → Is T.the-row e (vals e) → ent 𝓤 (A .lft κ q) (Post (T′.lowered e))
+  exits : (e : Slot) → e ≡ getD ys i vacantSlot → Is T.the-row e (vals e) → ent 𝓤 (A .lft κ q) (Post (lowered e))
   exits e is g =
       qed W (‵ (flft κ q) ∷ []) ∵ suffices ! _ (ends-at 𝓤 H A f.ended stayed (f.clauses 𝓤 H A mem run) W
-      (((κ, tt), (q, tt), tt, (slice b o γ ys, (i, tt)), at), tt) (T′.lowered e) e (tt, (tt, tt)) (tt, (tt, tt))) $
+      (((κ, tt), (q, tt), tt, (slice b o γ ys, (i, tt)), at), tt) (lowered e) e (tt, (tt, tt)) (tt, (tt, tt))) $
       says ! is $
       nothing ! $ move ! (1 ∷ 0 ∷ []) $ join ! $ frame ! $ nothing ! $ nothing ! $ fjoin ! $ nothing ! $ fjoin ! $ frame ! $ owned ! T.the-row
       (Is T.the-row) (makes 𝓤 H A) e (vals e) g $ done !
@@ -98,7 +98,7 @@ module _ {M : Type 1} (𝓤 : URA M) (H : Heap 𝓤) (A : Atoms 𝓤) (W : Given
         (from ! (stop !)) (init ! 8 refl (tt, record { fits = place-fits i (length ys) l room })) $
         assigns ! (bin ! (load ! (from ! (fld ! refl (stop !))) (look-in ! 16 (sub ! 0 refl (whole !))))
         (load ! (from ! (stop !)) (look ! 8 refl)) tt) (from ! (stop !)) (init ! 6 refl (tt, tt)) $
-        rewrite ! 6 (λ (p : ℕ). ‵ (fat fullShare tyPtr l₆ 0 (vptr b p))) (sym (place-is 40 o i)) refl $
+        rewrite ! 6 (λ (p : ℕ). ‵ (fat fullShare tyPtr l₆ 0 (vptr b p))) (sym (place-is 48 o i)) refl $
         looks-slice ! tt T.the-row (Is T.the-row) (shows 𝓤 H A T.the-row) vals tells (LL.copy T.the-type T′.the-copy 𝓤 H A W) ys b o
         (λ q′. elem-out ! T.the-row (Is T.the-row) (shows 𝓤 H A T.the-row) vals tells q′ ys i vacantSlot b o l (λ g.
         -- [slots[i]; what it owns; the others; what shuts; the fractured borrow; res; the slice's fact; _7; …; _0; …]

@@ -42,7 +42,7 @@ use Rattle.slots.proofs.Slot as T
 use Rattle.slots.proofs.Slot.Laws as T′
 use Rattle.slots.proofs.Flow.{guards}
 use Rattle.slots.proofs.Calls.{slice}
-use Rattle.slots.proofs.Row.{vals, tells, typed, makes, place-fits, Slots}
+use Rattle.slots.proofs.Row.{vals, tells, typed, makes, place-fits, Slots, lowered}
 use Rattle.slots.proofs.store.Key.{name as #slots·store}
 use Rattle.slots.proofs.store as f
 use Rattle.slots.proofs.store.Statement as stated
@@ -78,10 +78,10 @@ module _ {M : Type 1} (𝓤 : URA M) (H : Heap 𝓤) (A : Atoms 𝓤) (W : Given
   module _ (C : Calls 𝓤 H) (Λ : Loops 𝓤 H) where
     walk : Room T.the-row (length ys) → i < 2 ^ 64 → Is T.the-row v (vals v)
         → ent 𝓤 (onEntry 𝓤 H A f.signature (κ, tt) (q, tt) (slice b o γ ys, (i, (v, tt))) at)
-        (WpFn 𝓤 H C Λ code.function (s ∷ vint w64 i ∷ T′.lowered v ∷ []) Post)
+        (WpFn 𝓤 H C Λ code.function (s ∷ vint w64 i ∷ lowered v ∷ []) Post)
     walk room gi g =
         qed W ((‵ (flft κ q) ⊛ ‵ ftrue) ∷ ‵ (owns (MutSlice (named 0) κ T.the-row ∷ usize ∷ T.the-row ∷ []) (slice b o γ ys, (i, (v, tt))) at) ∷ [])
-        ∵ enter ! C Λ code.function (s ∷ vint w64 i ∷ T′.lowered v ∷ []) _ $
+        ∵ enter ! C Λ code.function (s ∷ vint w64 i ∷ lowered v ∷ []) _ $
         alloc1 ! (λ l₀. alloc1 ! (λ l₁. alloc1 ! (λ l₂. alloc1 ! (λ l₃. alloc1 ! (λ l₄. alloc1 ! (λ l₅. alloc1 ! (λ l₆. alloc0 ! $ params1 ! $
         pass1 ! (init ! 10 refl (tt, (tt, (record { fits = room .0 }, tt)))) $ pass1 ! (init ! 8 refl (tt, record { fits = gi })) $ pass1 !
         (init ! 6 refl (typed 𝓤 H A W v g)) $ pass0 ! $
@@ -106,7 +106,7 @@ module _ {M : Type 1} (𝓤 : URA M) (H : Heap 𝓤) (A : Atoms 𝓤) (W : Given
         (from ! (stop !)) (store ! 8 refl (tt, record { fits = place-fits i (length ys) l room })) $
         assigns ! (bin ! (load ! (from ! (fld ! refl (stop !))) (look-in ! 14 (sub ! 0 refl (whole !))))
         (load ! (from ! (stop !)) (look ! 8 refl)) tt) (from ! (stop !)) (init ! 4 refl (tt, tt)) $
-        rewrite ! 4 (λ (p : ℕ). ‵ (fat fullShare tyPtr l₆ 0 (vptr b p))) (sym (place-is 40 o i)) refl $
+        rewrite ! 4 (λ (p : ℕ). ‵ (fat fullShare tyPtr l₆ 0 (vptr b p))) (sym (place-is 48 o i)) refl $
         opens-slice ! tt T.the-row ys b o $ elem-out ! T.the-row (Is T.the-row) (shows 𝓤 H A T.the-row) vals tells fullShare ys i v b o l (λ _.
         -- [slots[i]; what it owns; the others; the open borrow; obs; auth; the slice's fact; _6; …; _0; …]
         assigns ! (of-opd ! (load ! (from ! (stop !)) (look ! 13 refl))) (from ! (hop ! (look ! 7 refl) (stop !)))

@@ -13,6 +13,9 @@ load-requires c κs = search needs
 stamp-requires : tie.Need-stamp-requires
 stamp-requires c κs = search needs
 
+answer-for-requires : tie.Need-answer-for-requires
+answer-for-requires c κs = search needs
+
 outcome-of-requires : tie.Need-outcome-of-requires
 outcome-of-requires c κs = search needs
 
@@ -22,7 +25,8 @@ same-length c = search needs
 returns : tie.Need-returns
 returns c =
     let s = c .before .before .before in
-    got _ _ (s .before .before .before .before .newest-of .ensures) (s .stamp .ensures) (s .before .before .load .ensures) (c .outcome-of .ensures)
+    got _ _ (s .before .before .before .before .newest-of .ensures) (s .stamp .ensures) (s .before .before .load .ensures)
+    (c .before .answer-for .ensures) (c .outcome-of .ensures)
 
 pub get-show-spec : {M : Type 1} → statement M
 get-show-spec =
@@ -31,6 +35,7 @@ get-show-spec =
     newest-of-requires
     load-requires
     stamp-requires
+    answer-for-requires
     outcome-of-requires
     same-length
     returns)

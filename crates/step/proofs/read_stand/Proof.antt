@@ -19,9 +19,9 @@ found-requires c κs = search needs
 
 returns : tie.Need-returns
 returns c =
-    let s = c .before .before .before .before in
+    let s = c .before .before .before in
     read-found _ _ _ _ _ _ _ (s .before .before .wide .ensures) (s .before .load .ensures) (s .time-for .ensures)
-    (le-leb _ _ (c .before .before .if1 .taken)) (c .found .ensures)
+    (le-leb _ _ (c .before .if1 .taken)) (c .found .ensures)
 
 cast-older : tie.Need-cast-older
 cast-older c = search needs

@@ -17,11 +17,14 @@ mul-w c = search needs
 shared-slice-copy-out-w : tie.Need-shared-slice-copy-out-w
 shared-slice-copy-out-w c = search needs
 
-array-read-t10 : tie.Need-array-read-t10
-array-read-t10 c = search needs
+array-read-content : tie.Need-array-read-content
+array-read-content c = search needs
 
-array-read-t14 : tie.Need-array-read-t14
-array-read-t14 c = search needs
+array-read-content-2 : tie.Need-array-read-content-2
+array-read-content-2 c = search needs
+
+content-requires : tie.Need-content-requires
+content-requires c κs = search needs
 
 array-read-t17 : tie.Need-array-read-t17
 array-read-t17 c = search needs
@@ -32,8 +35,12 @@ array-read-t20 c = search needs
 array-read-t23 : tie.Need-array-read-t23
 array-read-t23 c = search needs
 
+array-read-t26 : tie.Need-array-read-t26
+array-read-t26 c = search needs
+
 returns-2 : tie.Need-returns-2
-returns-2 c = row-get (c .before .before .args .row .now) (c .before .before .args .i)
+returns-2 c =
+    rw (c .content .ensures) (row-get (c .before .before .before .args .row .now) (c .before .before .before .args .i))
 
 pub load-spec : {M : Type 1} → statement M
 load-spec =
@@ -43,9 +50,11 @@ load-spec =
     returns
     mul-w
     shared-slice-copy-out-w
-    array-read-t10
-    array-read-t14
+    array-read-content
+    array-read-content-2
+    content-requires
     array-read-t17
     array-read-t20
     array-read-t23
+    array-read-t26
     returns-2)
