@@ -16,7 +16,7 @@ pub enum Refusal {
     Register = 4,
     /// 5: setup outside its ranges.
     Setup = 5,
-    /// 6: fewer than 16 bytes.
+    /// 6: fewer than 16 bytes; no whole number of rows (A6).
     Length = 6,
     /// 7: read-out buffer too short.
     Buffer = 7,
@@ -36,7 +36,7 @@ pub enum Refusal {
     NoFreeSlot = 14,
     /// 15: open's first step, clock at its last value.
     LastClock = 15,
-    /// 16: put value too large (A1).
+    /// 16: put value too large (A1); so is an old row's (A6).
     Value = 16,
     /// 17: total of a group with no rows (A2).
     Group = 17,
@@ -48,11 +48,13 @@ pub enum Refusal {
     MarkEmpty = 20,
     /// 21: release while a read of the mark runs (A3).
     MarkRead = 21,
+    /// 22: a new row with another DIF or VIF, or a digit above nine (A6).
+    Coding = 22,
 }
 
 impl Refusal {
     /// All refusals, in the order of their numbers.
-    pub const ALL: [Refusal; 21] = [
+    pub const ALL: [Refusal; 22] = [
         Refusal::Operation,
         Refusal::UnusedByte,
         Refusal::Worker,
@@ -74,6 +76,7 @@ impl Refusal {
         Refusal::MarkUsed,
         Refusal::MarkEmpty,
         Refusal::MarkRead,
+        Refusal::Coding,
     ];
 
     /// The refusal's number.

@@ -376,11 +376,12 @@ impl Coverage {
         each(&mut self.lists, &other.lists);
     }
 
-    /// Every count with its name. Refusal 7 is the row writer's and has no part in a log.
+    /// Every count with its name. Refusals 7 and 22 are of rows and have no part in a log.
     pub fn counts(&self) -> Vec<(String, u64)> {
         let answers = Self::ANSWERS.iter().zip(self.answers);
         let answers = answers.map(|(name, n)| (format!("answer {name}"), n));
-        let refusals = Refusal::ALL.iter().filter(|&&r| r != Refusal::Buffer);
+        let of_rows = [Refusal::Buffer, Refusal::Coding];
+        let refusals = Refusal::ALL.iter().filter(|refusal| !of_rows.contains(refusal));
         let refusals = refusals.map(|r| {
             let number = r.number();
             (format!("no {number}"), self.refusals[usize::from(number)])

@@ -161,6 +161,25 @@ faults! {
     RowNoneFirst ROW_NONE_FIRST
     /// A5: the row writer answers `none` before it tests 7.
     RowNoneBeforeBuffer ROW_NONE_BEFORE_BUFFER
+
+    /// A6: the six bytes of digits most significant first.
+    BytesReversed BYTES_REVERSED
+    /// A6: the tens of each byte in its low half.
+    HalvesExchanged HALVES_EXCHANGED
+    /// A6: finds 16 or 22 only after the rows before were written.
+    WrittenFirst WRITTEN_FIRST
+    /// A6: tests 16 and 22 before 6.
+    LengthLast LENGTH_LAST
+    /// A6: does not test 6, and leaves a part of a row as it is.
+    RestIgnored REST_IGNORED
+    /// A6: does not test the DIF.
+    DifUntested DIF_UNTESTED
+    /// A6: does not test the VIF.
+    VifUntested VIF_UNTESTED
+    /// A6: accepts a digit of ten.
+    DigitTen DIGIT_TEN
+    /// A6: judges the first eight bytes: refuses a row whose two bytes after the register are not zero.
+    FirstBytesJudged FIRST_BYTES_JUDGED
 }
 
 /// The largest value that a put may bring, or what a fault takes for it.

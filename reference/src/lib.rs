@@ -1,11 +1,13 @@
 //! An independent reading of document 01 and of the requests of document 02 that have landed (A1 to
-//! A3 and A5): the hub's snapshot store, its log, and the tools that check them.
+//! A3, A5 and A6): the hub's snapshot store, its log, its rows, and the tools that check them.
 //!
 //! Each module has one topic. `hub` answers records over the `store`; `steps`, `flush` and `marks`
 //! are what its workers do. `order` is the checker of demand 3 and shares no code with them;
 //! `listing` and `timeline` show the order that it finds.
 
 pub mod answer;
+pub mod bcd;
+pub mod buffers;
 pub mod census;
 pub mod coverage;
 pub mod explore;

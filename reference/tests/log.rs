@@ -132,7 +132,7 @@ fn what_is_no_log() {
         "0 ok \n",
         "0 freed\n",
         "0 freed 01\n",
-        "0 no 22\n",
+        "0 no 23\n",
         "0 none 0\n",
         "0 None\n",
         "0 value\n",

@@ -335,7 +335,7 @@ fn the_tables_numbers() {
         assert_eq!(Refusal::from_number(place as u64 + 1), Some(*refusal));
     }
     assert_eq!(Refusal::from_number(0), None);
-    assert_eq!(Refusal::from_number(22), None);
+    assert_eq!(Refusal::from_number(23), None);
     assert_eq!(words(&[no(15), no(18), no(19), no(21)]), ["no 15", "no 18", "no 19", "no 21"]);
 }
 
