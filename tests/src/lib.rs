@@ -1,4 +1,5 @@
-//! Runs `hublog` and holds its log against the second program and the checker of demand 3.
+//! Runs `hublog` and holds its log against the second program and the checker of demand 3; runs `rows`
+//! on buffers of stored rows.
 
 use reference::coverage::Coverage;
 use reference::fault::Right;
@@ -8,7 +9,7 @@ use reference::{log, order, Hub};
 use std::ffi::OsString;
 use std::io::{Read, Write};
 use std::path::{Path, PathBuf};
-use std::process::{Child, Command, Stdio};
+use std::process::{Child, Command, Output, Stdio};
 use std::sync::atomic::{AtomicUsize, Ordering};
 use std::thread;
 
@@ -16,9 +17,10 @@ use std::thread;
 fn program(variable: &str) -> OsString {
     std::env::var_os(variable).unwrap_or_else(|| {
         panic!(
-            "{variable} is not set: in the top folder prove and build both programs with \
-             `rt check hublog && rt check eachlog`, and run `HUBLOG=$PWD/target/bin/hublog \
-             EACHLOG=$PWD/target/bin/eachlog cargo test --offline --manifest-path tests/Cargo.toml`"
+            "{variable} is not set: in the top folder prove and build the programs with \
+             `rt check hublog && rt check eachlog && rt check rows`, and run \
+             `HUBLOG=$PWD/target/bin/hublog EACHLOG=$PWD/target/bin/eachlog \
+             ROWS=$PWD/target/bin/rows cargo test --offline --manifest-path tests/Cargo.toml`"
         )
     })
 }
@@ -107,6 +109,18 @@ pub fn each_printed(
     }
     command.args(lent.iter().map(Named::as_ref));
     printed_by(started(&mut command), file, &[])
+}
+
+/// What `rows`, the environment's `ROWS`, does with an input; it need not read it to its end.
+pub fn moved(arguments: &[&str], input: &[u8]) -> Output {
+    let mut command = Command::new(program("ROWS"));
+    command.args(arguments).stdin(Stdio::piped()).stdout(Stdio::piped()).stderr(Stdio::piped());
+    let mut child = started(&mut command);
+    let mut stdin = child.stdin.take().expect("piped");
+    thread::scope(|scope| {
+        scope.spawn(move || drop(stdin.write_all(input)));
+        child.wait_with_output().expect("rows ends")
+    })
 }
 
 fn printed_by(mut child: Child, file: &[u8], pieces: &[usize]) -> Vec<u8> {
