@@ -8,6 +8,7 @@ use std::process::{Command, Output};
 const HUBLOG: &str = env!("CARGO_BIN_EXE_reference-hublog");
 const WORKLOAD: &str = env!("CARGO_BIN_EXE_workload");
 const BENCH: &str = env!("CARGO_BIN_EXE_bench");
+const ROWS: &str = env!("CARGO_BIN_EXE_reference-rows");
 const SPACE: &str = env!("CARGO_BIN_EXE_space");
 
 fn run(program: &str, arguments: &[&str]) -> Output {
@@ -117,6 +118,46 @@ fn bench_counts_instructions() {
     assert!(text(&count().stderr).contains("valgrind fails on"));
     fs::remove_file(programs.join("valgrind")).unwrap();
     assert_eq!(count().status.code(), Some(1));
+}
+
+#[test]
+fn bench_times_rows() {
+    let files = directory("bench-rows");
+    let paths = ["--rows", ROWS, ROWS, files.to_str().unwrap()];
+    let bench = |options: &[&str]| run(BENCH, &[&paths[..], options].concat());
+    let output = bench(&["--records", "500", "--rounds", "3"]);
+    assert!(output.status.success(), "{}", text(&output.stderr));
+    let printed = text(&output.stdout);
+    for name in ["to-new", "to-old", "to-new, no rows"] {
+        assert!(printed.contains(&format!("\n| {name:<15} | ")), "no {name} in\n{printed}");
+    }
+    assert!(printed.contains("500 rows a file, seed 1, 3 rounds."), "{printed}");
+    assert_eq!(fs::metadata(files.join("rows-to-old-500")).unwrap().len(), 16 * 500);
+    assert_eq!(bench(&["--records", "262145"]).status.code(), Some(1));
+    // One that writes back what it reads.
+    let other = files.join("other");
+    fs::write(&other, "#!/bin/sh\nexec cat\n").unwrap();
+    use std::os::unix::fs::PermissionsExt;
+    fs::set_permissions(&other, fs::Permissions::from_mode(0o755)).unwrap();
+    let paths = ["--rows", ROWS, other.to_str().unwrap(), files.to_str().unwrap()];
+    let output = run(BENCH, &[&paths[..], &["--records", "5"]].concat());
+    assert_eq!((output.status.code(), text(&output.stdout)), (Some(1), ""));
+    assert!(text(&output.stderr).contains("other writes other rows for "));
+}
+
+#[test]
+fn bench_counts_instructions_of_rows() {
+    let (files, programs) = (directory("bench-rows-counted"), directory("bench-rows-valgrind"));
+    valgrind(&programs, "echo \"==7== Collected : 25000\" >&2");
+    let arguments = ["--rows", ROWS, ROWS, files.to_str().unwrap(), "--records", "1000"];
+    let mut command = Command::new(BENCH);
+    command.args(arguments).arg("--instructions").env("PATH", &programs);
+    let output = command.output().unwrap();
+    assert!(output.status.success(), "{}", text(&output.stderr));
+    let printed = text(&output.stdout);
+    let line = printed.lines().find(|line| line.starts_with("| to-old ")).expect("its line");
+    let cells: Vec<&str> = line.split('|').map(str::trim).collect();
+    assert_eq!(cells[2..7], ["25000", "25000", "25.0", "25.0", "1.00"], "{printed}");
 }
 
 #[test]

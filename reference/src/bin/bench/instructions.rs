@@ -9,7 +9,7 @@ pub fn count(program: &Path, input: &Input) -> Result<u64, String> {
     let output = Command::new("valgrind")
         .args(["--tool=callgrind", "--callgrind-out-file=/dev/null"])
         .arg(program)
-        .args(&input.list)
+        .args(&input.argument)
         .stdin(input.open()?)
         .stdout(Stdio::null())
         .output()

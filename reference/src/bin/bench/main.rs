@@ -1,10 +1,12 @@
 //! Times two programs on the same record files and prints the tables of docs/PERFORMANCE.md.
-//! First the logs of both are compared on every file; where they differ, the run fails.
+//! First the logs of both are compared on every file; where they differ, the run fails. With `--rows` the
+//! programs are those that move stored rows.
 
 mod compare;
 mod instructions;
 mod measured;
 mod process;
+mod rows;
 mod tables;
 
 use compare::compare;
@@ -18,7 +20,9 @@ use std::process::ExitCode;
 
 const USAGE: &str =
     "usage: bench HUBLOG SECOND DIRECTORY [--records N] [--rounds N] [--seed N] [--instructions]
+       bench --rows ROWS SECOND DIRECTORY [--records N] [--rounds N] [--seed N] [--instructions]
 HUBLOG and SECOND are the two programs, DIRECTORY is where the record files and lists go;
+with --rows they move stored rows, N of them, at most 262144;
 with --instructions callgrind counts, and nothing is timed";
 
 /// The tables of growth, each with a sentence. Growth is that of the bests.
@@ -45,34 +49,45 @@ struct Options {
     seed: u64,
     /// Count instructions and time nothing.
     instructions: bool,
+    /// The programs move stored rows.
+    rows: bool,
 }
 
 impl Options {
     fn parse(mut arguments: impl Iterator<Item = String>) -> Option<Options> {
         let mut paths = Vec::new();
-        let (mut records, mut rounds, mut seed, mut instructions) = (None, 5, 1, false);
+        let (mut records, mut rounds, mut seed) = (None, None, 1);
+        let (mut instructions, mut rows) = (false, false);
         while let Some(argument) = arguments.next() {
             let mut number = || arguments.next()?.parse().ok();
             match argument.as_str() {
                 "--records" => records = Some(number().filter(|&n| n > 0)?),
-                "--rounds" => rounds = number().filter(|&n| n > 0)?,
+                "--rounds" => rounds = Some(number().filter(|&n| n > 0)?),
                 "--seed" => seed = number()? as u64,
                 "--instructions" => instructions = true,
+                "--rows" => rows = true,
                 option if option.starts_with("--") => return None,
                 _ => paths.push(PathBuf::from(argument)),
             }
         }
         let [hublog, second, directory] = paths.try_into().ok()?;
-        let records = records.unwrap_or(if instructions { 100_000 } else { 10_000_000 });
+        let (most, usual) = match (rows, instructions) {
+            (true, _) => (rows::MOST, rows::MOST),
+            (false, true) => (usize::MAX, 100_000),
+            (false, false) => (usize::MAX, 10_000_000),
+        };
+        let records = records.or(Some(usual)).filter(|&records| records <= most)?;
+        // A run on rows takes some milliseconds.
+        let rounds = rounds.unwrap_or(if rows { 200 } else { 5 });
         let programs = [hublog, second];
-        Some(Options { programs, directory, records, rounds, seed, instructions })
+        Some(Options { programs, directory, records, rounds, seed, instructions, rows })
     }
 
     /// A workload's file, and that of its list where it has one.
     fn input(&self, workload: Workload) -> Input {
         let file = self.directory.join(workload.name());
         let listed = !workload.list(self.seed).is_empty();
-        Input { list: listed.then(|| file.with_extension("list")), file }
+        Input { argument: listed.then(|| file.with_extension("list")), file }
     }
 
     /// Makes a workload's file, and its list's, and compares the logs of both programs on it.
@@ -92,9 +107,9 @@ impl Options {
     }
 
     /// Writes a workload's file and its list's; how many pools are queued, on average?
-    fn write(&self, workload: Workload, Input { file, list }: &Input) -> io::Result<f64> {
+    fn write(&self, workload: Workload, Input { file, argument }: &Input) -> io::Result<f64> {
         fs::create_dir_all(&self.directory)?;
-        if let Some(list) = list {
+        if let Some(list) = argument {
             fs::write(list, workload.list(self.seed))?;
         }
         let mut output = BufWriter::with_capacity(1 << 16, File::create(file)?);
@@ -176,6 +191,9 @@ fn print_instructions(all: &[Measured], &Options { records, seed, .. }: &Options
 }
 
 fn run(options: &Options) -> Result<(), String> {
+    if options.rows {
+        return rows::run(options);
+    }
     let prepared = Workload::ALL.into_iter().map(|workload| options.prepare(workload));
     let mut all = prepared.collect::<Result<Vec<_>, _>>()?;
     if options.instructions {

@@ -32,7 +32,7 @@ pub struct Figures {
 }
 
 impl Figures {
-    fn of(times: &[Times], records: usize) -> Figures {
+    pub fn of(times: &[Times], records: usize) -> Figures {
         let sorted = |time: fn(&Times) -> Duration| {
             let each = times.iter().map(|times| time(times).as_nanos() as f64 / records as f64);
             let mut each: Vec<f64> = each.collect();

@@ -1,4 +1,4 @@
-//! A program run on a record file, for its time or for its log.
+//! A program run on a file of records or rows, for its time or for its log.
 
 use std::ffi::{c_int, c_long};
 use std::fs::{self, File};
@@ -45,10 +45,10 @@ pub struct Times {
 
 /// What a program is run on.
 pub struct Input {
-    /// The record file, which is its standard input.
+    /// The file of records or rows, which is its standard input.
     pub file: PathBuf,
-    /// The file of the list of totals, which is its argument; without one it gets none.
-    pub list: Option<PathBuf>,
+    /// Its argument: the file of the list of totals, or which way rows are moved; none without one.
+    pub argument: Option<PathBuf>,
 }
 
 impl Input {
@@ -59,7 +59,7 @@ impl Input {
 
 fn start(program: &Path, input: &Input, output: Stdio) -> Result<Child, String> {
     let records = input.open()?;
-    let child = Command::new(program).args(&input.list).stdin(records).stdout(output).spawn();
+    let child = Command::new(program).args(&input.argument).stdin(records).stdout(output).spawn();
     child.map_err(|error| format!("{}: {error}", program.display()))
 }
 

@@ -9,7 +9,7 @@ fn ns(time: f64) -> String {
     format!("{time:.1}")
 }
 
-fn ratio(numerator: f64, denominator: f64) -> String {
+pub fn ratio(numerator: f64, denominator: f64) -> String {
     format!("{:.2}", numerator / denominator)
 }
 
