@@ -38,3 +38,4 @@ pub mod ByHigh
 pub mod Reached
 pub mod Refusals
 pub mod Document
+pub mod Digits

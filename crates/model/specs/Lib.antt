@@ -12,6 +12,7 @@ pub mod Steps
 pub mod Record
 pub mod Apply
 pub mod Row
+pub mod Digits
 pub mod Log
 pub mod Cases
 pub mod Demand
