@@ -1,2 +1,3 @@
 pub mod Over
 pub mod Mapped
+pub mod Storing

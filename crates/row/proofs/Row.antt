@@ -1,12 +1,16 @@
 -- The row as the writers leave it: four numbers fill sixteen bytes, and these come back into the lent buffer.
-use mathlib.Core.Path.{_≡_, ap}
+use mathlib.Core.Path.{_≡_, refl, ap}
 use mathlib.Core.List.{List, [], _++_, append-assoc}
-use Prim.Native.Nat.{ℕ, _+_, _-_}
+use Prim.Native.Nat.{ℕ, zero, suc, _+_, _-_, _/_}
 use native.Mathlib.Omega.{arith}
 use lib.ListN.{length, take, drop, drop-of-length-le}
 use lib.Seq.{drop-drop}
 use Rattle.lists.specs.Over.{overAt}
 use Rattle.model.specs.Row.{bytesOf}
+
+pub length-bytesOf : (n x : ℕ) → length (bytesOf n x) ≡ n
+length-bytesOf zero x = refl
+length-bytesOf (suc n) x = ap suc (length-bytesOf n (x / 256))
 
 -- numbers of 2, 2, 4 and 8 bytes, stored one after the other, fill sixteen bytes
 pub four-numbers : (d : List ℕ) (r z t v : ℕ) → length d ≡ 16

@@ -1,19 +1,22 @@
 -- `put_number` meets its contract: the loop keeps `Storing`, by which the bytes still to be stored lead to what is to be left behind.
 -- The measure is the number of those bytes.
+use mathlib.Core.Path.{refl}
 use Prim.Native.Nat.{_-_}
-use Rattle.row.proofs.Bytes.{Storing, storing-start, storing-turn, storing-end}
+use Rattle.lists.proofs.Storing.{Storing, storing-start, storing-turn, storing-end}
+use Rattle.model.specs.Row.{bytesOf}
+use Rattle.row.proofs.Row.{length-bytesOf}
 use borrow.Author.Needs.{needs}
 use Rattle.row.proofs.put_number.Statement.{statement}
 use Rattle.row.proofs.put_number.Tie as tie
 
 abbrev Inv-loop : tie.InvT-loop
-Inv-loop row₀ from n x rest₀ i₀ row rest i = Storing row₀ row from n x rest i
+Inv-loop row₀ from n x rest₀ i₀ row rest i = Storing bytesOf row₀ row from n x rest i
 
 abbrev μ-loop : tie.MeasureT-loop
 μ-loop row₀ from n x rest₀ i₀ row rest i = n - i
 
 loop-holds : tie.Need-loop-holds Inv-loop μ-loop
-loop-holds c = storing-start _ _ _ _
+loop-holds c = storing-start bytesOf _ _ _ _
 
 cast-row : tie.Need-cast-row Inv-loop μ-loop
 cast-row c = search needs
@@ -31,13 +34,13 @@ loop-less : tie.Need-loop-less Inv-loop μ-loop
 loop-less c = search needs
 
 loop-again : tie.Need-loop-again Inv-loop μ-loop
-loop-again c = storing-turn _ _ _ _ _ _ _ (c .before .loop .inv) (c .loop-test .taken)
+loop-again c = storing-turn bytesOf _ _ _ _ _ _ _ _ _ (λ m. refl) (c .before .loop .inv) (c .loop-test .taken)
 
 same-length : tie.Need-same-length Inv-loop μ-loop
 same-length c = c .before .loop .inv .kept
 
 returns : tie.Need-returns Inv-loop μ-loop
-returns c = storing-end _ _ _ _ _ _ _ (c .before .loop .inv) (c .loop-test .left) (c .before .before .pre)
+returns c = storing-end bytesOf _ _ _ _ _ _ _ refl (length-bytesOf _ _) (c .before .loop .inv) (c .loop-test .left) (c .before .before .pre)
 
 pub put-number-spec : {M : Type 1} → statement M
 put-number-spec =
