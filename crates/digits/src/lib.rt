@@ -1,20 +1,22 @@
 // Stored rows given EN 13757-3 digits, and given back their old form, within their buffer: H14 of docs/HUB.md.
 ghost use mathlib.Core.Path.{_≡_};
-ghost use Prim.Native.Nat.{_/_, _<_};
+ghost use Prim.Native.Nat.{_*_, _≤_, _<_};
 ghost use lib.ListN.{length, getD};
 ghost use Rattle.lists.specs.Over.{overAt};
 ghost use Rattle.model.specs.Record as Record;
 ghost use Rattle.model.specs.Row.{bytesOf};
-ghost use Rattle.model.specs.Digits.{bcdByte, bcdOf, ofBcdByte, bcdNumber, isBcdByte, isBcd, mayBe, inForm, refusalFor};
+ghost use Rattle.model.specs.Digits.{bcdOf, ofBcdByte, bcdNumber, isBcdByte, isBcd, mayBe, inForm, refusalFor};
 ghost use Rattle.model.specs.Digits.{allMayBe, allInForm, toNew, toOld};
 ghost use Rattle.model.specs.Digits as Model;
 ghost use Rattle.digits.specs.Meaning.{formOf, rowsAnswerOf};
 
-// H14.3: twelve digits, watt-hours. H7.9: the largest number of twelve digits.
+// H14.3: twelve digits in BCD.
 const DIF: u8 = 0x0E;
 
+// H14.3: watt-hours.
 const VIF: u8 = 0x03;
 
+// H7.9: the largest number of twelve digits.
 const TWELVE_DIGITS: u64 = 999_999_999_999;
 
 // The form that rows are given.
@@ -98,14 +100,6 @@ fn may_be(row: &[u8], to: Form) -> bool
     }
 }
 
-// A number below 100 as a byte of two digits.
-fn bcd_byte(x: u64) -> u8
-    requires { ⌜ x < 100 ⌝ }
-    ensures { λ r. ⌜ r ≡ bcdByte x ⌝ }
-{
-    (16 * (x / 10) + x % 10) as u8
-}
-
 // Writes a number over the last bytes of a row: in six bytes of two digits, or in eight bytes.
 fn put_bcd(row: &mut [u8], x: u64)
     requires { ⌜ length (now row) ≡ 16 ⌝ }
@@ -114,7 +108,8 @@ fn put_bcd(row: &mut [u8], x: u64)
     let mut rest = x;
     let mut i = 0;
     while i < 6 {
-        row[10 + i] = bcd_byte(rest % 100);
+        let two = rest % 100;
+        row[10 + i] = (16 * (two / 10) + two % 10) as u8;
         rest /= 100;
         i += 1;
     }
@@ -152,11 +147,11 @@ fn put_in_form(row: &mut [u8], to: Form)
     }
 }
 
-// Whether each row may be given the form.
-fn all_may_be(rows: &[u8], to: Form) -> bool
-    ensures { λ r. ⌜ r ≡ allMayBe (formOf to) (length (now (rows .entry)) / 16) (now (rows .entry)) ⌝ }
+// Whether each of n rows may be given the form.
+fn all_may_be(rows: &[u8], n: usize, to: Form) -> bool
+    requires { ⌜ 16 * n ≤ length (now rows) ⌝ }
+    ensures { λ r. ⌜ r ≡ allMayBe (formOf to) n (now (rows .entry)) ⌝ }
 {
-    let n = rows.len() / 16;
     let mut i = 0;
     while i < n {
         let at = 16 * i;
@@ -169,11 +164,11 @@ fn all_may_be(rows: &[u8], to: Form) -> bool
     true
 }
 
-// Gives each row the form.
-fn put_all_in_form(rows: &mut [u8], to: Form)
-    ensures { λ _. ⌜ now (rows .exit) ≡ allInForm (formOf to) (length (now (rows .entry)) / 16) (now (rows .entry)) ⌝ }
+// Gives each of n rows the form.
+fn put_all_in_form(rows: &mut [u8], n: usize, to: Form)
+    requires { ⌜ 16 * n ≤ length (now rows) ⌝ }
+    ensures { λ _. ⌜ now (rows .exit) ≡ allInForm (formOf to) n (now (rows .entry)) ⌝ }
 {
-    let n = rows.len() / 16;
     let mut i = 0;
     while i < n {
         let at = 16 * i;
@@ -192,10 +187,11 @@ fn convert(rows: &mut [u8], to: Form, refusal: u8) -> RowsAnswer
     if rows.len() % 16 != 0 {
         return RowsAnswer::No(6);
     }
-    if !all_may_be(&rows[..], to) {
+    let n = rows.len() / 16;
+    if !all_may_be(&rows[..], n, to) {
         return RowsAnswer::No(refusal);
     }
-    put_all_in_form(rows, to);
+    put_all_in_form(rows, n, to);
     RowsAnswer::Converted
 }
 

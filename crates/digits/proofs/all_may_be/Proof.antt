@@ -9,10 +9,10 @@ use Rattle.digits.proofs.all_may_be.Statement.{statement}
 use Rattle.digits.proofs.all_may_be.Tie as tie
 
 abbrev Inv-loop : tie.InvT-loop
-Inv-loop rows to n i₀ i = Testing (formOf to) n rows i
+Inv-loop rows n to i₀ i = Testing (formOf to) n rows i
 
 abbrev μ-loop : tie.MeasureT-loop
-μ-loop rows to n i₀ i = n - i
+μ-loop rows n to i₀ i = n - i
 
 loop-holds : tie.Need-loop-holds Inv-loop μ-loop
 loop-holds c = testing-start _ _ _

@@ -7,10 +7,10 @@ use Rattle.digits.proofs.put_all_in_form.Statement.{statement}
 use Rattle.digits.proofs.put_all_in_form.Tie as tie
 
 abbrev Inv-loop : tie.InvT-loop
-Inv-loop rows₀ to n i₀ rows i = Putting (formOf to) n rows₀ rows i
+Inv-loop rows₀ n to i₀ rows i = Putting (formOf to) n rows₀ rows i
 
 abbrev μ-loop : tie.MeasureT-loop
-μ-loop rows₀ to n i₀ rows i = n - i
+μ-loop rows₀ n to i₀ rows i = n - i
 
 loop-holds : tie.Need-loop-holds Inv-loop μ-loop
 loop-holds c = putting-start _ _ _ (search needs)

@@ -16,11 +16,17 @@ abbrev μ-loop : tie.MeasureT-loop
 loop-holds : tie.Need-loop-holds Inv-loop μ-loop
 loop-holds c = storing-start bcdOf _ _ _ _
 
-bcd-byte-requires : tie.Need-bcd-byte-requires Inv-loop μ-loop
-bcd-byte-requires c κs = search needs
+mul-row : tie.Need-mul-row Inv-loop μ-loop
+mul-row c = search needs
 
 add-row : tie.Need-add-row Inv-loop μ-loop
 add-row c = search needs
+
+cast-row : tie.Need-cast-row Inv-loop μ-loop
+cast-row c = search needs
+
+add-row-2 : tie.Need-add-row-2 Inv-loop μ-loop
+add-row-2 c = search needs
 
 slice-write-row : tie.Need-slice-write-row Inv-loop μ-loop
 slice-write-row c = search needs
@@ -32,8 +38,7 @@ loop-less : tie.Need-loop-less Inv-loop μ-loop
 loop-less c = search needs
 
 loop-again : tie.Need-loop-again Inv-loop μ-loop
-loop-again c =
-    storing-turn bcdOf _ _ _ _ _ _ _ _ _ (λ m. rw (c .bcd-byte .ensures)) (c .before .before .loop .inv) (c .before .loop-test .taken)
+loop-again c = storing-turn bcdOf _ _ _ _ _ _ _ _ _ (λ m. refl) (c .before .loop .inv) (c .loop-test .taken)
 
 same-length : tie.Need-same-length Inv-loop μ-loop
 same-length c = c .before .loop .inv .kept
@@ -48,8 +53,10 @@ put-bcd-spec =
     Inv-loop
     μ-loop
     loop-holds
-    bcd-byte-requires
+    mul-row
     add-row
+    cast-row
+    add-row-2
     slice-write-row
     add-i
     loop-less
