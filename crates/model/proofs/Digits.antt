@@ -20,7 +20,7 @@ use Rattle.model.specs.Record.{number}
 use Rattle.model.specs.Row.{bytesOf}
 use Rattle.model.specs.Digits.{bcdByte, bcdOf, ofBcdByte, bcdNumber, isBcdByte, isBcd}
 use Rattle.model.specs.Digits.{Form, Old, New, dif, vif, mayBe, inForm, refusalFor, allMayBe, allInForm}
-use Rattle.model.specs.Digits.{Converted, RowsNo, convert, Bytes, Back, ThereAndBack, HeadsKept, Example}
+use Rattle.model.specs.Digits.{Converted, RowsNo, convert, Bytes, Back, ThereAndBack, HeadsKept, RowExample}
 use Rattle.model.proofs.Basic.{lt-cases, cond-both}
 
 ------------------------------------------------------------------------
@@ -268,6 +268,6 @@ heads-kept to buf i =
     (λ may. all-heads to n buf (omega (arith, eqb-true (length buf % 16) 0 whole)) i) (λ no. refl))
     (λ part. refl)
 
-pub example : Example
+pub row-example : RowExample
 unfolding convert allMayBe allInForm mayBe inForm
-example = (refl, refl)
+row-example = (refl, refl)

@@ -143,5 +143,5 @@ oldRow = 7 ∷ 0 ∷ 0 ∷ 0 ∷ 2 ∷ 1 ∷ 0 ∷ 0 ∷ 0x14 ∷ 0x1A ∷ 0x99 
 abbrev pub newRow : List ℕ
 newRow = 7 ∷ 0 ∷ 0 ∷ 0 ∷ 2 ∷ 1 ∷ 0 ∷ 0 ∷ 0x0E ∷ 0x03 ∷ 0x12 ∷ 0x90 ∷ 0x78 ∷ 0x56 ∷ 0x34 ∷ 0x12 ∷ []
 
-abbrev pub Example : Type 0
-Example = (toNew oldRow .buffer ≡ newRow) × (toOld newRow .buffer ≡ oldRow)
+abbrev pub RowExample : Type 0
+RowExample = (toNew oldRow .buffer ≡ newRow) × (toOld newRow .buffer ≡ oldRow)
