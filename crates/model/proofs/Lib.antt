@@ -39,3 +39,6 @@ pub mod Reached
 pub mod Refusals
 pub mod Document
 pub mod Digits
+pub mod TwoRunsBare
+pub mod TwoRunsStep
+pub mod TwoRunsCalls

@@ -21,4 +21,5 @@ pub mod Reached
 pub mod Figure
 pub mod Refusals
 pub mod Runs
+pub mod TwoRuns
 pub mod Document
