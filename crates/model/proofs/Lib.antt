@@ -42,3 +42,5 @@ pub mod Digits
 pub mod TwoRunsBare
 pub mod TwoRunsStep
 pub mod TwoRunsCalls
+pub mod TwoRunsTold
+pub mod TwoRuns

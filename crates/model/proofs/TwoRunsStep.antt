@@ -51,7 +51,7 @@ exact : {b : Bool} {x y : Stepped} → bare (x .store) ≡ bare (y .store) → x
 exact p q = record { stores = p; answers = ap withoutValue q; equal = λ u. q }
 
 -- the same branch of a test
-cond-two {ℓ} : {A : Type ℓ} (R : A → A → Type 0) (t t′ : Bool) (x y x′ y′ : A) → t ≡ t′ → (t ≡ true → R x x′) → R y y′ → R (cond t x y) (cond t′ x′ y′)
+pub cond-two {ℓ} : {A : Type ℓ} (R : A → A → Type 0) (t t′ : Bool) (x y x′ y′ : A) → t ≡ t′ → (t ≡ true → R x x′) → R y y′ → R (cond t x y) (cond t′ x′ y′)
 cond-two R t t′ x y x′ y′ e f g = rw (← e) (go t refl)
   where
     go : (b : Bool) → t ≡ b → R (cond b x y) (cond b x′ y′)
@@ -268,7 +268,7 @@ module _ (b : Bool) (s : Store) (l : List Slot) (ws : List Worker) (sl : map bar
   found-like y (Totaling g i z) x x′ e f =
       total-like g i z y (countOf x) (countOf x′) e (λ v. (ap countOf (f v .0), ap sumFor (f v .1)))
 
-  time-like : (y : Sum) (u : Purpose) → timeFor (s .marks) (workerAt s w .announced) u ≡ timeFor (t .marks) (workerAt t w .announced) (purposeWith y u)
+  pub time-like : (y : Sum) (u : Purpose) → timeFor (s .marks) (workerAt s w .announced) u ≡ timeFor (t .marks) (workerAt t w .announced) (purposeWith y u)
   time-like y Single = announced-like s l ws sl sw w
   time-like y (Marked m) = refl
   time-like y (Totaling g i z) = announced-like s l ws sl sw w
