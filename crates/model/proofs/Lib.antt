@@ -44,3 +44,4 @@ pub mod TwoRunsStep
 pub mod TwoRunsCalls
 pub mod TwoRunsTold
 pub mod TwoRuns
+pub mod TwoRunsWorker

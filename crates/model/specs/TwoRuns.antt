@@ -1,11 +1,11 @@
 -- Two runs that differ only in values put to one register: what each of them answers, and what their hubs have in common. Proved in
--- proofs/TwoRuns.antt.
+-- proofs/TwoRuns.antt, and for one worker in proofs/TwoRunsWorker.antt.
 --
 -- A value put to register r reaches nobody but the workers that look at r: those whose operation is a get, a read or a marked read of r, or a total
 -- of a group with a row of r. All other answers are the same in both runs, record by record, the answers to the puts themselves too; and what is
 -- answered to a worker that looks at r is the same but for the value.
 use mathlib.Core.Path.{_≡_}
-use mathlib.Core.Bool.{Bool, false, _||_}
+use mathlib.Core.Bool.{Bool, false, cond, _||_}
 use mathlib.Core.Logic.{_⊎_}
 use mathlib.Core.List.{List, [], _∷_, map}
 use mathlib.Core.Option.{none, some}
@@ -17,9 +17,10 @@ use Rattle.model.specs.Store.{PutHandIn, FlushTake, FlushRead, FlushFree
 use Rattle.model.specs.Store.{workerAt, withSlots, withWorkers, withDoing}
 use Rattle.model.specs.Rules.{Rules, twelveDigits, Ruled}
 use Rattle.model.specs.Answer.{Answer, Ok, Going, Freed, At, Value, None, Below, Done, No}
-use Rattle.model.specs.Record.{Put, SetUp, Begin, Step, Decoded, Asks, Refuses, decode}
+use Rattle.model.specs.Record.{Operation, Put, Open, Read, Close, Get, Collect, Total, Mark, Release, MarkedRead, SetUp, Begin}
+use Rattle.model.specs.Record.{Step, Decoded, Asks, Refuses, decode}
 use Rattle.model.specs.Apply.{valueWithin, applyRuled}
-use Rattle.model.specs.Demand.{Event, events}
+use Rattle.model.specs.Demand.{Event, events, All, rowsIn}
 
 -- two lists of one length whose entries are related one by one
 abbrev pub Pairwise : {A : Type 0} → (A → A → Type 0) → List A → List A → Type 0
@@ -164,3 +165,48 @@ TwoRuns =
     (row : List Slot) (setup : Ruled) → applyRuled (blank row) setup .answer ≡ Ok
     → (r : ℕ) (records records′ : List Ruled) → Pairwise (Alike r) records records′
     → Pairwise (SameAnswers r) (events (applyRuled (blank row) setup .hub) records) (events (applyRuled (blank row) setup .hub) records′)
+
+------------------------------------------------------------------------
+-- A worker that keeps off register r
+
+-- the operation looks at register r, on a hub with these rows of totals
+abbrev pub looksIn : ℕ → List ℕ → Operation → Bool
+looksIn r rows (Put q x) = false
+looksIn r rows Open = false
+looksIn r rows (Read q) = eqb q r
+looksIn r rows Close = false
+looksIn r rows (Get q) = eqb q r
+looksIn r rows Collect = false
+looksIn r rows (Total g) = names r (ofGroup g rows)
+looksIn r rows (Mark m) = false
+looksIn r rows (Release m) = false
+looksIn r rows (MarkedRead q m) = eqb q r
+
+-- no operation of worker w that the record begins looks at register r: one that does is refused
+abbrev pub KeepsOff : ℕ → List ℕ → ℕ → Decoded → Answer → Type 0
+KeepsOff r rows w (Asks (SetUp z)) a = Unit {0}
+KeepsOff r rows w (Asks (Begin v c)) a = v ≡ w → a ≡ Ok → looksIn r rows c ≡ false
+KeepsOff r rows w (Asks (Step v)) a = Unit {0}
+KeepsOff r rows w (Refuses k) a = Unit {0}
+
+-- the record is one of worker w
+abbrev pub isOf : ℕ → Decoded → Bool
+isOf w (Asks (SetUp z)) = false
+isOf w (Asks (Begin v c)) = eqb v w
+isOf w (Asks (Step v)) = eqb v w
+isOf w (Refuses k) = false
+
+-- what worker w is answered
+unfoldable pub answersFor : ℕ → List Event → List Answer
+answersFor w [] = []
+answersFor w (e ∷ es) = cond (isOf w (decode (e .bytes))) (e .answer ∷ answersFor w es) (answersFor w es)
+
+-- In two runs that differ only in values put to register r, a worker that keeps off r in one of them gets the same answers throughout.
+abbrev pub SameForWorker : Type 0
+SameForWorker =
+    (row : List Slot) (setup : Ruled) → applyRuled (blank row) setup .answer ≡ Ok
+    → (r : ℕ) (records records′ : List Ruled) → Pairwise (Alike r) records records′
+    → (w : ℕ)
+    → All (λ e. KeepsOff r (rowsIn (applyRuled (blank row) setup .hub)) w (decode (e .bytes)) (e .answer))
+    (events (applyRuled (blank row) setup .hub) records)
+    → answersFor w (events (applyRuled (blank row) setup .hub) records) ≡ answersFor w (events (applyRuled (blank row) setup .hub) records′)
