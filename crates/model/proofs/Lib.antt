@@ -39,9 +39,3 @@ pub mod Reached
 pub mod Refusals
 pub mod Document
 pub mod Digits
-pub mod TwoRunsBare
-pub mod TwoRunsStep
-pub mod TwoRunsCalls
-pub mod TwoRunsTold
-pub mod TwoRuns
-pub mod TwoRunsWorker

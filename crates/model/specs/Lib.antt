@@ -21,5 +21,4 @@ pub mod Reached
 pub mod Figure
 pub mod Refusals
 pub mod Runs
-pub mod TwoRuns
 pub mod Document

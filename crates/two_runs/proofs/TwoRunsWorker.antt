@@ -9,22 +9,22 @@ use native.Mathlib.Omega.{arith}
 use lib.Dec.{eqb}
 use lib.ListN.{List·getD-eq-default}
 use borrow.Author.Tests as Tests
 use Rattle.model.specs.Store.{OpenAnnounce, OpenPass, CloseWithdraw, MarkKeep, MarkRelease, Purpose, Single, Marked, Totaling, Doing, Idle}
 use Rattle.model.specs.Store.{PutPublish, PutStamp, PutHandIn, FlushTake, FlushRead, FlushFree, OnTime, ReadEnter, ReadStand, GetShow}
 use Rattle.model.specs.Store.{startWorker, Site, Store, Hub, blank, up, workerAt}
 use Rattle.model.specs.About.{about}
 use Rattle.model.specs.Rules.{Rules, Ruled}
 use Rattle.model.specs.Answer.{Answer, Ok, Going, Freed, At, Value, None, Below, Done, No, said}
 use Rattle.model.specs.Record.{Operation, SetUp, Begin, Step, Decoded, Asks, Refuses, decode, rowsOf}
 use Rattle.model.specs.Apply.{fresh, applyRuled}
 use Rattle.model.specs.Demand.{Event, events, Call, Unfinished, callAt, endFor, observe, effects, Plain, plain₀, All, occurrences, rowsIn}
-use Rattle.model.specs.TwoRuns.{Pairwise, Alike, looksFor, looksAt, looksBy, SameAnswers, looksIn, KeepsOff, isOf, answersFor, SameForWorker}
+use Rattle.two_runs.specs.TwoRuns.{Pairwise, Alike, looksFor, looksAt, looksBy, SameAnswers, looksIn, KeepsOff, isOf, answersFor, SameForWorker}
 use Rattle.model.proofs.Basic.{lt-cases, All-at, All-append, All-map, All-through}
 use Rattle.model.proofs.Invariant.{Ctx, ctx, Serves, FitsFlush, FitsTime, Fits, CurrentOf, Inv}
 use Rattle.model.proofs.View.{idle-is}
 use Rattle.model.proofs.Record.{Holds, apply-holds}
 use Rattle.model.proofs.Setup.{Accepted, accepts, accepted-inv}
-use Rattle.model.proofs.TwoRuns.{two-runs}
+use Rattle.two_runs.proofs.TwoRuns.{two-runs}
 
 ------------------------------------------------------------------------
 -- A place looks at what its operation looks at

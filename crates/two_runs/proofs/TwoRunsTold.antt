@@ -12,24 +12,24 @@ use native.Mathlib.Omega.{arith}
 use lib.Dec.{leb, eqb}
 use lib.ListN.{length, take}
 use borrow.Author.Tests as Tests
 use Rattle.model.specs.Totals.{Sum, groupOf, registerOf, rowAt, ofGroup, addRow}
 use Rattle.model.specs.Store.{Reading, Content, countOf, Slot, Purpose, Single, Marked, Totaling, Goal, Doing, Idle, PutPublish, PutStamp}
 use Rattle.model.specs.Store.{PutHandIn, FlushTake, FlushRead, FlushFree, OnTime, ReadEnter, ReadStand, GetShow, Worker, Store, workerAt, slotAt}
 use Rattle.model.specs.Store.{newestOf, withSlots, withWorkers}
 use Rattle.model.specs.Marks.{timeFor}
 use Rattle.model.specs.Rules.{twelveDigits}
 use Rattle.model.specs.Versions.{stamp, stampSlots}
 use Rattle.model.specs.Demand.{Call, Plain, plain₀, sumOver, changeEffects}
-use Rattle.model.specs.TwoRuns.{names, looksFor, looksAt, purposeWith, goalWith, placeWith, bareWorker, bareSlot, bare}
+use Rattle.two_runs.specs.TwoRuns.{names, looksFor, looksAt, purposeWith, goalWith, placeWith, bareWorker, bareSlot, bare}
 use Rattle.model.proofs.Slots.{stamp-value}
 use Rattle.model.proofs.Chain.{On-found}
 use Rattle.model.proofs.Linear.{after}
 use Rattle.model.proofs.Invariant.{ctx, chain, timeIn, copyFor, Summed, PlaceHolds, Inv}
 use Rattle.model.proofs.Stamp.{Stamped, stamp-inv}
 use Rattle.model.proofs.Places.{doing-is}
-use Rattle.model.proofs.TwoRunsBare.{stamp-like, bare-like, slot-like}
-use Rattle.model.proofs.TwoRunsStep.{Told, time-like}
-use Rattle.model.proofs.TwoRunsCalls.{AlikeCalls, AlikeContent, AlikeRegisters, AlikeCopy, AlikePlain, change-effects-like, plain-like}
+use Rattle.two_runs.proofs.TwoRunsBare.{stamp-like, bare-like, slot-like}
+use Rattle.two_runs.proofs.TwoRunsStep.{Told, time-like}
+use Rattle.two_runs.proofs.TwoRunsCalls.{AlikeCalls, AlikeContent, AlikeRegisters, AlikeCopy, AlikePlain, change-effects-like, plain-like}
 
 ------------------------------------------------------------------------
 -- Groups with no row of register r

@@ -9,17 +9,17 @@ use Prim.Native.Nat.{ℕ, zero, suc, _≤_, _<_}
 use lib.Dec.{eqb}
 use lib.ListN.{getD}
 use borrow.Author.Tests as Tests
 use Rattle.model.specs.Store.{Reading, Content, countOf, Slot, slot₀, Worker, startWorker, Store, workerAt, slotAt}
 use Rattle.model.specs.Rules.{twelveDigits}
 use Rattle.model.specs.About.{Effect, NoEffect, ByStamp, ByClock, about}
 use Rattle.model.specs.Answer.{Answer, Ok, Going, Freed, At, Value, None, Below, Done, No, said}
 use Rattle.model.specs.Record.{Operation, Put, Open, Read, Close, Get, Collect, Total, Mark, Release, MarkedRead}
 use Rattle.model.specs.Demand.{Ending, Unfinished, RefusedAt, FinishedAt, Call, call₀, callAt, endAs, endBy, endOnce, endFor, Plain, plain₀, update}
 use Rattle.model.specs.Demand.{feed, isUnfinished, runningOf, comes, stampedOver, passed, filterBelow, changeEffects, atEnd, finishes, endEffects}
-use Rattle.model.specs.TwoRuns.{Pairwise, withoutValue, bareWorker, bareSlot, bare}
+use Rattle.two_runs.specs.TwoRuns.{Pairwise, withoutValue, bareWorker, bareSlot, bare}
 use Rattle.model.proofs.Linear.{after}
 use Rattle.model.proofs.Effect.{takes, below-same}
-use Rattle.model.proofs.TwoRunsBare.{map-getD, effect-like}
+use Rattle.two_runs.proofs.TwoRunsBare.{map-getD, effect-like}
 
 ------------------------------------------------------------------------
 -- Two lists, entry by entry

@@ -9,26 +9,26 @@ use mathlib.Core.Option.{Option, none, some}
 use Prim.Native.Nat.{ℕ, _+_, _<_}
 use lib.Dec.{ltb}
 use borrow.Author.Tests as Tests
 use Rattle.model.specs.Store.{absent, markCount, Slot, Doing, Worker, Store, Hub, up, workerAt, withSlots, withWorkers, place}
 use Rattle.model.specs.About.{about}
 use Rattle.model.specs.Marks.{MarkNeed, markOf, markRefusal}
 use Rattle.model.specs.Rules.{Rules, Ruled}
 use Rattle.model.specs.Answer.{Answer, Ok, Applied, said}
 use Rattle.model.specs.Steps.{stepAt}
 use Rattle.model.specs.Record.{Operation, Put, SetUp, Begin, Step, Decoded, Asks, Refuses, decode, rowsOf}
 use Rattle.model.specs.Apply.{refuse, unless, fresh, setUp, TimeNeed, Terms, terms, namedBelow, groupThere, valueWithin, mayOpen, mayUseTime, isIdle}
 use Rattle.model.specs.Apply.{refusedBy, begin, step, obey, applyDecoded, apply, applyRuled}
 use Rattle.model.specs.Demand.{events, Call, Unfinished, endFor, Plain, plain₀, observe, effects, stepEffects, changeEffects, endEffects}
-use Rattle.model.specs.TwoRuns.{Pairwise, PutsAlike, Alike, looksAt, looksBy, withoutValue, placeWith, barePlace, bareWorker, bareSlot, bare}
-use Rattle.model.specs.TwoRuns.{SameButValues, SameAnswers, TwoRuns}
+use Rattle.two_runs.specs.TwoRuns.{Pairwise, PutsAlike, Alike, looksAt, looksBy, withoutValue, placeWith, barePlace, bareWorker, bareSlot, bare}
+use Rattle.two_runs.specs.TwoRuns.{SameButValues, SameAnswers, TwoRuns}
 use Rattle.model.proofs.Invariant.{Inv}
 use Rattle.model.proofs.Record.{Holds, apply-holds}
 use Rattle.model.proofs.Setup.{accepts, accepted-inv}
-use Rattle.model.proofs.TwoRunsBare.{readingOf, sumOf, place-is, idle-like, looks-like, bare-like, worker-like, announced-like, refusal-like, placed}
-use Rattle.model.proofs.TwoRunsStep.{Like, cond-two, step-like}
-use Rattle.model.proofs.TwoRunsCalls.{pairwise-snoc, pairwise-map, said-like, AlikeOperation, AlikeCall, AlikeCalls, end-for-like, end-effects-like}
-use Rattle.model.proofs.TwoRunsCalls.{change-effects-like}
-use Rattle.model.proofs.TwoRunsTold.{told}
+use Rattle.two_runs.proofs.TwoRunsBare.{readingOf, sumOf, place-is, idle-like, looks-like, bare-like, worker-like, announced-like, refusal-like, placed}
+use Rattle.two_runs.proofs.TwoRunsStep.{Like, cond-two, step-like}
+use Rattle.two_runs.proofs.TwoRunsCalls.{pairwise-snoc, pairwise-map, said-like, AlikeOperation, AlikeCall, AlikeCalls, end-for-like, end-effects-like}
+use Rattle.two_runs.proofs.TwoRunsCalls.{change-effects-like}
+use Rattle.two_runs.proofs.TwoRunsTold.{told}
 
 -- what one record leaves and is answered in both runs; `b`: it is a step of a worker that looks at register r
 record Same (b : Bool) (a a′ : Applied) : Type 0 where

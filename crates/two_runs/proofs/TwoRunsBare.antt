@@ -7,15 +7,15 @@ use mathlib.Core.Option.{Option, none, some}
 use Prim.Native.Nat.{ℕ, zero, suc}
 use lib.Dec.{ltb, eqb}
 use lib.ListN.{getD, set}
 use Rattle.model.specs.Totals.{Sum, sum₀}
 use Rattle.model.specs.Store.{absent, Reading, Slot, slot₀, Range, Purpose, Single, Marked, Totaling, Goal, Doing, Idle, PutPublish, PutStamp}
 use Rattle.model.specs.Store.{PutHandIn, FlushTake, FlushRead, FlushFree, OnTime, ReadEnter, ReadStand, GetShow, Worker, startWorker, Store}
 use Rattle.model.specs.Store.{workerAt, slotAt, markAt, rangeOf, withSlots, withWorkers, withWorker, withDoing, place}
 use Rattle.model.specs.About.{about}
 use Rattle.model.specs.Marks.{MarkNeed, NoMark, EmptyMark, HeldMark, UnreadMark, reads, isRead, markRefusal}
 use Rattle.model.specs.Versions.{setLow, setHigh, setOlder, setNewer, alone, change, stampSlots, linkSlots, unlinkSlots}
 use Rattle.model.specs.Steps.{moveOff, workerOff, readTimes}
-use Rattle.model.specs.TwoRuns.{purposeWith, goalWith, placeWith, barePlace, bareWorker, bareSlot, bare, looksFor, looksAt}
+use Rattle.two_runs.specs.TwoRuns.{purposeWith, goalWith, placeWith, barePlace, bareWorker, bareSlot, bare, looksFor, looksAt}
 
 ------------------------------------------------------------------------
 -- Lists

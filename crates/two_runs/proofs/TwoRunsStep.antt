@@ -8,23 +8,23 @@ use mathlib.Core.Option.{Option, none, some}
 use Prim.Native.Nat.{ℕ, _+_}
 use lib.Dec.{ltb, leb, eqb}
 use lib.ListN.{length, set, drop}
 use Rattle.model.specs.Totals.{Sum, sum₀, rowAt, goesOn, addRow}
 use Rattle.model.specs.Store.{absent, lastClock, Reading, Content, countOf, Slot, Range, OpenAnnounce, OpenPass, CloseWithdraw, MarkKeep}
 use Rattle.model.specs.Store.{MarkRelease, Purpose, Single, Marked, Totaling, Goal, Doing, Idle, PutPublish, PutStamp, PutHandIn, FlushTake}
 use Rattle.model.specs.Store.{FlushRead, FlushFree, OnTime, ReadEnter, ReadStand, GetShow, Worker, Store, workerAt, slotAt, newestOf, rangeOf}
 use Rattle.model.specs.Store.{withClock, withSlots, withNewest, withFree, withQueue, withWorkers, withMarks, withWorker, withDoing, place}
 use Rattle.model.specs.Marks.{EmptyMark, UnreadMark, markRefusal, needFor, timeFor}
 use Rattle.model.specs.Rules.{twelveDigits}
 use Rattle.model.specs.Answer.{Answer, Going, Freed, At, None, Done, No, Stepped}
 use Rattle.model.specs.Versions.{stamp, stampSlots, linkSlots, unlinkSlots}
 use Rattle.model.specs.Ranges.{firstTwo, merge, neededOf, needlessOf, neededPools, joining, queuedPool}
 use Rattle.model.specs.Steps.{putPublish, putStamp, putHandIn, flushTake, readTimes, flushSplit, flushRead, workerOff, flushFree, openAnnounce}
 use Rattle.model.specs.Steps.{openPass, answerFor, stoppedBy, readEnter, goalAt, signed, totalFound, found, readStand, getShow, closeWithdraw}
 use Rattle.model.specs.Steps.{markKeep, markRelease, timeStep, stepAt}
-use Rattle.model.specs.TwoRuns.{withoutValue, purposeWith, goalWith, placeWith, barePlace, bareWorker, bareSlot, bare}
+use Rattle.two_runs.specs.TwoRuns.{withoutValue, purposeWith, goalWith, placeWith, barePlace, bareWorker, bareSlot, bare}
 use Rattle.model.proofs.Basic.{cond-both}
-use Rattle.model.proofs.TwoRunsBare.{sumFor, goal-twice, stamp-like, link-like, unlink-like, workers-off, bare-like, slot-like, announced-like, pool-like}
-use Rattle.model.proofs.TwoRunsBare.{range-like, times-like, refusal-like, workers-like, doing-like, worker-set, placed}
+use Rattle.two_runs.proofs.TwoRunsBare.{sumFor, goal-twice, stamp-like, link-like, unlink-like, workers-off, bare-like, slot-like, announced-like, pool-like}
+use Rattle.two_runs.proofs.TwoRunsBare.{range-like, times-like, refusal-like, workers-like, doing-like, worker-set, placed}
 
 ------------------------------------------------------------------------
 -- Answers without their value
