@@ -6,7 +6,8 @@ use Rattle.model.specs.Steps.{answerFor}
 use Rattle.values.specs.declared.Content.{Content}
 use Rattle.values.specs.declared.Content.the-variants.{NoReading, Of}
 use Rattle.values.specs.Meaning.{contentOf, contentRep, answerOf}
-use Rattle.step.specs.Step.{answerTo, addsFor}
+use Rattle.versions.specs.Versions.{countWord}
+use Rattle.step.specs.Step.{answerTo}
 
 pub content-back : (c : Content) → contentRep (contentOf c) ≡ c
 content-back NoReading = refl
@@ -17,6 +18,6 @@ unfolding answerFor
 answer-same none = refl
 answer-same (some x) = refl
 
-pub adds-same : (v : Model.Content) → addsFor (contentRep v) ≡ Model.countOf v
+pub adds-same : (v : Model.Content) → countWord (contentRep v) ≡ Model.countOf v
 adds-same none = refl
 adds-same (some x) = refl

@@ -20,7 +20,7 @@ use Rattle.values.specs.Meaning.{answerOf}
 use Rattle.values.specs.declared.Answer.{Answer}
 use Rattle.values.specs.declared.Answer.the-variants.{Going, Value, Below, Done, No}
 use Rattle.arrays.specs.Arrays.{short}
-use Rattle.versions.specs.Versions.{slotAtIn, stampedIn}
+use Rattle.versions.specs.Versions.{countWord, slotAtIn, stampedIn}
 use Rattle.worker.specs.Rep.{timeOf}
 use Rattle.worker.specs.declared.Announced.{Announced}
 use Rattle.worker.specs.declared.Announced.the-variants.{Nothing, At}
@@ -53,7 +53,7 @@ use Rattle.step.specs.declared.Next.the-variants.{Taken, Mark}
 use Rattle.announcing.specs.Announcing.{outcomeOf}
 use Rattle.step.specs.Step.{Stepped, newestAt, stillAt, needOf, readOrSplit, freeOrDone, stepOf}
 use Rattle.announcing.specs.Announcing.{openAnnounceStep, openPassStep, closeWithdrawStep}
-use Rattle.step.specs.Step.{answerTo, addsFor, signedOf, totalFoundOf, foundOf, putPublishStep, putStampStep, readEnterStep, readStandStep, getShowStep}
+use Rattle.step.specs.Step.{answerTo, signedOf, totalFoundOf, foundOf, putPublishStep, putStampStep, readEnterStep, readStandStep, getShowStep}
 use Rattle.flush.specs.Flush.{handedPool, putHandInStep}
 use Rattle.simulation.specs.Memory.{Memory, withHub}
 use Rattle.simulation.specs.Shell.{Result, rowsKept, marksRead, readAfter, takenIn, handedIn, tookIn, readIn, allReadIn, markedIn}
@@ -234,9 +234,9 @@ module _ (up : Bool) (m : Memory) (r : Record.Decoded) where
     found-ends e (Marked i) v q = shown-ends v _
     found-ends e (Totaling g i plus minus) v q =
         let adds = eqb (signOf (rowAt (rowsKept (m .hub)) i)) 0 in
-        cond-both StillEnds (leb (addsFor v) twelveDigits) _ _
+        cond-both StillEnds (leb (countWord v) twelveDigits) _ _
         (λ f. cond-both StillEnds (goesOn (rowsKept (m .hub)) g i) _ _ (λ n. tt)
-        (λ n. signed-ends (addedTo plus (cond adds (addsFor v) 0)) (addedTo minus (cond adds 0 (addsFor v)))))
+        (λ n. signed-ends (addedTo plus (cond adds (countWord v) 0)) (addedTo minus (cond adds 0 (countWord v)))))
         (λ f. sets-idle 18 e (omega arith) q)
 
     -- by the worker's place

@@ -36,7 +36,7 @@ use Rattle.marks.specs.Marks.{refusalIn, timeIn}
 use Rattle.totals.specs.Rows.{addedTo}
 use Rattle.announcing.specs.declared.Outcome.{Outcome}
 use Rattle.announcing.specs.Announcing.{outcomeOf}
-use Rattle.step.specs.Step.{Stepped, newestAt, stillAt, needOf, readEnterStep, answerTo, addsFor, signedOf, totalFoundOf, foundOf, readStandStep, getShowStep}
+use Rattle.step.specs.Step.{Stepped, newestAt, stillAt, needOf, readEnterStep, answerTo, signedOf, totalFoundOf, foundOf, readStandStep, getShowStep}
 use Rattle.step.specs.Step.{stepOf}
 use Rattle.simulation.specs.Memory.{Memory, readOf, handWords, write}
 use Rattle.simulation.specs.Left.{Sized}

@@ -17,7 +17,7 @@ use Rattle.values.specs.declared.Answer.{Answer}
 use Rattle.values.specs.declared.Answer.the-variants.{Going, Value, None, Below, Done, No}
 use Rattle.slots.specs.declared.Slot.{Slot}
 use Rattle.arrays.specs.Arrays.{short}
-use Rattle.versions.specs.Versions.{slotAtIn, stampedIn, linkedIn}
+use Rattle.versions.specs.Versions.{countWord, slotAtIn, stampedIn, linkedIn}
 use Rattle.worker.specs.declared.Announced.{Announced}
 use Rattle.worker.specs.declared.Doing.{Doing}
 use Rattle.worker.specs.declared.Doing.the-variants.{Idle, PutPublish, PutStamp, PutHandIn, FlushTake, FlushRead, FlushFree, OnTime}
@@ -127,16 +127,11 @@ abbrev pub answerTo : Content → Answer
 answerTo NoReading = None
 answerTo (Of x) = Value x
 
--- H12.6: what a total adds for it
-abbrev pub addsFor : Content → ℕ
-addsFor NoReading = 0
-addsFor (Of x) = x .count
-
--- what follows where the version that the time needs holds x
+-- what follows where the version that the time needs holds x. H12.6: a total adds its count, and 0 where there is no reading.
 abbrev pub foundOf : Purpose → Content → Announced → ℕ → ℕ → List ℕ → Outcome
 foundOf Single x t k n rows = outcomeOf Idle t k n (answerTo x)
 foundOf (Marked m) x t k n rows = outcomeOf Idle t k n (answerTo x)
-foundOf (Totaling g i plus minus) x t k n rows = totalFoundOf g i plus minus (addsFor x) t k n rows
+foundOf (Totaling g i plus minus) x t k n rows = totalFoundOf g i plus minus (countWord x) t k n rows
 
 -- Read (2) H5.37, H13.5: with a low that is at most the worker's time, or the mark's, the value there is found, which is a read's answer; else the
 -- read goes to the older neighbour.

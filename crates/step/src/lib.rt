@@ -3,9 +3,9 @@
 ghost use mathlib.Core.Path.{_≡_};
 ghost use mathlib.Core.Bool.{cond};
 ghost use lib.ListN.{take};
-ghost use Rattle.versions.specs.Versions.{rowOf};
+ghost use Rattle.versions.specs.Versions.{countWord, rowOf};
 ghost use Rattle.step.specs.Step.{newestAt, nextFree, putPublishStep, putStampStep, needOf, readEnterStep, signedOf, totalFoundOf};
-ghost use Rattle.step.specs.Step.{answerTo, addsFor, foundOf, readStandStep, getShowStep, markOrStop, timeStepOf, readOrSplit, freeOrDone, stepOf};
+ghost use Rattle.step.specs.Step.{answerTo, foundOf, readStandStep, getShowStep, markOrStop, timeStepOf, readOrSplit, freeOrDone, stepOf};
 use announcing::Outcome;
 use marks::MarkNeed;
 use values::Answer;
@@ -225,7 +225,7 @@ fn answer_for(x: Content) -> Answer
 
 // What a total adds for x.
 fn count_of(x: Content) -> u64
-    ensures { λ r. ⌜ r ≡ addsFor x ⌝ }
+    ensures { λ r. ⌜ r ≡ countWord x ⌝ }
 {
     match x {
         Content::NoReading => 0,

@@ -19,7 +19,7 @@ use Rattle.slots.specs.Slots.{vacantSlot}
 abbrev pub contentIn : ℕ → ℕ → Content
 contentIn x k = cond (eqb k 0) NoReading (Of (record { count = x }))
 
--- these two words of what a version holds
+-- the two words of what a version holds: its count, and 0 where there is no reading; whether there is one
 abbrev pub countWord : Content → ℕ
 countWord NoReading = 0
 countWord (Of x) = x .count
