@@ -84,6 +84,7 @@ pub record SiteFits (rules : Rules) (x : Site) : Type 0 where
   pub V≤N : x .V' ≤ x .N
   pub N≤2048 : x .N ≤ 2048
   pub batch : x .B ≡ rules .batch (x .P)
+  pub table : x .table ≡ rules .table
   pub one≤B : 1 ≤ x .B
   pub B≤64 : x .B ≤ 64
 
@@ -153,7 +154,7 @@ all-start b (suc n) h = (h, all-start b n h)
 
 -- the store that an accepted setup leaves
 pub reached-start : (rules : Rules) → Allowed rules → {hub : Hub} (A : Accepted rules hub)
-    → Reached rules (fresh (rules .batch (A .sizes .P)) (A .sizes) (rowsOf (rules .list)) (A .row))
+    → Reached rules (fresh (rules .batch (A .sizes .P)) (A .sizes) (rowsOf (rules .list)) (rules .table) (A .row))
 unfolding fresh
 reached-start rules allowed A =
     let size = allowed (A .sizes .P) (A .fits .one≤P) (A .fits .P≤16) in
@@ -175,6 +176,7 @@ reached-start rules allowed A =
             V≤N = A .fits .V≤N;
             N≤2048 = A .fits .N≤2048;
             batch = refl;
+            table = refl;
             one≤B = size .0;
             B≤64 = size .1;
           };
@@ -186,7 +188,7 @@ pub reached : (row : List Slot) (setup : Ruled) → Allowed (setup .rules) → a
 reached row b allowed e bs =
     let A = accepts (b .rules) row (b .bytes) e in
     subst (λ (q : Hub). Throughout (ReachedHub (b .rules)) (events q bs)) (sym (A .is))
-    (reached-all bs (fresh (b .rules .batch (A .sizes .P)) (A .sizes) (rowsOf (b .rules .list)) (A .row)) (reached-start (b .rules) allowed A))
+    (reached-all bs (fresh (b .rules .batch (A .sizes .P)) (A .sizes) (rowsOf (b .rules .list)) (b .rules .table) (A .row)) (reached-start (b .rules) allowed A))
 
 ------------------------------------------------------------------------
 -- What specs/Reached.antt claims

@@ -12,6 +12,7 @@ use lib.Seq.{length-take-le}
 use lib.ListN.{length, getD, take, replicate, length-replicate, getD-replicate}
 use borrow.Author.Tests as Tests
 use Rattle.model.specs.Store.{absent, markCount, lastClock, Slot, startWorker, Hub, blank, up, upFrom}
+use Rattle.model.specs.Rights.{Right}
 use Rattle.model.specs.Rules.{Rules}
 use Rattle.model.specs.Answer.{Ok, Applied}
 use Rattle.model.specs.Totals.{follow}
@@ -85,7 +86,8 @@ sum-replicate f a e zero = refl
 sum-replicate f a e (suc n) = omega (arith, e, sum-replicate f a e n)
 
 -- what `inRanges` and the row's length give
-module _ (size : ℕ) (z : Sizes) (rows : List ℕ) (row : List Slot) (rf : follow (z .V') 0 0 rows ≡ true) (long : z .N ≤ length row) (v≤n : z .V' ≤ z .N) (n≤ : z .N ≤ 2048) (c< : z .clock < absent) where
+module _ (size : ℕ) (z : Sizes) (rows : List ℕ) (table : List Right) (row : List Slot) (rf : follow (z .V') 0 0 rows ≡ true)
+    (long : z .N ≤ length row) (v≤n : z .V' ≤ z .N) (n≤ : z .N ≤ 2048) (c< : z .clock < absent) where
   abbrev p : ℕ
   p = z .P
 
@@ -101,7 +103,7 @@ module _ (size : ℕ) (z : Sizes) (rows : List ℕ) (row : List Slot) (rf : foll
   abbrev olds : List (List ℕ)
   olds = replicate v []
 
-  pub start-inv : Inv 0 (fresh size z rows row) olds [] [] plain₀
+  pub start-inv : Inv 0 (fresh size z rows table row) olds [] [] plain₀
   unfolding fresh occurrences sumBy cnt
   start-inv =
       record {
@@ -123,7 +125,7 @@ module _ (size : ℕ) (z : Sizes) (rows : List ℕ) (row : List Slot) (rf : foll
             (ap (λ (z : Slot). z .high) (at r b), inl (omega (arith, ap (λ (z : Slot). z .low) (at r b)), ap (λ (z : Slot). z .value) (at r b), tt));
         queue = tt;
         workers =
-            λ w b. subst (Works (ctx (fresh size z rows row) olds) [] [] plain₀ w) (sym (getD-replicate p w startWorker startWorker b))
+            λ w b. subst (Works (ctx (fresh size z rows table row) olds) [] [] plain₀ w) (sym (getD-replicate p w startWorker startWorker b))
             (record {
               pool = tt;
               announced = inl refl;
@@ -190,8 +192,8 @@ module _ (size : ℕ) (z : Sizes) (rows : List ℕ) (row : List Slot) (rf : foll
       top-is : (r : ℕ) → r < v → getD (upFrom 0 v) r absent ≡ r
       top-is r b = omega (arith, up-at 0 v r b)
 
-      chain-is : (r : ℕ) → r < v → chain (ctx (fresh size z rows row) olds) r ≡ r ∷ []
-      chain-is r b = ap (λ (i : ℕ). i ∷ old (ctx (fresh size z rows row) olds) r) (top-is r b) ∙ ap (λ (l : List ℕ). r ∷ l) (getD-replicate v r [] [] b)
+      chain-is : (r : ℕ) → r < v → chain (ctx (fresh size z rows table row) olds) r ≡ r ∷ []
+      chain-is r b = ap (λ (i : ℕ). i ∷ old (ctx (fresh size z rows table row) olds) r) (top-is r b) ∙ ap (λ (l : List ℕ). r ∷ l) (getD-replicate v r [] [] b)
 
       at : (r : ℕ) → r < v → nth (firstSlots v (take n row)) r ≡ record { value = none; low = 0; high = absent; older = absent; newer = absent }
       at r b = first-at v (take n row) r b (omega (arith, length-take-le n row long))
@@ -252,7 +254,7 @@ in-ranges z e =
 pub record Accepted (rules : Rules) (hub : Hub) : Type 0 where
   pub sizes : Sizes
   pub row : List Slot
-  pub is : hub ≡ up (fresh (rules .batch (sizes .P)) sizes (rowsOf (rules .list)) row)
+  pub is : hub ≡ up (fresh (rules .batch (sizes .P)) sizes (rowsOf (rules .list)) (rules .table) row)
   pub long : sizes .N ≤ length row
   pub fits : InRanges sizes
   pub rows : follow (sizes .V') 0 0 (rowsOf (rules .list)) ≡ true
@@ -290,6 +292,6 @@ accepts rules row b = obeys rules row (decode b)
 
 -- its store meets the invariant
 pub accepted-inv : (rules : Rules) {hub : Hub} (A : Accepted rules hub)
-    → Inv 0 (fresh (rules .batch (A .sizes .P)) (A .sizes) (rowsOf (rules .list)) (A .row)) (replicate (A .sizes .V') []) [] [] plain₀
+    → Inv 0 (fresh (rules .batch (A .sizes .P)) (A .sizes) (rowsOf (rules .list)) (rules .table) (A .row)) (replicate (A .sizes .V') []) [] [] plain₀
 accepted-inv rules A =
-    start-inv (rules .batch (A .sizes .P)) (A .sizes) (rowsOf (rules .list)) (A .row) (A .rows) (A .long) (A .fits .V≤N) (A .fits .N≤2048) (omega (arith, A .fits .clock≤last))
+    start-inv (rules .batch (A .sizes .P)) (A .sizes) (rowsOf (rules .list)) (rules .table) (A .row) (A .rows) (A .long) (A .fits .V≤N) (A .fits .N≤2048) (omega (arith, A .fits .clock≤last))

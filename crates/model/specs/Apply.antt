@@ -1,7 +1,7 @@
 -- One record applied to the hub: setup (H2), the begin of an operation (H4), a step, and the refusals in their order (H7.1): 6, 1, 2, 8 or 9,
 -- 5, 3, 4 or 17, 16, then 10 or 11, then 12, 13, 19, 20 or 21.
 use mathlib.Core.Bool.{Bool, true, false, cond, not, _&&_}
-use mathlib.Core.List.{List, [], _∷_}
+use mathlib.Core.List.{List, [], _∷_, map}
 use mathlib.Core.Option.{Option, none, some}
 use Prim.Native.Nat.{ℕ, zero, suc, _-_}
 use lib.Dec.{ltb, leb}
@@ -12,7 +12,8 @@ use Rattle.model.specs.Store.{blank, up, upFrom, workerAt, place}
 use Rattle.model.specs.About.{about}
 use Rattle.model.specs.Marks.{MarkNeed, NoMark, EmptyMark, HeldMark, UnreadMark, markOf, markRefusal}
 use Rattle.model.specs.Rules.{Rules, Ruled}
-use Rattle.model.specs.Totals.{sum₀, firstOf}
+use Rattle.model.specs.Totals.{registerOf, ofGroup, sum₀, firstOf}
+use Rattle.model.specs.Rights.{Right, ToPut, ToRead, ToCollect, ToMark, Needed, NoRight, OnThese, InAny, OnAll, allowed}
 use Rattle.model.specs.Answer.{Answer, Ok, No, Applied}
 use Rattle.model.specs.Versions.{alone}
 use Rattle.model.specs.Steps.{goalAt, stepAt}
@@ -49,10 +50,10 @@ firstSlots (suc v) (z ∷ l) =
 -- H2.5 to H2.11: what a setup makes: P workers at their start, an empty queue, register r in slot r, the slots from V on free, upwards, and
 -- empty marks (H13.1). The batch size is b, and the rows of the list of totals are kept (H12.3). The row beyond N is not in the store; that it
 -- keeps its contents (H2.13) is said where memory is lent.
-unfoldable pub fresh : ℕ → Sizes → List ℕ → List Slot → Store
-fresh b z rows row =
+unfoldable pub fresh : ℕ → Sizes → List ℕ → List Right → List Slot → Store
+fresh b z rows table row =
     record {
-      site = record { P = z .P; V' = z .V'; N = z .N; B = b; rows = rows };
+      site = record { P = z .P; V' = z .V'; N = z .N; B = b; rows = rows; table = table };
       clock = z .clock;
       slots = firstSlots (z .V') (take (z .N) row);
       newest = upFrom 0 (z .V');
@@ -67,7 +68,7 @@ fresh b z rows row =
 unfoldable pub setUp : Rules → Hub → Sizes → Applied
 setUp rules (up s) z = refuse (up s) 9
 setUp rules (blank row) z =
-    let y : Applied = record { hub = up (fresh (rules .batch (z .P)) z (rowsOf (rules .list)) row); answer = Ok } in
+    let y : Applied = record { hub = up (fresh (rules .batch (z .P)) z (rowsOf (rules .list)) (rules .table) row); answer = Ok } in
     unless (inRanges z && leb (z .N) (length row) && listFits (z .V') (rules .list)) (blank row) 5 y
 
 ------------------------------------------------------------------------
@@ -79,43 +80,53 @@ pub data TimeNeed : Type 0 where
   NoTime : TimeNeed
   OwnTime : TimeNeed
 
--- The terms on which an operation begins: the register that it names, if any, the group, if any, the value that it puts, if any, what it asks of
--- the announced time and of a mark, and its first place.
+-- The terms on which an operation begins: the register that it names, if any, the group, if any, the value that it puts, if any, the right that it
+-- needs (H15.5), what it asks of the announced time and of a mark, and its first place.
 pub record Terms : Type 0 where
   pub register : Option ℕ
   pub group : Option ℕ
   pub value : Option ℕ
+  pub right : Needed
   pub time : TimeNeed
   pub mark : MarkNeed
   pub first : Doing
 
 -- an operation that names no register, no group, no value and no mark
-abbrev pub bare : TimeNeed → Doing → Terms
-bare t d = record { register = none; group = none; value = none; time = t; mark = NoMark; first = d }
+abbrev pub bare : Needed → TimeNeed → Doing → Terms
+bare n t d = record { register = none; group = none; value = none; right = n; time = t; mark = NoMark; first = d }
 
 -- one that names a register alone
 abbrev pub onRegister : ℕ → TimeNeed → Doing → Terms
-onRegister r t d = record { register = some r; group = none; value = none; time = t; mark = NoMark; first = d }
+onRegister r t d = record { register = some r; group = none; value = none; right = OnThese ToRead (r ∷ []); time = t; mark = NoMark; first = d }
 
 -- and one that names a mark alone
 abbrev pub onMark : MarkNeed → TimeNeed → Doing → Terms
-onMark m t d = record { register = none; group = none; value = none; time = t; mark = m; first = d }
+onMark m t d = record { register = none; group = none; value = none; right = OnAll ToMark; time = t; mark = m; first = d }
 
 -- H4.1: an operation is taken apart here, with the rows of the list of totals. H5.31: a collect begins with flush (1). H12.5: a total begins with
 -- the first row of its group.
 abbrev pub terms : List ℕ → Operation → Terms
 terms rows (Put r x) =
-    record { register = some r; group = none; value = some (x .count); time = AnyTime; mark = NoMark; first = PutPublish r x }
-terms rows Open = bare NoTime (OnTime OpenAnnounce)
+    record {
+      register = some r;
+      group = none;
+      value = some (x .count);
+      right = OnThese ToPut (r ∷ []);
+      time = AnyTime;
+      mark = NoMark;
+      first = PutPublish r x;
+    }
+terms rows Open = bare NoRight NoTime (OnTime OpenAnnounce)
 terms rows (Read r) = onRegister r OwnTime (ReadEnter (record { register = r; purpose = Single }))
-terms rows Close = bare OwnTime (OnTime CloseWithdraw)
+terms rows Close = bare NoRight OwnTime (OnTime CloseWithdraw)
 terms rows (Get r) = onRegister r AnyTime (GetShow r)
-terms rows Collect = bare AnyTime FlushTake
+terms rows Collect = bare (InAny ToCollect) AnyTime FlushTake
 terms rows (Total g) =
     record {
       register = none;
       group = some g;
       value = none;
+      right = OnThese ToRead (map registerOf (ofGroup g rows));
       time = OwnTime;
       mark = NoMark;
       first = ReadEnter (goalAt rows g (firstOf g rows) sum₀);
@@ -127,6 +138,7 @@ terms rows (MarkedRead r m) =
       register = some r;
       group = none;
       value = none;
+      right = OnThese ToRead (r ∷ []);
       time = AnyTime;
       mark = HeldMark m;
       first = ReadEnter (record { register = r; purpose = Marked m });
@@ -169,7 +181,7 @@ unfoldable pub refusedBy : Option ℕ → Hub → Applied → Applied
 refusedBy none h next = next
 refusedBy (some k) h next = refuse h k
 
--- H7.1: 3 worker not below P; 4; 17; 16; 10; 12; 13; 19, 20 or 21; else begun (H4.1)
+-- H7.1: 3 worker not below P; 4; 17; 16; 23; 10; 12; 13; 19, 20 or 21; else begun (H4.1)
 unfoldable pub begin : Rules → Store → ℕ → Operation → Applied
 begin rules s w o =
     let has = ltb (workerAt s w .announced) absent in
@@ -179,10 +191,11 @@ begin rules s w o =
     (unless (namedBelow (s .site .V') (x .register) && namedBelow markCount (markOf (x .mark))) (up s) 4
     (unless (groupThere (s .site .rows) (x .group)) (up s) 17
     (unless (valueWithin (rules .limit) (x .value)) (up s) 16
+    (unless (allowed (s .site .table) (s .site .V') w (x .right)) (up s) 23
     (unless (isIdle (workerAt s w .doing)) (up s) 10
     (unless (mayOpen (x .time) has) (up s) 12
     (unless (mayUseTime (x .time) has) (up s) 13
-    (refusedBy (markRefusal s (x .mark)) (up s) begun)))))))
+    (refusedBy (markRefusal s (x .mark)) (up s) begun))))))))
 
 ------------------------------------------------------------------------
 -- A step

@@ -85,7 +85,7 @@ fourRanges = range 0 3 5 ∷ range 1 5 5 ∷ range 2 5 6 ∷ range 3 2 9 ∷ []
 abbrev pub splitting : Store
 splitting =
     record {
-      site = record { P = 2; V' = 1; N = 9; B = 2; rows = [] };
+      site = record { P = 2; V' = 1; N = 9; B = 2; rows = []; table = [] };
       clock = 4;
       slots = replicate 9 slot₀;
       newest = 0 ∷ [];

@@ -1,5 +1,6 @@
 -- The rules of docs/HUB.md as definitions, in their order; then what is proved of them.
 pub mod Totals
+pub mod Rights
 pub mod Store
 pub mod About
 pub mod Marks

@@ -2,10 +2,13 @@
 -- proofs/Cases.antt; each wrong step of must-fail/ would answer one of them otherwise.
 use mathlib.Core.Path.{_≡_}
 use mathlib.Core.List.{List, [], _∷_, _++_, map}
+use mathlib.Core.Option.{some}
 use Prim.Native.Nat.{ℕ}
 use lib.ListN.{replicate}
 use Rattle.model.specs.Store.{slot₀}
-use Rattle.model.specs.Rules.{document01, inForce, Ruled, under}
+use Rattle.model.specs.Rights.{Right}
+use Rattle.model.specs.Batch.{batchOf}
+use Rattle.model.specs.Rules.{twelveDigits, document01, inForce, Ruled, under}
 use Rattle.model.specs.Record.{Open, Read, Close, Get, Collect, Total, Mark, Release, MarkedRead, Command, Begin, Step}
 use Rattle.model.specs.Answer.{Ok, No}
 use Rattle.model.specs.Apply.{applyRuled, answersTo}
@@ -286,7 +289,35 @@ empty =
     ++ (Begin 1 (Get 1) ∷ steps 1 1)
     ++ (Begin 1 (Read 1) ∷ steps 3 1)
 
+-- H15: worker 0 may put and read on both registers, mark on register 0 and collect, which a row gives for registers that are not there; worker 1 may
+-- read register 1, which the total begins with. What either may not do is refused with 23, after 4 and before 10.
+abbrev pub rightsTable : List Right
+rightsTable =
+    record { worker = 0; rights = 3; first = 0; last = 1 }
+    ∷ record { worker = 0; rights = 8; first = 0; last = 0 }
+    ∷ record { worker = 0; rights = 4; first = 200; last = 255 }
+    ∷ record { worker = 1; rights = 2; first = 1; last = 1 }
+    ∷ []
+
+abbrev pub rightsList : List ℕ
+rightsList = 1 ∷ 0 ∷ 1 ∷ 0 ∷ 1 ∷ 0 ∷ 0 ∷ 0 ∷ []
+
+abbrev pub rightsSetup : Ruled
+rightsSetup =
+    under (record { batch = batchOf; limit = some twelveDigits; list = rightsList; table = rightsTable }) (recordOf (setup 2 2 6 1))
+
+abbrev pub rights : List Command
+rights =
+    (Begin 1 (Get 0) ∷ Begin 1 (Get 1) ∷ steps 1 1)
+    ++ (Begin 0 (Get 1) ∷ steps 1 0)
+    ++ (put 1 1 5 ∷ Begin 1 Collect ∷ Begin 0 Collect ∷ Begin 1 Open ∷ Begin 1 (Get 0) ∷ Begin 1 (Get 1) ∷ steps 2 1)
+    ++ (Begin 1 (Total 1) ∷ Begin 1 (Read 1) ∷ steps 2 1)
+    ++ (Begin 0 (Mark 0) ∷ Begin 1 (Get 2) ∷ [])
+
 pub record Runs : Type 0 where
+  pub rights-log : lines 0 (answersTo (rowOf 6) (rightsSetup ∷ map handed rights))
+      ≡ text "0 ok\n1 no 23\n2 ok\n3 none\n4 ok\n5 none\n6 no 23\n7 no 23\n8 ok\n9 ok\n10 no 23\n11 no 10\n12 going\n"
+      ++ text "13 at 1\n14 no 23\n15 ok\n16 going\n17 none\n18 no 23\n19 no 4\n"
   pub empty-log : logWith movedList 6 (emptySetup ∷ empty)
       ≡ text "0 ok\n1 ok\n2 none\n3 ok\n4 going\n5 at 1\n6 ok\n7 going\n8 ok\n9 going\n10 going\n11 none\n12 ok\n"
       ++ text "13 going\n14 going\n15 going\n16 going\n17 value 0\n18 going\n19 done\n20 ok\n21 value 0\n22 ok\n"

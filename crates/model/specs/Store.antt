@@ -6,6 +6,7 @@ use Prim.Native.Nat.{ℕ, zero, suc, _+_, _-_}
 use lib.Dec.{ltb}
 use lib.ListN.{getD, set}
 use Rattle.model.specs.Totals.{Sum}
+use Rattle.model.specs.Rights.{Right}
 
 -- H1.8: a time or a neighbour that is not there: an unset low, an open high, no announced time, no older or newer neighbour.
 -- H1.9, H1.10: the number is above every time, and above every slot.
@@ -113,6 +114,8 @@ pub record Site : Type 0 where
   pub B : ℕ
   -- H12.3: the rows of the list of totals
   pub rows : List ℕ
+  -- H15.4: the rows of the table of rights that stood at setup
+  pub table : List Right
 
 -- A hub that is set up. `newest` has the slot of each register's newest version (H1.11), `free` the free slots with the one that is taken first
 -- in front (H1.25), `queue` the shared pools, first in first (H1.20), `marks` the time that each mark holds, or none (H13.1).

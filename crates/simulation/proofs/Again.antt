@@ -172,9 +172,9 @@ pub setup-left : (list : List ℕ) (row : List Model.Slot) (b : List ℕ) → ap
 unfolding hubAfter
 setup-left list row b ok =
     let A = accepts (inForce list) row b ok in (
-      fresh (batchOf (A .sizes .P)) (A .sizes) (rowsOf list) (A .row),
+      fresh (batchOf (A .sizes .P)) (A .sizes) (rowsOf list) [] (A .row),
       A .is,
-      record { row = row; setup = under (inForce list) b; batch = refl; accepted = ok; records = []; left = A .is },
+      record { row = row; setup = under (inForce list) b; batch = refl; table = refl; accepted = ok; records = []; left = A .is },
     )
 
 -- every other record leaves the hub as it was

@@ -175,6 +175,7 @@ on-earlier list s m E cs begins laid C =
             row = E .row;
             setup = under (document01 list) (E .setup);
             batch = refl;
+            table = refl;
             accepted = E .accepted;
             records = allUnder (document01 list) (E .records);
             left = E .left;

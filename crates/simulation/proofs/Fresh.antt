@@ -169,7 +169,7 @@ rows-few v list e =
 
 pub hub-made : (b : ℕ) (z : Sizes) (list : List ℕ) (row : List Model.Slot) → z .P ≤ 16 → length (rowsOf list) ≤ 1024
     → freshHub (z .P) (z .V') (z .N) (z .clock) (length list / 4) (over (take 1024 (rowsOf list)) (replicate 1024 0))
-    ≡ hubRep (fresh b z (rowsOf list) row) emptyHub
+    ≡ hubRep (fresh b z (rowsOf list) [] row) emptyHub
 unfolding fresh
 hub-made b z list row h few =
     hub-path refl refl refl refl (sym (up-length (z .V') (z .N - z .V'))) refl (sym (rows-length list))

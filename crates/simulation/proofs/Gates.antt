@@ -14,6 +14,7 @@ use Rattle.model.specs.Store as Model
 use Rattle.model.specs.Store.{Store, up, absent, markCount, workerAt, place}
 use Rattle.model.specs.Marks as Mark
 use Rattle.model.specs.Marks.{markRefusal}
+use Rattle.model.specs.Rights.{Right, allowed}
 use Rattle.model.specs.Rules.{inForce}
 use Rattle.model.specs.Answer.{Ok, Stepped, Applied}
 use Rattle.model.specs.Record as Record
@@ -79,6 +80,11 @@ both M true false g g′ a a′ e f f′ = absurd (true≢false e)
 both M false true g g′ a a′ e f f′ = absurd (true≢false (sym e))
 both M false false g g′ a a′ e f f′ = f′ refl
 
+-- a test that only the model makes, and that is passed: without a table all is allowed
+passes : {A B : Type 0} (M : A → B → Type 0) (t : Bool) (g : A) (a a′ : B) → t ≡ true → M g a → M g (cond t a a′)
+passes M true g a a′ e m = m
+passes M false g a a′ e m = absurd (true≢false (sym e))
+
 module _ (s : Store) (S : Sound s) (k : Hub) (list : List ℕ) where
   abbrev rows : List ℕ
   rows = s .site .rows
@@ -120,7 +126,9 @@ module _ (s : Store) (S : Sound s) (k : Hub) (list : List ℕ) where
       (namedBelow (s .site .V') (a .register) && namedBelow markCount (Mark.markOf (a .mark))) _ _ _ _ (same-names (a .register) (a .mark) (s .site .V'))
       (λ r. both M (groupOk (z .row) rows) (groupThere rows (a .group)) _ _ _ _ (same-group rows (a .group))
       (λ g. both M (valueOk (z .value)) (valueWithin (inForce list .limit) (a .value)) _ _ _ _ (same-value list (a .value))
-      (λ k. both M (aboutOf (x w .doing) .idle) (isIdle (y .doing))
+      (λ k. passes M (allowed (s .site .table) (s .site .V') w (a .right)) (cond (aboutOf (x w .doing) .idle) _ _) (cond (isIdle (y .doing)) _ _) _
+      (ap (λ (t : List Right). allowed t (s .site .V') w (a .right)) (S .table))
+      (both M (aboutOf (x w .doing) .idle) (isIdle (y .doing))
       _ _ _ _ (ap (λ (k : Worker). aboutOf (k .doing) .idle) (who-is w i) ∙ same-facts (y .doing) .0)
       (λ e. both M (openOk (z .time) (x w .announced)) (mayOpen (a .time) (ltb (y .announced) absent)) _ _ _ _
       (ap (λ (k : Worker). openOk (z .time) (k .announced)) (who-is w i) ∙ same-open (a .time) (y .announced))
@@ -131,7 +139,7 @@ module _ (s : Store) (S : Sound s) (k : Hub) (list : List ℕ) where
       (numbered s (a .mark)) (ltb-true w (s .site .P) i) (idle-is (y .doing) e))
       (λ n. refl))
       (λ n. refl))
-      (λ n. refl))
+      (λ n. refl)))
       (λ n. refl))
       (λ n. refl))
       (λ n. refl))

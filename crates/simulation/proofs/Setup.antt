@@ -89,7 +89,7 @@ module _ (m : Memory) (Z : Sized m) (list : List ℕ) where
 
   -- an accepted setup
   made : (z : Sizes) → InRanges z → z .N ≤ length (m .slots) → listFits (z .V') list ≡ true
-      → Follows list (blank row) m (Make (z .P) (z .V') (z .N) (z .clock)) (record { hub = up (fresh (batchOf (z .P)) z (rowsOf list) row); answer = Answers.Ok })
+      → Follows list (blank row) m (Make (z .P) (z .V') (z .N) (z .clock)) (record { hub = up (fresh (batchOf (z .P)) z (rowsOf list) [] row); answer = Answers.Ok })
   unfolding obeyIn setUpIn fresh
   made z I long lf =
       record {

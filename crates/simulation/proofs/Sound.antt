@@ -73,6 +73,8 @@ pub record Sound (s : Store) : Type 0 where
   -- the sizes, the lengths and how long the lists are, for the batch size of H1.24
   pub bounds : Bounds s
   pub batch : s .site .B ≡ batchOf (s .site .P)
+  -- there is no table of rights
+  pub table : s .site .table ≡ []
   pub newest : (r : ℕ) → r < s .site .V' → newestOf s r < s .site .N
   -- an unstamped newest version has an older one, in another slot
   pub unstamped : (r : ℕ) → r < s .site .V' → slotAt s (newestOf s r) .low ≡ absent
@@ -103,7 +105,7 @@ pub reached : {s : Store} (L : LeftByRecords s) → Reached (L .setup .rules) s
 reached {s} L =
     let rules : Rules = L .setup .rules in
     let A = accepts rules (L .row) (L .setup .bytes) (L .accepted) in
-    reached-from rules (L .records) (fresh (rules .batch (A .sizes .P)) (A .sizes) (rowsOf (rules .list)) (A .row)) s (reached-start rules (allowed rules (L .batch)) A)
+    reached-from rules (L .records) (fresh (rules .batch (A .sizes .P)) (A .sizes) (rowsOf (rules .list)) (rules .table) (A .row)) s (reached-start rules (allowed rules (L .batch)) A)
     (subst (λ (h : Model.Hub). hubAfter h (L .records) ≡ up s) (A .is) (L .left))
 
 ------------------------------------------------------------------------
@@ -227,11 +229,12 @@ module _ {now : ℕ} {s : Store} {olds : List (List ℕ)} {h : List Call} {o : L
 ------------------------------------------------------------------------
 -- The statements
 
-reached-sound : (first : Rules) → first .batch ≡ batchOf → (s : Store) → Reached first s → Sound s
-reached-sound first same s R =
+reached-sound : (first : Rules) → first .batch ≡ batchOf → first .table ≡ [] → (s : Store) → Reached first s → Sound s
+reached-sound first same none s R =
     record {
       bounds = B;
       batch = R .fits .batch ∙ ap (λ (f : ℕ → ℕ). f (s .site .P)) same;
+      table = R .fits .table ∙ none;
       newest = newest-in I;
       unstamped = unstamped-apart I;
       free = free-slot I;
@@ -261,7 +264,7 @@ reached-sound first same s R =
 
 -- every store that records left is sound
 pub sound : {s : Store} → LeftByRecords s → Sound s
-sound {s} L = reached-sound (L .setup .rules) (L .batch) s (reached L)
+sound {s} L = reached-sound (L .setup .rules) (L .batch) (L .table) s (reached L)
 
 after-more : (h : Model.Hub) (bs : List Ruled) (b : Ruled) → hubAfter h (bs ++ (b ∷ [])) ≡ applyRuled (hubAfter h bs) b .hub
 unfolding hubAfter
@@ -278,6 +281,7 @@ left-next {s} L b =
         row = L .row;
         setup = L .setup;
         batch = L .batch;
+        table = L .table;
         accepted = L .accepted;
         records = L .records ++ (b ∷ []);
         left =

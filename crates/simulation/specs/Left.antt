@@ -1,7 +1,7 @@
 -- Memory that records left, and memory that counts as set up.
 use mathlib.Core.Path.{_≡_}
 use mathlib.Core.Bool.{Bool}
-use mathlib.Core.List.{List}
+use mathlib.Core.List.{List, []}
 use Prim.Native.Nat.{ℕ}
 use lib.ListN.{length}
 use Rattle.model.specs.Store as Model
@@ -21,6 +21,8 @@ pub record LeftByRecords (s : Store) : Type 0 where
   pub setup : Ruled
   -- the setup took the batch size of H1.24, which the code computes from P
   pub batch : setup .rules .batch ≡ batchOf
+  -- and no table of rights, of which the code knows nothing yet
+  pub table : setup .rules .table ≡ []
   pub accepted : applyRuled (blank row) setup .answer ≡ Ok
   pub records : List Ruled
   pub left : hubAfter (applyRuled (blank row) setup .hub) records ≡ up s

@@ -4,3 +4,4 @@ pub mod TwoRunsCalls
 pub mod TwoRunsTold
 pub mod TwoRuns
 pub mod TwoRunsWorker
+pub mod TwoRunsRights

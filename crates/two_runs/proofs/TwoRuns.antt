@@ -12,6 +12,7 @@ use borrow.Author.Tests as Tests
 use Rattle.model.specs.Store.{absent, markCount, Slot, Doing, Worker, Store, Hub, up, workerAt, withSlots, withWorkers, place}
 use Rattle.model.specs.About.{about}
 use Rattle.model.specs.Marks.{MarkNeed, markOf, markRefusal}
+use Rattle.model.specs.Rights.{allowed}
 use Rattle.model.specs.Rules.{Rules, Ruled}
 use Rattle.model.specs.Answer.{Answer, Ok, Applied, said}
 use Rattle.model.specs.Steps.{stepAt}
@@ -73,22 +74,24 @@ module _ (r : ℕ) (s : Store) (l : List Slot) (ws : List Worker) (sl : map bare
       → (valueWithin (rules .limit) (terms (s .site .rows) c .value) ≡ valueWithin (rules .limit) (terms (s .site .rows) c′ .value))
       → terms (s .site .rows) c .register ≡ terms (s .site .rows) c′ .register
       → terms (s .site .rows) c .group ≡ terms (s .site .rows) c′ .group
+      → terms (s .site .rows) c .right ≡ terms (s .site .rows) c′ .right
       → terms (s .site .rows) c .time ≡ terms (s .site .rows) c′ .time
       → terms (s .site .rows) c .mark ≡ terms (s .site .rows) c′ .mark
       → barePlace (terms (s .site .rows) c .first) ≡ barePlace (terms (s .site .rows) c′ .first)
       → Same b (begin rules s w c) (begin rules t w c′)
   unfolding begin
-  begin-like b rules w c c′ value register group time mark first =
+  begin-like b rules w c c′ value register group right time mark first =
       tested b 3 (ltb w (s .site .P)) (ltb w (s .site .P)) _ _ refl
       (tested b 4 _ _ _ _
       (ap (λ (i : Option ℕ). namedBelow (s .site .V') i && namedBelow markCount (markOf (terms (s .site .rows) c .mark))) register
       ∙ ap (λ (i : MarkNeed). namedBelow (s .site .V') (terms (s .site .rows) c′ .register) && namedBelow markCount (markOf i)) mark)
       (tested b 17 _ _ _ _ (ap (groupThere (s .site .rows)) group)
       (tested b 16 _ _ _ _ value
+      (tested b 23 _ _ _ _ (ap (allowed (s .site .table) (s .site .V') w) right)
       (tested b 10 _ _ _ _ (idles w)
       (tested b 12 _ _ _ _ (asks mayOpen)
       (tested b 13 _ _ _ _ (asks mayUseTime)
-      (by-mark b _ _ _ _ (refusal-like s l ws sl sw (terms (s .site .rows) c .mark) ∙ ap (markRefusal t) mark) begun)))))))
+      (by-mark b _ _ _ _ (refusal-like s l ws sl sw (terms (s .site .rows) c .mark) ∙ ap (markRefusal t) mark) begun))))))))
     where
       begun : Same b (record { hub = up (place s w (terms (s .site .rows) c .first)); answer = Ok })
           (record { hub = up (place t w (terms (s .site .rows) c′ .first)); answer = Ok })
@@ -147,7 +150,7 @@ module _ (r : ℕ) (s : Store) (l : List Slot) (ws : List Worker) (sl : map bare
     same-command : (rules : Rules) (d : Decoded) → Same (looksBy r (up s) d) (applyDecoded rules (up s) d) (applyDecoded rules (up t) d)
     unfolding applyDecoded obey setUp
     same-command rules (Asks (SetUp z)) = refused false 9
-    same-command rules (Asks (Begin w c)) = begin-like false rules w c c refl refl refl refl refl refl
+    same-command rules (Asks (Begin w c)) = begin-like false rules w c c refl refl refl refl refl refl refl
     same-command rules (Asks (Step w)) = step-same w
     same-command rules (Refuses k) = refused false k
 
@@ -155,7 +158,7 @@ module _ (r : ℕ) (s : Store) (l : List Slot) (ws : List Worker) (sl : map bare
         → Same (looksBy r (up s) d) (applyDecoded rules (up s) d) (applyDecoded rules (up t) d′)
     unfolding applyDecoded obey
     puts-same rules d d′ u =
-        rw (u .puts, u .puts′) (begin-like false rules (u .worker) (Put r (u .first)) (Put r (u .second)) (u .allowed) refl refl refl refl refl)
+        rw (u .puts, u .puts′) (begin-like false rules (u .worker) (Put r (u .first)) (Put r (u .second)) (u .allowed) refl refl refl refl refl refl)
 
     decoded-same : (rules : Rules) (d d′ : Decoded) → AlikeDecoded r rules d d′
         → Same (looksBy r (up s) d) (applyDecoded rules (up s) d) (applyDecoded rules (up t) d′)
@@ -291,7 +294,7 @@ run r (b ∷ bs) (b′ ∷ bs′) B now s s′ e h h′ C o olds p I olds′ p�
 pub two-runs : TwoRuns
 two-runs row b e r bs bs′ B =
     let A = accepts (b .rules) row (b .bytes) e in
-    let s = fresh (b .rules .batch (A .sizes .P)) (A .sizes) (rowsOf (b .rules .list)) (A .row) in
+    let s = fresh (b .rules .batch (A .sizes .P)) (A .sizes) (rowsOf (b .rules .list)) (b .rules .table) (A .row) in
     let I = accepted-inv (b .rules) A in
     subst (λ (q : Hub). Pairwise (SameAnswers r) (events q bs) (events q bs′)) (sym (A .is))
     (run r bs bs′ B 0 s s refl [] [] tt [] _ plain₀ I _ plain₀ I)

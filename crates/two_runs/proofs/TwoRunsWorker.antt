@@ -194,5 +194,5 @@ same-for-worker row b e r bs bs′ B w K = same-list r w bs bs′ B _ _ (two-run
     off : All (Off r w) (events (applyRuled (blank row) b .hub) bs)
     off =
         subst (λ (q : Hub). All (Keeping r (rowsIn q) w) (events q bs) → All (Off r w) (events q bs)) (sym (A .is))
-        (all-off r w bs 0 (fresh (b .rules .batch (A .sizes .P)) (A .sizes) (rowsOf (b .rules .list)) (A .row)) _ [] [] plain₀ (accepted-inv (b .rules) A) tt)
+        (all-off r w bs 0 (fresh (b .rules .batch (A .sizes .P)) (A .sizes) (rowsOf (b .rules .list)) (b .rules .table) (A .row)) _ [] [] plain₀ (accepted-inv (b .rules) A) tt)
         K

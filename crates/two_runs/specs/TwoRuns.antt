@@ -15,6 +15,7 @@ use Rattle.model.specs.Totals.{registerOf, ofGroup, Sum, sum₀}
 use Rattle.model.specs.Store.{Reading, Slot, Range, TimeStep, Purpose, Single, Marked, Totaling, Goal, Doing, Idle, PutPublish, PutStamp}
 use Rattle.model.specs.Store.{PutHandIn, FlushTake, FlushRead, FlushFree, OnTime, ReadEnter, ReadStand, GetShow, Worker, Store, Hub, blank, up}
 use Rattle.model.specs.Store.{workerAt, withSlots, withWorkers, withDoing}
+use Rattle.model.specs.Rights.{Right, ToRead, mayOn}
 use Rattle.model.specs.Rules.{Rules, twelveDigits, Ruled}
 use Rattle.model.specs.Answer.{Answer, Ok, Going, Freed, At, Value, None, Below, Done, No}
 use Rattle.model.specs.Record.{Operation, Put, Open, Read, Close, Get, Collect, Total, Mark, Release, MarkedRead, SetUp, Begin}
@@ -209,4 +210,25 @@ SameForWorker =
     → (w : ℕ)
     → All (λ e. KeepsOff r (rowsIn (applyRuled (blank row) setup .hub)) w (decode (e .bytes)) (e .answer))
     (events (applyRuled (blank row) setup .hub) records)
+    → answersFor w (events (applyRuled (blank row) setup .hub) records) ≡ answersFor w (events (applyRuled (blank row) setup .hub) records′)
+
+------------------------------------------------------------------------
+-- A worker without the right to read register r
+
+-- the table of rights that a hub has
+abbrev pub tableIn : Hub → List Right
+tableIn (blank row) = []
+tableIn (up s) = s .site .table
+
+-- H15.4: there is a table with rows, and none of them gives worker w the right to read register r
+abbrev pub WithoutRead : List Right → ℕ → ℕ → Type 0
+WithoutRead [] w r = ⊥
+WithoutRead (row ∷ l) w r = mayOn (row ∷ l) w ToRead r ≡ false
+
+-- H15.7: in two runs that differ only in values put to register r, every worker without the right to read r gets the same answers throughout
+abbrev pub SameWithoutRead : Type 0
+SameWithoutRead =
+    (row : List Slot) (setup : Ruled) → applyRuled (blank row) setup .answer ≡ Ok
+    → (r : ℕ) (records records′ : List Ruled) → Pairwise (Alike r) records records′
+    → (w : ℕ) → WithoutRead (tableIn (applyRuled (blank row) setup .hub)) w r
     → answersFor w (events (applyRuled (blank row) setup .hub) records) ≡ answersFor w (events (applyRuled (blank row) setup .hub) records′)
