@@ -2,7 +2,7 @@
 -- proofs/Cases.antt; each wrong step of must-fail/ would answer one of them otherwise.
 use mathlib.Core.Path.{_≡_}
 use mathlib.Core.List.{List, [], _∷_, _++_, map}
-use mathlib.Core.Option.{some}
+use mathlib.Core.Option.{none, some}
 use Prim.Native.Nat.{ℕ}
 use lib.ListN.{replicate}
 use Rattle.model.specs.Store.{slot₀}
@@ -12,6 +12,7 @@ use Rattle.model.specs.Rules.{twelveDigits, document01, inForce, Ruled, 
 use Rattle.model.specs.Record.{Open, Read, Close, Get, Collect, Total, Mark, Release, MarkedRead, Command, Begin, Step}
 use Rattle.model.specs.Answer.{Ok, No}
 use Rattle.model.specs.Apply.{applyRuled, answersTo}
+use Rattle.model.specs.Row.{RowNone, RowNo, writeRow}
 use Rattle.model.specs.Log.{text, lines, logOf}
 use Rattle.model.specs.Demand.{events, order}
 use Rattle.model.specs.Cases.{recordOf, handed, handedBefore, setup, put, rowOf, joined}
@@ -315,6 +316,9 @@ rights =
     ++ (Begin 0 (Mark 0) ∷ Begin 1 (Get 2) ∷ [])
 
 pub record Runs : Type 0 where
+  -- H9.6: without a reading a buffer that is long enough stays as it is; H9.3: a shorter one gets 7 all the same
+  pub row-none : writeRow 0 7 none (replicate 16 9) ≡ record { answer = RowNone; buffer = replicate 16 9 }
+  pub row-none-short : writeRow 0 7 none (replicate 15 9) ≡ record { answer = RowNo 7; buffer = replicate 15 9 }
   pub rights-log : lines 0 (answersTo (rowOf 6) (rightsSetup ∷ map handed rights))
       ≡ text "0 ok\n1 no 23\n2 ok\n3 none\n4 ok\n5 none\n6 no 23\n7 no 23\n8 ok\n9 ok\n10 no 23\n11 no 10\n12 going\n"
       ++ text "13 at 1\n14 no 23\n15 ok\n16 going\n17 none\n18 no 23\n19 no 4\n"

@@ -71,7 +71,9 @@ keeps : (rules : Rules) (s : Store) (w r : ℕ) (d : Decoded) → WithoutRead (s
 unfolding applyDecoded obey
 keeps rules s w r (Asks (SetUp z)) not-r = tt
 keeps rules s w r (Asks (Begin v c)) not-r =
-    λ e ok. off (s .site .table) (s .site .V') w r (s .site .rows) c not-r (subst (λ (i : ℕ). allowed (s .site .table) (s .site .V') i (terms (s .site .rows) c .right) ≡ true) e (began rules s v c ok))
+    λ e ok.
+    off (s .site .table) (s .site .V') w r (s .site .rows) c not-r
+    (subst (λ (i : ℕ). allowed (s .site .table) (s .site .V') i (terms (s .site .rows) c .right) ≡ true) e (began rules s v c ok))
 keeps rules s w r (Asks (Step v)) not-r = tt
 keeps rules s w r (Refuses k) not-r = tt
 
