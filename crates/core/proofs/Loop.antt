@@ -32,7 +32,7 @@ use Rattle.record.specs.declared.Decoded.{Decoded}
 use Rattle.record.specs.Meaning.{decodedOf}
 use Rattle.state.specs.declared.Hub.{Hub}
 use Rattle.state.specs.State.{freshHub, nobody, workerIn, atPlace, withWorkersIn, withClockIn, withFreeIn, withWindowIn, withTimesIn}
-use Rattle.state.specs.State.{withMarksIn, withReadingIn}
+use Rattle.state.specs.State.{withMarksIn, withReadingIn, tableKept, standingCount}
 use Rattle.arrays.specs.Arrays.{short, fillTo}
 use Rattle.versions.specs.Versions.{slotIn, rowOf}
 use Rattle.gate.specs.declared.Gate.{Gate}
@@ -107,6 +107,7 @@ pub record Decides (S : State) (list bytes : List ℕ) (count k : ℕ) (T : Stat
   pub decided : g
       ≡ gateOf r (T .up) (T .memory .hub .p) (T .memory .hub .v) (length (T .memory .slots)) (workerIn (T .memory .hub) w .doing)
       (workerIn (T .memory .hub) w .announced) list (rowsKept (T .memory .hub)) (T .memory .hub .marks) (marksRead (T .memory .hub))
+      (tableKept (T .memory .hub))
 
 -- the worker's number by the record's bytes
 pub named-by : {v : ℕ} {b c : List ℕ} → v ≡ getD b 1 0 → b ≡ c → v % 16 ≡ getD c 1 0 % 16
@@ -118,7 +119,7 @@ pub deciding : (row : List (List ℕ)) {S : State} {list bytes : List ℕ} {coun
     → SoFar S list bytes count k (stateOf up h row newest free queue lens merged kinds numbers last) → k < count
     → decodedOf r ≡ Model.decode (recordAt bytes k) → w ≡ getD (recordAt bytes k) 1 0 % 16
     → g ≡ gateOf r up (h .p) (h .v) (length row) (getD (h .workers) w nobody .doing) (getD (h .workers) w nobody .announced) list (rowsKept h)
-    (h .marks) (marksRead h)
+    (h .marks) (marksRead h) (tableKept h)
     → Decides S list bytes count k (stateOf up h row newest free queue lens merged kinds numbers last) r w g
 deciding row {list = list} {up = up} {h = h} {r = r} {w = w} R more reads worker decided =
     record {
@@ -129,7 +130,7 @@ deciding row {list = list} {up = up} {h = h} {r = r} {w = w} R more reads worker
       decided =
           decided
           ∙ ap (λ (n : ℕ). gateOf r up (h .p) (h .v) n (getD (h .workers) w nobody .doing) (getD (h .workers) w nobody .announced) list (rowsKept h)
-          (h .marks) (marksRead h))
+          (h .marks) (marksRead h) (tableKept h))
           (sym (length-map row _));
     }
 
@@ -164,7 +165,7 @@ module _ {S : State} {list bytes : List ℕ} {count k : ℕ} {T : State} {r : De
   gate : gateIn (T .up) m list b ≡ g
   gate =
       let by : Decoded → ℕ → Gate = λ z v. gateOf z (T .up) (h .p) (h .v) (length (m .slots)) (workerIn h v .doing) (workerIn h v .announced) list
-      (rowsKept h) (h .marks) (marksRead h) in
+      (rowsKept h) (h .marks) (marksRead h) (tableKept h) in
       sym (D .decided
       ∙ ap (by r) (D .worker)
       ∙ gate-at h r u names (T .up) (length (m .slots)) list (R .few)
@@ -174,7 +175,7 @@ module _ {S : State} {list bytes : List ℕ} {count k : ℕ} {T : State} {r : De
   says : Named (T .up) u (h .p) (length (m .slots)) g
   says =
       subst (Named (T .up) u (h .p) (length (m .slots))) (sym (D .decided))
-      (named r u names (T .up) (h .p) (h .v) (length (m .slots)) (x .doing) (x .announced) list (rowsKept h) (h .marks) (marksRead h))
+      (named r u names (T .up) (h .p) (h .v) (length (m .slots)) (x .doing) (x .announced) list (rowsKept h) (h .marks) (marksRead h) (tableKept h))
 
   -- the answer y is written
   abbrev pub Wrote : Answer → List ℕ → List ℕ → Answer → Type 0
@@ -220,7 +221,7 @@ module _ {S : State} {list bytes : List ℕ} {count k : ℕ} {T : State} {r : De
   make-few p v n t e = sizes-few p v n t (length (m .slots)) (subst (Named (T .up) u (h .p) (length (m .slots))) e says .1)
 
   pub on-make : (p v n t : ℕ) (h′ : Hub) (slots newest free : List _) (kinds numbers : List ℕ) (last : Answer) → g ≡ Make p v n t
-      → h′ ≡ freshHub p v n t (length list / 4) (over (take 1024 (rowsOf list)) (replicate 1024 0)) → slots ≡ madeTo (m .slots) v n → newest ≡ fillTo (m .newest) short v
+      → h′ ≡ freshHub p v n t (length list / 4) (over (take 1024 (rowsOf list)) (replicate 1024 0)) (standingCount h) (h .rights) → slots ≡ madeTo (m .slots) v n → newest ≡ fillTo (m .newest) short v
       → free ≡ fillTo (m .free) (λ j. short (n - 1 - j)) (h′ .free) → Wrote Ok kinds numbers last
       → SoFar S list bytes count (k + 1)
       (record { up = true; memory = memory h′ slots newest free (m .queue) (m .lens) (m .merged); kinds = kinds; numbers = numbers; last = last })

@@ -8,7 +8,7 @@ use lib.ListN.{getD}
 use Rattle.worker.specs.declared.Worker.{Worker}
 use Rattle.record.specs.declared.Decoded.{Decoded}
 use Rattle.state.specs.declared.Hub.{Hub}
-use Rattle.state.specs.State.{nobody, workerIn}
+use Rattle.state.specs.State.{nobody, workerIn, tableKept}
 use Rattle.gate.specs.Gate.{gateOf, whoOf}
 use Rattle.gate.proofs.Named.{Names, same-gate}
 use Rattle.simulation.specs.Shell.{rowsKept, marksRead}
@@ -19,10 +19,11 @@ worker-at h w l = let e : w % 16 ≡ w = omega arith in rw e
 
 pub gate-at : (h : Hub) (r : Decoded) (u : ℕ) → Names r u → (up : Bool) (long : ℕ) (list : List ℕ) → (up ≡ true → h .p ≤ 16)
     → gateOf r up (h .p) (h .v) long (getD (h .workers) (u % 16) nobody .doing) (getD (h .workers) (u % 16) nobody .announced) list (rowsKept h)
-    (h .marks) (marksRead h)
+    (h .marks) (marksRead h) (tableKept h)
     ≡ gateOf r up (h .p) (h .v) long (workerIn h (whoOf r) .doing) (workerIn h (whoOf r) .announced) list (rowsKept h) (h .marks) (marksRead h)
+    (tableKept h)
 gate-at h r u n up long list few =
-    same-gate r u n up (h .p) (h .v) long _ _ _ _ list (rowsKept h) (h .marks) (marksRead h)
+    same-gate r u n up (h .p) (h .v) long _ _ _ _ list (rowsKept h) (h .marks) (marksRead h) (tableKept h)
     (λ t l e. let p = few t in
     let s = worker-at h u (omega arith) ∙ ap (workerIn h) (sym e) in
     (ap (λ (x : Worker). x .doing) s, ap (λ (x : Worker). x .announced) s))

@@ -8,8 +8,9 @@ use native.Mathlib.Omega.{arith}
 use lib.Dec.{leb}
 use borrow.Author.Tests.{leb-true}
 use Rattle.state.specs.declared.Hub.{Hub}
+use Rattle.state.specs.State.{tableSound}
 use Rattle.gate.specs.Gate.{sizesOk}
-use Rattle.ready.specs.Ready.{sizesFit, readyOf}
+use Rattle.ready.specs.Ready.{sizesFit, scansFit, readyOf}
 use Rattle.ready.proofs.Sizes.{sizes-tell}
 
 both : (a b : Bool) → a && b ≡ true → (a ≡ true) × (b ≡ true)
@@ -22,8 +23,10 @@ passed false y e = e
 
 pub ready-few : (h : Hub) (newest free queue lens merged : List ℕ) (linked : Bool) (long : ℕ)
     → readyOf h newest free queue lens merged linked long ≡ true → h .p ≤ 16
-unfolding readyOf
-ready-few h newest free queue lens merged linked long e = sizes-tell h long (passed (sizesFit h long) _ e) .p .1
+unfolding readyOf scansFit
+ready-few h newest free queue lens merged linked long e =
+    let scans = both (scansFit h newest free queue lens merged linked long) (tableSound h) e .0 in
+    sizes-tell h long (passed (sizesFit h long) _ scans) .p .1
 
 pub sizes-few : (p v n k long : ℕ) → sizesOk p v n k long ≡ true → (p ≤ 16) × (n ≤ 2048) × (v ≤ n)
 unfolding sizesOk

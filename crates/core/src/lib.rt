@@ -1,13 +1,16 @@
 // The loop over the records. It owns the hub while it runs, so that a record moves only what its step names; everything else is lent. The
 // slots are a lent row of words. Every public call goes through it.
 ghost use mathlib.Core.Path.{_≡_};
+ghost use mathlib.Core.Bool.{cond, _&&_};
 ghost use Prim.Native.Nat.{_≤_, _-_, _/_};
+ghost use lib.Dec.{leb};
 ghost use lib.ListN.{length, getD, set, take, replicate};
 ghost use Rattle.lists.specs.Over.{over};
 ghost use Rattle.model.specs.Record.{rowsOf};
+ghost use Rattle.model.specs.Rights.{eachOf, rightFits};
 ghost use Rattle.answers.specs.Numbers.{kindOf, numberOf};
 ghost use Rattle.slots.specs.Slots.{madeTo};
-ghost use Rattle.state.specs.State.{freshHub};
+ghost use Rattle.state.specs.State.{freshHub, standingCount};
 ghost use Rattle.arrays.specs.Arrays.{short, fillTo};
 ghost use Rattle.versions.specs.Versions.{rowOf};
 ghost use Rattle.simulation.specs.Loop.{Ran};
@@ -80,8 +83,20 @@ fn put_answer(kinds: &mut [u8], numbers: &mut [u64], k: usize, y: Answer) -> Ans
     y
 }
 
-// A setup that is accepted: the hub with the rows of the list of totals, its newest versions, free slots and slots.
+// H15.9: how many rows of rights a setup keeps: those that count, where they are a table.
+fn kept_rows(rights: &[u64; 64], granted: usize) -> usize
+    ensures { λ r. ⌜ r ≡ cond (leb granted 64 && eachOf rightFits (take granted (now (rights .entry)))) granted 0 ⌝ }
+{
+    if rights::stands(rights, granted) {
+        return granted;
+    }
+    0
+}
+
+// A setup that is accepted: the hub with the rows of the list of totals and the table of rights that stands in the old one, its newest versions, free
+// slots and slots.
 fn make(
+    old: Hub,
     row: &mut [[u64; 6]],
     newest: &mut [u16; 256],
     free: &mut [u16; 2048],
@@ -94,6 +109,7 @@ fn make(
     ensures { λ r. ⌜
         r
         ≡ freshHub p v n clock (length (now (list .entry)) / 4) (over (take 1024 (rowsOf (now (list .entry)))) (replicate 1024 0))
+        (standingCount old) (old .rights)
         ⌝ }
     ensures { λ _. ⌜ rowOf (now (row .exit)) ≡ madeTo (rowOf (now (row .entry))) v n ⌝ }
     ensures { λ _. ⌜ now (newest .exit) ≡ fillTo (now (newest .entry)) short v ⌝ }
@@ -102,7 +118,17 @@ fn make(
     let mut rows = [0u32; 1024];
     totals::fill_rows(&mut rows, list);
     let listed = list.len() / 4;
-    let hub = Hub::fresh(p as usize, v as usize, n as usize, clock, listed, rows);
+    let granted = kept_rows(&old.rights, old.granted);
+    let hub = Hub::fresh(
+        p as usize,
+        v as usize,
+        n as usize,
+        clock,
+        listed,
+        rows,
+        granted,
+        old.rights,
+    );
     arrays::fill_newest(newest, v as usize);
     arrays::fill_free(free, n as usize, hub.free);
     versions::set_up(row, v as usize, n as usize);
@@ -186,6 +212,8 @@ pub fn run(
             hub.listed,
             &hub.marks,
             &hub.reading,
+            &hub.rights,
+            hub.granted,
         );
         match g {
             Gate::Refuse(refusal) => {
@@ -193,7 +221,7 @@ pub fn run(
                 k += 1;
             }
             Gate::Make { p, v, n, clock } => {
-                hub = make(row, newest, free, list, p, v, n, clock);
+                hub = make(hub, row, newest, free, list, p, v, n, clock);
                 window = hub.window;
                 up = true;
                 last = put_answer(kinds, numbers, k, Answer::Ok);

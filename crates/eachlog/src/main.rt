@@ -82,7 +82,7 @@ fn main() {
     let none = slots::vacant();
     let mut slots = [none; 2048];
     // No worker, no register, no slot: memory that counts as not set up.
-    let mut hub = Hub::fresh(0, 0, 0, 0, 0, [0u32; 1024]);
+    let mut hub = Hub::empty();
     let mut k: u64 = 0;
     let mut lent = long;
     // Nothing says that the input ends, so the turns are counted, from a number that no run uses up.

@@ -116,7 +116,7 @@ fn sent(m: Memory, operation: u8, worker: u8, value: u64, n: u8) -> Memory {
 // Memory that is not set up.
 fn blank() -> Memory {
     let none = slots::vacant();
-    let hub = Hub::fresh(0, 0, 0, 0, 0, [0u32; 1024]);
+    let hub = Hub::empty();
     Memory {
         hub,
         slots: [none; 2048],

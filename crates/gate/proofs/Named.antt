@@ -40,44 +40,44 @@ Names (Asks (SetUp x y n k)) u = Unit {0}
 Names (Asks (Begin w o)) u = w ≡ u
 Names (Asks (Step w)) u = w ≡ u
 
-pub named : (r : Decoded) (u : ℕ) → Names r u → (up : Bool) (p v long : ℕ) (d : Doing) (t : Announced) (list rows marks reading : List ℕ)
-    → Named up u p long (gateOf r up p v long d t list rows marks reading)
+pub named : (r : Decoded) (u : ℕ) → Names r u → (up : Bool) (p v long : ℕ) (d : Doing) (t : Announced) (list rows marks reading table : List ℕ)
+    → Named up u p long (gateOf r up p v long d t list rows marks reading table)
 unfolding gateOf
-named (Refuses k) u e up p v long d t list rows marks reading = tt
-named (Asks (SetUp x y n k)) u e true p v long d t list rows marks reading = tt
-named (Asks (SetUp x y n k)) u e false p v long d t list rows marks reading =
+named (Refuses k) u e up p v long d t list rows marks reading table = tt
+named (Asks (SetUp x y n k)) u e true p v long d t list rows marks reading table = tt
+named (Asks (SetUp x y n k)) u e false p v long d t list rows marks reading table =
     let sizes = sizesOk x y n k long in
     let fits = Model.listFits y list in
     cond-both (Named false u p long) (sizes && fits) _ _ (λ f. (refl, and-both sizes fits f .0)) (λ f. tt)
-named (Asks (Begin w o)) u e false p v long d t list rows marks reading = tt
-named (Asks (Begin w o)) u e true p v long d t list rows marks reading =
-    subst (λ (i : ℕ). Named true i p long (gateOf (Asks (Begin w o)) true p v long d t list rows marks reading)) e
-    (begin-gate-by (Named true w p long) p v w o d t rows marks reading (λ k n. tt) (λ h. (refl, refl, ltb-true w p h)))
-named (Asks (Step w)) u e false p v long d t list rows marks reading = tt
-named (Asks (Step w)) u e true p v long d t list rows marks reading =
-    subst (λ (i : ℕ). Named true i p long (gateOf (Asks (Step w)) true p v long d t list rows marks reading)) e
+named (Asks (Begin w o)) u e false p v long d t list rows marks reading table = tt
+named (Asks (Begin w o)) u e true p v long d t list rows marks reading table =
+    subst (λ (i : ℕ). Named true i p long (gateOf (Asks (Begin w o)) true p v long d t list rows marks reading table)) e
+    (begin-gate-by (Named true w p long) p v w o d t rows marks reading table (λ k n. tt) (λ h. (refl, refl, ltb-true w p h)))
+named (Asks (Step w)) u e false p v long d t list rows marks reading table = tt
+named (Asks (Step w)) u e true p v long d t list rows marks reading table =
+    subst (λ (i : ℕ). Named true i p long (gateOf (Asks (Step w)) true p v long d t list rows marks reading table)) e
     (named-worker w p long (Go w) (λ h. (refl, refl, h)) (ltb w p) refl)
 
 ------------------------------------------------------------------------
 -- The worker's record matters only there
 
-same-begin : (p v w : ℕ) (o : Operation) (d e : Doing) (t u : Announced) (rows marks reading : List ℕ) → (w < p → (d ≡ e) × (t ≡ u)) → (y : Bool) → ltb w p ≡ y
-    → beginGate p v w o d t rows marks reading ≡ beginGate p v w o e u rows marks reading
+same-begin : (p v w : ℕ) (o : Operation) (d e : Doing) (t u : Announced) (rows marks reading table : List ℕ) → (w < p → (d ≡ e) × (t ≡ u)) → (y : Bool) → ltb w p ≡ y
+    → beginGate p v w o d t rows marks reading table ≡ beginGate p v w o e u rows marks reading table
 unfolding beginGate
-same-begin p v w o d e t u rows marks reading f true h =
+same-begin p v w o d e t u rows marks reading table f true h =
     let s = f (ltb-true w p h) in
-    λ i. beginGate p v w o (s .0 i) (s .1 i) rows marks reading
-same-begin p v w o d e t u rows marks reading f false h = rw h
+    λ i. beginGate p v w o (s .0 i) (s .1 i) rows marks reading table
+same-begin p v w o d e t u rows marks reading table f false h = rw h
 
-pub same-gate : (r : Decoded) (w : ℕ) → Names r w → (up : Bool) (p v long : ℕ) (d e : Doing) (t u : Announced) (list rows marks reading : List ℕ)
-    → (up ≡ true → w < p → whoOf r ≡ w → (d ≡ e) × (t ≡ u)) → gateOf r up p v long d t list rows marks reading ≡ gateOf r up p v long e u list rows marks reading
+pub same-gate : (r : Decoded) (w : ℕ) → Names r w → (up : Bool) (p v long : ℕ) (d e : Doing) (t u : Announced) (list rows marks reading table : List ℕ)
+    → (up ≡ true → w < p → whoOf r ≡ w → (d ≡ e) × (t ≡ u)) → gateOf r up p v long d t list rows marks reading table ≡ gateOf r up p v long e u list rows marks reading table
 unfolding gateOf whoOf
-same-gate (Refuses k) w n up p v long d e t u list rows marks reading f = refl
-same-gate (Asks (SetUp x y a k)) w n up p v long d e t u list rows marks reading f = refl
-same-gate (Asks (Begin i o)) w n false p v long d e t u list rows marks reading f = refl
-same-gate (Asks (Begin i o)) w n true p v long d e t u list rows marks reading f =
-    same-begin p v i o d e t u rows marks reading (λ h. f refl (subst (λ (k : ℕ). k < p) n h) n) (ltb i p) refl
-same-gate (Asks (Step i)) w n up p v long d e t u list rows marks reading f = refl
+same-gate (Refuses k) w n up p v long d e t u list rows marks reading table f = refl
+same-gate (Asks (SetUp x y a k)) w n up p v long d e t u list rows marks reading table f = refl
+same-gate (Asks (Begin i o)) w n false p v long d e t u list rows marks reading table f = refl
+same-gate (Asks (Begin i o)) w n true p v long d e t u list rows marks reading table f =
+    same-begin p v i o d e t u rows marks reading table (λ h. f refl (subst (λ (k : ℕ). k < p) n h) n) (ltb i p) refl
+same-gate (Asks (Step i)) w n up p v long d e t u list rows marks reading table f = refl
 
 ------------------------------------------------------------------------
 -- The worker that a record names stands in its byte 1 (H3.3)

@@ -9,6 +9,7 @@ use Rattle.model.specs.Store.{markCount}
 use Rattle.model.specs.Rules.{inForce}
 use Rattle.model.specs.Totals.{firstOf}
 use Rattle.model.specs.Record as Model
+use Rattle.model.specs.Rights.{allowed}
 use Rattle.model.specs.Apply.{valueWithin}
 use Rattle.worker.specs.declared.Announced.{Announced}
 use Rattle.worker.specs.declared.Announced.the-variants.{Nothing as NoTime, At}
@@ -29,6 +30,10 @@ use Rattle.marks.specs.declared.MarkNeed.{MarkNeed}
 use Rattle.marks.specs.declared.MarkNeed.the-variants.{Nothing as NoMark, Empty, Held, Unread}
 use Rattle.marks.specs.Marks.{refusalIn}
 use Rattle.totals.specs.Rows.{goalIn}
+use Rattle.rights.specs.declared.Needed.{Needed}
+use Rattle.rights.specs.declared.Needed.the-variants.{Nothing as NoRight, On, OnGroup, InAny, OnAll}
+use Rattle.rights.specs.declared.Permission.the-variants.{Put as ToPut, Read as ToRead, Collect as ToCollect, Mark as ToMark}
+use Rattle.rights.specs.Needs.{neededIn}
 use Rattle.gate.specs.declared.TimeNeed.{TimeNeed}
 use Rattle.gate.specs.declared.TimeNeed.the-variants.{Any, Absent, Own}
 use Rattle.gate.specs.declared.Putting.{Putting}
@@ -72,30 +77,48 @@ decodedIn b = decodedRep (Model.decode b)
 -- Refusals
 
 -- an operation that names no register, no group, no value and no mark
-abbrev pub bare : TimeNeed → Doing → Terms
-bare t d = record { register = Nothing; row = Nothing; value = NoValue; time = t; mark = NoMark; first = d }
+abbrev pub bare : Needed → TimeNeed → Doing → Terms
+bare n t d = record { register = Nothing; row = Nothing; value = NoValue; right = n; time = t; mark = NoMark; first = d }
 
--- one that names a register alone
+-- one that names a register alone, and reads it
 abbrev pub onRegister : ℕ → TimeNeed → Doing → Terms
-onRegister r t d = record { register = Is r; row = Nothing; value = NoValue; time = t; mark = NoMark; first = d }
+onRegister r t d =
+    record { register = Is r; row = Nothing; value = NoValue; right = On ToRead r; time = t; mark = NoMark; first = d }
 
 -- and one that names a mark alone
 abbrev pub onMark : MarkNeed → TimeNeed → Doing → Terms
-onMark m t d = record { register = Nothing; row = Nothing; value = NoValue; time = t; mark = m; first = d }
+onMark m t d =
+    record { register = Nothing; row = Nothing; value = NoValue; right = OnAll ToMark; time = t; mark = m; first = d }
 
 -- The terms on which an operation begins, with the rows of totals: the model's `terms` in this code's types, with the first row of its group in
 -- the place of the group that an operation names.
 abbrev pub termsOf : Operation → List ℕ → Terms
 termsOf (Put r x) rows =
-    record { register = Is r; row = Nothing; value = Value (x .count); time = Any; mark = NoMark; first = PutPublish r x }
-termsOf Open rows = bare Absent (OnTime OpenAnnounce)
+    record {
+      register = Is r;
+      row = Nothing;
+      value = Value (x .count);
+      right = On ToPut r;
+      time = Any;
+      mark = NoMark;
+      first = PutPublish r x;
+    }
+termsOf Open rows = bare NoRight Absent (OnTime OpenAnnounce)
 termsOf (Read r) rows = onRegister r Own (ReadEnter (record { register = r; purpose = Single }))
-termsOf Close rows = bare Own (OnTime CloseWithdraw)
+termsOf Close rows = bare NoRight Own (OnTime CloseWithdraw)
 termsOf (Get r) rows = onRegister r Any (GetShow r)
-termsOf Collect rows = bare Any FlushTake
+termsOf Collect rows = bare (InAny ToCollect) Any FlushTake
 termsOf (Total g) rows =
     let i = firstOf g rows in
-    record { register = Nothing; row = Is i; value = NoValue; time = Own; mark = NoMark; first = ReadEnter (goalIn rows g i 0 0) }
+    record {
+      register = Nothing;
+      row = Is i;
+      value = NoValue;
+      right = OnGroup g;
+      time = Own;
+      mark = NoMark;
+      first = ReadEnter (goalIn rows g i 0 0);
+    }
 termsOf (Mark m) rows = onMark (Empty m) Own (OnTime (MarkKeep m))
 termsOf (Release m) rows = onMark (Unread m) Any (OnTime (MarkRelease m))
 termsOf (MarkedRead r m) rows =
@@ -103,6 +126,7 @@ termsOf (MarkedRead r m) rows =
       register = Is r;
       row = Nothing;
       value = NoValue;
+      right = On ToRead r;
       time = Any;
       mark = Held m;
       first = ReadEnter (record { register = r; purpose = Marked m });
@@ -147,20 +171,23 @@ timeOk Any t = true
 timeOk Absent t = true
 timeOk Own t = hasTime t
 
--- the refusals of a begin in their order: 3, 4, 17, 16, 10, 12, 13, and 19, 20 or 21, where `reading` says which mark each worker reads
-unfoldable pub beginGate : ℕ → ℕ → ℕ → Operation → Doing → Announced → List ℕ → List ℕ → List ℕ → Gate
-beginGate p v w o d t rows marks reading =
+-- the refusals of a begin in their order: 3, 4, 17, 16, 23, 10, 12, 13, and 19, 20 or 21, where `reading` says which mark each worker reads, and
+-- `table` has the rows of rights
+unfoldable pub beginGate : ℕ → ℕ → ℕ → Operation → Doing → Announced → List ℕ → List ℕ → List ℕ → List ℕ → Gate
+beginGate p v w o d t rows marks reading table =
     let x = termsOf o rows in
     let k = refusalIn (x .mark) marks reading in
     cond (ltb w p)
     (cond (namedOk (x .register) v && namedOk (markOf (x .mark)) markCount)
     (cond (groupOk (x .row) rows)
     (cond (valueOk (x .value))
+    (cond (allowed table v w (neededIn (x .right) rows))
     (cond (aboutOf d .idle)
     (cond (openOk (x .time) t)
     (cond (timeOk (x .time) t) (cond (eqb k 0) (Start w (x .first)) (Refuse k)) (Refuse 13))
     (Refuse 12))
     (Refuse 10))
+    (Refuse 23))
     (Refuse 16))
     (Refuse 17))
     (Refuse 4))
@@ -176,17 +203,17 @@ abbrev pub setupOk : ℕ → ℕ → ℕ → ℕ → ℕ → List ℕ → Bool
 setupOk p v n k long list = sizesOk p v n k long && Model.listFits v list
 
 -- 9 or 5 of a setup, with the list that comes with it; 8, then those of a begin; 8 or 3 of a step
-abbrev pub commandGate : Command → Bool → ℕ → ℕ → ℕ → Doing → Announced → List ℕ → List ℕ → List ℕ → List ℕ → Gate
-commandGate (SetUp x y n k) up p v long d t list rows marks reading =
+abbrev pub commandGate : Command → Bool → ℕ → ℕ → ℕ → Doing → Announced → List ℕ → List ℕ → List ℕ → List ℕ → List ℕ → Gate
+commandGate (SetUp x y n k) up p v long d t list rows marks reading table =
     cond up (Refuse 9) (cond (setupOk x y n k long list) (Make x y n k) (Refuse 5))
-commandGate (Begin w o) up p v long d t list rows marks reading = cond up (beginGate p v w o d t rows marks reading) (Refuse 8)
-commandGate (Step w) up p v long d t list rows marks reading = cond up (cond (ltb w p) (Go w) (Refuse 3)) (Refuse 8)
+commandGate (Begin w o) up p v long d t list rows marks reading table = cond up (beginGate p v w o d t rows marks reading table) (Refuse 8)
+commandGate (Step w) up p v long d t list rows marks reading table = cond up (cond (ltb w p) (Go w) (Refuse 3)) (Refuse 8)
 
 -- what is to be done with a record that was read; `up` says that the memory counts as set up, `rows` are the rows of totals that it has, `marks`
--- the times of the marks, and `reading` says which mark each worker reads
-unfoldable pub gateOf : Decoded → Bool → ℕ → ℕ → ℕ → Doing → Announced → List ℕ → List ℕ → List ℕ → List ℕ → Gate
-gateOf (Asks c) up p v long d t list rows marks reading = commandGate c up p v long d t list rows marks reading
-gateOf (Refuses k) up p v long d t list rows marks reading = Refuse k
+-- the times of the marks, `reading` says which mark each worker reads, and `table` has the rows of rights
+unfoldable pub gateOf : Decoded → Bool → ℕ → ℕ → ℕ → Doing → Announced → List ℕ → List ℕ → List ℕ → List ℕ → List ℕ → Gate
+gateOf (Asks c) up p v long d t list rows marks reading table = commandGate c up p v long d t list rows marks reading table
+gateOf (Refuses k) up p v long d t list rows marks reading table = Refuse k
 
 -- the worker that a command names, 0 where it names none
 abbrev pub commandWho : Command → ℕ

@@ -8,6 +8,8 @@ use marks::MarkNeed;
 use record::Command;
 use record::Decoded;
 use record::Operation;
+use rights::Needed;
+use rights::Permission;
 use worker::Announced;
 use worker::Doing;
 use worker::Goal;
@@ -52,32 +54,34 @@ pub enum Putting {
     Value(u64),
 }
 
-// The terms on which an operation begins: the register that it names, the first row of the group that it names, the value that it puts, what
-// it asks of the announced time and of a mark, and its first place.
+// The terms on which an operation begins: the register that it names, the first row of the group that it names, the value that it puts, the right
+// that it needs, what it asks of the announced time and of a mark, and its first place.
 pub struct Terms {
     pub register: Named,
     pub row: Named,
     pub value: Putting,
+    pub right: Needed,
     pub time: TimeNeed,
     pub mark: MarkNeed,
     pub first: Doing,
 }
 
 // An operation that names no register, no group, no value and no mark.
-fn bare(time: TimeNeed, first: Doing) -> Terms
-    ensures { λ r. ⌜ r ≡ bare time first ⌝ }
+fn bare(right: Needed, time: TimeNeed, first: Doing) -> Terms
+    ensures { λ r. ⌜ r ≡ bare right time first ⌝ }
 {
     Terms {
         register: Named::Nothing,
         row: Named::Nothing,
         value: Putting::Nothing,
+        right,
         time,
         mark: MarkNeed::Nothing,
         first,
     }
 }
 
-// One that names a register alone.
+// One that names a register alone, and reads it.
 fn on_register(register: u16, time: TimeNeed, first: Doing) -> Terms
     ensures { λ r. ⌜ r ≡ onRegister register time first ⌝ }
 {
@@ -85,6 +89,10 @@ fn on_register(register: u16, time: TimeNeed, first: Doing) -> Terms
         register: Named::Is(register),
         row: Named::Nothing,
         value: Putting::Nothing,
+        right: Needed::On {
+            permission: Permission::Read,
+            register,
+        },
         time,
         mark: MarkNeed::Nothing,
         first,
@@ -99,6 +107,7 @@ fn on_mark(mark: MarkNeed, time: TimeNeed, first: Doing) -> Terms
         register: Named::Nothing,
         row: Named::Nothing,
         value: Putting::Nothing,
+        right: Needed::OnAll(Permission::Mark),
         time,
         mark,
         first,
@@ -114,11 +123,19 @@ fn terms_of(o: Operation, rows: &[u32; 1024], n: usize) -> Terms
             register: Named::Is(register),
             row: Named::Nothing,
             value: Putting::Value(reading.count),
+            right: Needed::On {
+                permission: Permission::Put,
+                register,
+            },
             time: TimeNeed::Any,
             mark: MarkNeed::Nothing,
             first: Doing::PutPublish { register, reading },
         },
-        Operation::Open => bare(TimeNeed::Absent, Doing::OnTime(TimeStep::OpenAnnounce)),
+        Operation::Open => bare(
+            Needed::Nothing,
+            TimeNeed::Absent,
+            Doing::OnTime(TimeStep::OpenAnnounce),
+        ),
         Operation::Read { register } => {
             let goal = Goal {
                 register,
@@ -126,11 +143,19 @@ fn terms_of(o: Operation, rows: &[u32; 1024], n: usize) -> Terms
             };
             on_register(register, TimeNeed::Own, Doing::ReadEnter { goal })
         }
-        Operation::Close => bare(TimeNeed::Own, Doing::OnTime(TimeStep::CloseWithdraw)),
+        Operation::Close => bare(
+            Needed::Nothing,
+            TimeNeed::Own,
+            Doing::OnTime(TimeStep::CloseWithdraw),
+        ),
         Operation::Get { register } => {
             on_register(register, TimeNeed::Any, Doing::GetShow { register })
         }
-        Operation::Collect => bare(TimeNeed::Any, Doing::FlushTake),
+        Operation::Collect => bare(
+            Needed::InAny(Permission::Collect),
+            TimeNeed::Any,
+            Doing::FlushTake,
+        ),
         Operation::Total { group } => {
             let first = totals::first_of(rows, n, group);
             let goal = totals::goal_at(rows, n, group, first, 0, 0);
@@ -139,6 +164,7 @@ fn terms_of(o: Operation, rows: &[u32; 1024], n: usize) -> Terms
                 register: Named::Nothing,
                 row: Named::Is(row),
                 value: Putting::Nothing,
+                right: Needed::OnGroup(group),
                 time: TimeNeed::Own,
                 mark: MarkNeed::Nothing,
                 first: Doing::ReadEnter { goal },
@@ -163,6 +189,10 @@ fn terms_of(o: Operation, rows: &[u32; 1024], n: usize) -> Terms
                 register: Named::Is(register),
                 row: Named::Nothing,
                 value: Putting::Nothing,
+                right: Needed::On {
+                    permission: Permission::Read,
+                    register,
+                },
                 time: TimeNeed::Any,
                 mark: MarkNeed::Held(mark),
                 first: Doing::ReadEnter { goal },
@@ -245,7 +275,8 @@ fn time_ok(x: TimeNeed, t: Announced) -> bool
 }
 
 // The tests of a begin, of a worker at the place d with the announced time t, in the order of the refusals. They are made before the first is
-// looked at: none changes anything, and the order stands in one place. `reading` says of the first p workers which mark each reads.
+// looked at: none changes anything, and the order stands in one place. `reading` says of the first p workers which mark each reads; of the rows
+// of rights the first `granted` count.
 fn begin<'a>(
     p: usize,
     v: usize,
@@ -257,16 +288,20 @@ fn begin<'a>(
     n: usize,
     marks: &'a [u64; 12],
     reading: &'a [u8; 16],
+    rights: &'a [u64; 64],
+    granted: usize,
 ) -> Gate
     ensures { λ r. ⌜
         r
         ≡ beginGate p v worker o d t (take n (now (rows .entry))) (now (marks .entry)) (take p (now (reading .entry)))
+        (take granted (now (rights .entry)))
         ⌝ }
 {
     let x = terms_of(o, rows, n);
     let register = x.register;
     let row = x.row;
     let value = x.value;
+    let right = x.right;
     let need = x.time;
     let mark = x.mark;
     let doing = x.first;
@@ -274,6 +309,7 @@ fn begin<'a>(
     let known = named_ok(register, v) & named_ok(mark_of(mark), 12);
     let there = group_ok(row, rows, n);
     let fits = value_ok(value);
+    let may = rights::is_allowed(right, rights, granted, rows, n, v, worker);
     let place = worker::about(d);
     let unannounced = open_ok(need, t);
     let announced = time_ok(need, t);
@@ -282,19 +318,22 @@ fn begin<'a>(
         if known {
             if there {
                 if fits {
-                    if place.idle {
-                        if unannounced {
-                            if announced {
-                                if k == 0 {
-                                    return Gate::Start { worker, doing };
+                    if may {
+                        if place.idle {
+                            if unannounced {
+                                if announced {
+                                    if k == 0 {
+                                        return Gate::Start { worker, doing };
+                                    }
+                                    return Gate::Refuse(k);
                                 }
-                                return Gate::Refuse(k);
+                                return Gate::Refuse(13);
                             }
-                            return Gate::Refuse(13);
+                            return Gate::Refuse(12);
                         }
-                        return Gate::Refuse(12);
+                        return Gate::Refuse(10);
                     }
-                    return Gate::Refuse(10);
+                    return Gate::Refuse(23);
                 }
                 return Gate::Refuse(16);
             }
@@ -322,7 +361,7 @@ fn setup_ok(p: u8, v: u16, n: u16, clock: u32, long: usize, list: &[u8]) -> bool
 
 // What is to be done with a record that was read as r, where `up` says that the memory counts as set up, of a worker at the place d with
 // the announced time t; a setup comes with the list, and of the rows of totals the first `listed` count. `reading` says of the first p workers
-// which mark each reads.
+// which mark each reads, and of the rows of rights the first `granted` count.
 pub fn gate_for<'a>(
     r: Decoded,
     up: bool,
@@ -336,12 +375,15 @@ pub fn gate_for<'a>(
     listed: usize,
     marks: &'a [u64; 12],
     reading: &'a [u8; 16],
+    rights: &'a [u64; 64],
+    granted: usize,
 ) -> Gate
     ensures { λ g. ⌜
         g
         ≡ gateOf r up p v long d t (now (list .entry)) (take listed (now (rows .entry)))
         (now (marks .entry))
         (take p (now (reading .entry)))
+        (take granted (now (rights .entry)))
         ⌝ }
 {
     match r {
@@ -370,7 +412,20 @@ pub fn gate_for<'a>(
             }
             Command::Begin { worker, operation } => {
                 if up {
-                    return begin(p, v, worker, operation, d, t, rows, listed, marks, reading);
+                    return begin(
+                        p,
+                        v,
+                        worker,
+                        operation,
+                        d,
+                        t,
+                        rows,
+                        listed,
+                        marks,
+                        reading,
+                        rights,
+                        granted,
+                    );
                 }
                 return Gate::Refuse(8);
             }

@@ -13,5 +13,6 @@ pub mod Rows
 pub mod Runs
 pub mod Singles
 pub mod SlotArray
+pub mod Tables
 pub mod Values
 pub mod Words

@@ -35,23 +35,23 @@ use Rattle.runs.specs.Runs.{One}
 use Rattle.hub.proofs.Known.{Learns, array-long, bytes-small, untold, no-thing, and-more}
 
 -- ---- the five arrays
-abbrev Newest : RattleType
+abbrev pub Newest : RattleType
 Newest = Array u16 256
 
-abbrev Free : RattleType
+abbrev pub Free : RattleType
 Free = Array u16 2048
 
-abbrev Queue : RattleType
+abbrev pub Queue : RattleType
 Queue = Array u32 12288
 
-abbrev Lens : RattleType
+abbrev pub Lens : RattleType
 Lens = Array u32 4096
 
-abbrev Merged : RattleType
+abbrev pub Merged : RattleType
 Merged = Array u32 12288
 
 -- the references, and what is left behind them
-abbrev Arrays : Type 0
+abbrev pub Arrays : Type 0
 Arrays = RefT (List ℕ) × (RefT (List ℕ) × (RefT (List ℕ) × (RefT (List ℕ) × (RefT (List ℕ) × Unit {0}))))
 
 abbrev Lists : Type 0
@@ -66,10 +66,10 @@ told : (κ : Lft) (R : RattleType) → Tells (MutRef (named 0) κ R) (Is (MutRef
 told = mut-tells (named 0)
 
 -- what each is in the machine, and all of them
-abbrev Each : Type 0
+abbrev pub Each : Type 0
 Each = List Val × (List Val × (List Val × (List Val × (List Val × Unit {0}))))
 
-abbrev array-vals : Arrays → Each
+abbrev pub array-vals : Arrays → Each
 array-vals a = (ptr-vals (a .0), (ptr-vals (a .1 .0), (ptr-vals (a .1 .1 .0), (ptr-vals (a .1 .1 .1 .0), (ptr-vals (a .1 .1 .1 .1 .0), tt)))))
 
 abbrev array-spells : (ks : Lfts 5) → Spells (array-types ks)
@@ -79,7 +79,7 @@ arrays-tell : (ks : Lfts 5) → Tellss (array-types ks) (Ises (array-types ks)) 
 arrays-tell ks =
     (told (ks .0) Newest, (told (ks .1 .0) Free, (told (ks .1 .1 .0) Queue, (told (ks .1 .1 .1 .0) Lens, (told (ks .1 .1 .1 .1 .0) Merged, tt)))))
 
-abbrev array-list : Arrays → List Val
+abbrev pub array-list : Arrays → List Val
 array-list a =
     only (ptr-vals (a .0)) ∷ only (ptr-vals (a .1 .0)) ∷ only (ptr-vals (a .1 .1 .0)) ∷ only (ptr-vals (a .1 .1 .1 .0))
     ∷ only (ptr-vals (a .1 .1 .1 .1 .0)) ∷ []
@@ -91,7 +91,7 @@ arrays-end a z =
     (fsep (fres (a .1 .1 .1 .1 .0 .name) (Merged .coded .code (z .1 .1 .1 .1 .0))) ftrue))))
 
 -- the memory that they are with a hub and a row of slots, before and after
-abbrev found : Hub → List Slot → Arrays → Memory
+abbrev pub found : Hub → List Slot → Arrays → Memory
 found h s a = memory h s (a .0 .now) (a .1 .0 .now) (a .1 .1 .0 .now) (a .1 .1 .1 .0 .now) (a .1 .1 .1 .1 .0 .now)
 
 abbrev leaves : Hub → List Slot → Lists → Memory
@@ -113,10 +113,12 @@ arrays-long 𝓤 H A W ks qs a =
     (and-more 𝓤 H A W (array-long 𝓤 H A W (ks .1 .1 .1 .1 .0) (qs .1 .1 .1 .1 .0) (named 0) u32 12288 (a .1 .1 .1 .1 .0))
     (no-thing 𝓤 H A W)))))
 
--- a hub by value has sixteen workers, 28 times for each, room for 1,024 rows of totals and for twelve marks, and a byte for each worker
+-- a hub by value has sixteen workers, 28 times for each, room for 1,024 rows of totals, for twelve marks and for 64 rows of rights, and a byte for
+-- each worker
 abbrev pub HubLong : Hub → Type 0
 HubLong h =
     (length (h .workers) ≡ 16) × (length (h .times) ≡ 448) × (length (h .rows) ≡ 1024) × (length (h .marks) ≡ 12) × (length (h .reading) ≡ 16)
+    × (length (h .rights) ≡ 64)
 
 sized : (h : Hub) (s : List Slot) (a : Arrays) → HubLong h → Long a → Sized (found h s a)
 sized h s a w long =
@@ -126,6 +128,7 @@ sized h s a w long =
       marks = w .3;
       reading = w .4;
       rows = w .2;
+      rights = w .5;
       newest = long .0;
       free = long .1 .0;
       queue = long .1 .1 .0;

@@ -62,9 +62,10 @@ module _ {M : Type 1} (𝓤 : URA M) (H : Heap 𝓤) (A : Atoms 𝓤) (W : Given
 pub hub-sizes : (h : Hub) → Is B.the-row h (hub-vals h) → HubLong h
 hub-sizes h is =
     let o = LL.owed B.the-type B′.the-laws h _ is .1 .1 .1 .1 .1 .1 .1 in (
-      sym (length-map (h .workers) _) ∙ o .1 .1 .1 .1 .0 .1 .0 .1,
+      sym (length-map (h .workers) _) ∙ o .1 .1 .1 .1 .1 .1 .0 .1 .0 .1,
       sym (length-map (h .times) _) ∙ o .1 .0 .1 .0 .1,
       sym (length-map (h .rows) _) ∙ o .0 .1 .0 .1,
       sym (length-map (h .marks) _) ∙ o .1 .1 .0 .1 .0 .1,
       sym (length-map (h .reading) _) ∙ o .1 .1 .1 .0 .1 .0 .1,
+      sym (length-map (h .rights) _) ∙ o .1 .1 .1 .1 .1 .0 .1 .0 .1,
     )

@@ -6,6 +6,7 @@ ghost use lib.ListN.{replicate, take, drop};
 ghost use Rattle.versions.specs.Versions.{rowOf};
 ghost use Rattle.simulation.specs.Public.{Does};
 ghost use Rattle.simulation.specs.Buffer.{Applies};
+ghost use Rattle.simulation.specs.Tables.{Gives};
 ghost use Rattle.hub.specs.Doors.{copiedTo};
 use runs::Applied;
 use runs::Counted;
@@ -221,6 +222,87 @@ pub fn apply_words(
         lens,
         merged,
     )
+}
+
+// ---- a table of rights
+
+// H15.8: gives a table of any bytes, on any lent memory: 9 where it counts as set up, then 24; a refusal changes nothing. Nothing but the hub by
+// value is changed.
+pub fn give_table<'a>(
+    slots: &'a [Slot],
+    hub: Hub,
+    table: &'a [u8],
+    newest: &'a [u16; 256],
+    free: &'a [u16; 2048],
+    queue: &'a [u32; 12288],
+    lens: &'a [u32; 4096],
+    merged: &'a [u32; 12288],
+) -> Applied
+    ensures { λ r. ⌜
+        Gives
+        (record {
+          hub = hub;
+          slots = now (slots .entry);
+          newest = now (newest .entry);
+          free = now (free .entry);
+          queue = now (queue .entry);
+          lens = now (lens .entry);
+          merged = now (merged .entry);
+        })
+        (now (table .entry)) (r .answer)
+        (record {
+          hub = r .hub;
+          slots = now (slots .entry);
+          newest = now (newest .entry);
+          free = now (free .entry);
+          queue = now (queue .entry);
+          lens = now (lens .entry);
+          merged = now (merged .entry);
+        })
+        ⌝ }
+{
+    let mut row = zeros();
+    let n = runs::at_most(slots.len(), 2048);
+    load_row(slots, &mut row, n);
+    runs::give_table(&row, n, hub, table, newest, free, queue, lens, merged)
+}
+
+// The same for a caller that has the slots as words.
+pub fn give_table_words<'a>(
+    row: &'a [[u64; 6]],
+    hub: Hub,
+    table: &'a [u8],
+    newest: &'a [u16; 256],
+    free: &'a [u16; 2048],
+    queue: &'a [u32; 12288],
+    lens: &'a [u32; 4096],
+    merged: &'a [u32; 12288],
+) -> Applied
+    ensures { λ r. ⌜
+        Gives
+        (record {
+          hub = hub;
+          slots = rowOf (now (row .entry));
+          newest = now (newest .entry);
+          free = now (free .entry);
+          queue = now (queue .entry);
+          lens = now (lens .entry);
+          merged = now (merged .entry);
+        })
+        (now (table .entry)) (r .answer)
+        (record {
+          hub = r .hub;
+          slots = rowOf (now (row .entry));
+          newest = now (newest .entry);
+          free = now (free .entry);
+          queue = now (queue .entry);
+          lens = now (lens .entry);
+          merged = now (merged .entry);
+        })
+        ⌝ }
+{
+    let n = row.len();
+    runs::give_table(row, n, hub, table, newest, free, queue, lens, merged)
 }
 
 // ---- for programs that own the row

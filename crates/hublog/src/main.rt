@@ -1,6 +1,16 @@
 // Reads records from standard input and writes a line for each (H10). What a read brings is logged at once; the rest of a record waits for the
-// next read. The first argument names the file with the list of totals. This crate owns the memory of the hub.
+// next read. The first argument names the file with the list of totals, the second that with the table of rights (H10.7, H15.11). This crate owns
+// the memory of the hub.
 use state::Hub;
+use values::Answer;
+
+// Whether the table is refused. On memory that is not set up no other number than 24 is given.
+fn refused(y: Answer) -> bool {
+    match y {
+        Answer::No(_) => true,
+        _ => false,
+    }
+}
 
 fn main() {
     // A read brings at most 16384 records; the text has room for as many lines of 49 bytes, the longest.
@@ -26,11 +36,37 @@ fn main() {
         return;
     }
     let long = listed.n;
-    // The slots, five words each.
+    // The table of rights: one byte more than the longest that is accepted.
+    let mut table_space = [0u8; 513];
+    let table: &mut [u8] = &mut table_space;
+    let tabled = input::read_named(2, table);
+    if tabled.failed {
+        input::say(b"hublog: cannot read the table of rights\n");
+        return;
+    }
+    let rows = tabled.n;
+    let lent = &table[..];
+    // The slots, six words each.
     let mut row_space = [[0u64; 6]; 2048];
     let row: &mut [[u64; 6]] = &mut row_space;
-    // No worker, no register, no slot: memory that counts as not set up.
-    let mut hub = Hub::fresh(0, 0, 0, 0, 0, [0u32; 1024]);
+    // No worker, no register, no slot, no table: memory that counts as not set up.
+    let mut hub = Hub::empty();
+    let given = hub::give_table_words(
+        row,
+        hub,
+        &lent[0..rows],
+        &newest,
+        &free,
+        &queue,
+        &lens,
+        &merged,
+    );
+    let fresh = given.hub;
+    hub = fresh;
+    let answer = given.answer;
+    if refused(answer) {
+        input::say(b"hublog: the table is refused: 24\n");
+    }
     // The number of the next record, and how many of its bytes stand at the start of the block.
     let mut first: u64 = 0;
     let mut kept: usize = 0;

@@ -2,6 +2,7 @@
 -- records, by induction on the reads.
 use mathlib.Core.Path.{_≡_, refl, sym, ap, subst, _∙_}
 use mathlib.Core.List.{List, [], _∷_, _++_, map, flatten, append-assoc}
+use mathlib.Core.Bool.{Bool, true, false, cond}
 use Prim.Native.Nat.{ℕ, _%_}
 use native.Mathlib.Omega.{arith}
 use lib.ListN.{length, take, drop, take-append-drop}
@@ -9,15 +10,43 @@ use lib.Seq.{length-take-le}
 use Rattle.model.specs.Rules.{inForce}
 use Rattle.model.specs.Log.{logOf}
 use Rattle.slots.specs.Slots.{slotOf}
-use Rattle.ready.specs.Ready.{sizesFit, readyOf}
+use Rattle.ready.specs.Ready.{sizesFit, scansFit, readyOf}
+use Rattle.model.specs.Store.{Hub, blank}
+use Rattle.model.specs.Rights.{tableOf, tableFits}
+use Rattle.model.specs.Answer.{Ok, No}
+use Rattle.model.specs.Apply.{unless, giveTable, emptied}
+use Rattle.values.specs.Meaning.{answerOf}
+use Rattle.state.specs.State.{emptyHub}
+use Rattle.simulation.specs.Memory.{Memory, memory, lentIn}
 use Rattle.simulation.specs.Left.{ready}
+use Rattle.simulation.specs.Holds.{Holds}
+use Rattle.simulation.specs.Demands.{Demands}
+use Rattle.simulation.proofs.Demands.{demands}
 use Rattle.logs.specs.Part.{wholeRecords}
-use Rattle.logs.specs.File.{CutBetweenRecords, StartsBlank, lastPart, partsOf, AnyReads}
+use Rattle.logs.specs.File.{CutBetweenRecords, StartsBlank, StartsWith, lastPart, partsOf, AnyReads}
 use Rattle.logs.proofs.Whole.{whole-file}
 
 pub starts-blank : StartsBlank
-unfolding ready readyOf sizesFit
+unfolding ready readyOf scansFit sizesFit
 starts-blank slots newest free queue lens merged = refl
+
+-- with a table given, what the model makes of it
+pub starts-with : StartsWith
+unfolding giveTable
+starts-with slots newest free queue lens merged bytes y m Z G =
+    let m₀ : Memory = memory emptyHub slots newest free queue lens merged in
+    let D = demands .table (emptied (map slotOf slots)) m₀ m bytes y (demands .empty m₀) Z G in
+    by (tableFits bytes) (D .0) (D .1)
+  where
+    given : Hub
+    given = blank (record { row = map slotOf slots; table = tableOf bytes })
+
+    by : (t : Bool)
+        → answerOf y ≡ unless t (emptied (map slotOf slots)) 24 (record { hub = given; answer = Ok }) .answer
+        → Holds (unless t (emptied (map slotOf slots)) 24 (record { hub = given; answer = Ok }) .hub) m
+        → (ready m ≡ false) × (lentIn m ≡ record { row = map slotOf slots; table = cond t (tableOf bytes) [] }) × (answerOf y ≡ cond t Ok (No 24))
+    by true a H = (H .0, sym (H .1), a)
+    by false a H = (H .0, sym (H .1), a)
 
 -- the whole records of some bytes
 whole-part : (b : List ℕ) → length (take (wholeRecords (length b)) b) % 16 ≡ 0
@@ -52,4 +81,4 @@ together (r ∷ rs) kept =
 pub any-reads : AnyReads
 any-reads m list ps rs e parted H =
     whole-file m list ps e (subst CutBetweenRecords (sym parted) (between rs [])) H
-    ∙ ap (logOf (inForce list) (map slotOf (m .slots))) (ap flatten parted ∙ together rs [])
+    ∙ ap (logOf (inForce list) (lentIn m)) (ap flatten parted ∙ together rs [])

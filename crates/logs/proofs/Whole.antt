@@ -19,8 +19,7 @@ use Rattle.model.proofs.Main.{answers-of-events}
 use Rattle.values.specs.declared.Answer.{Answer}
 use Rattle.values.specs.Meaning.{answerOf}
 use Rattle.answers.specs.Numbers.{kindOf, numberOf}
-use Rattle.slots.specs.Slots.{slotOf}
-use Rattle.simulation.specs.Memory.{Memory}
+use Rattle.simulation.specs.Memory.{Memory, lentIn}
 use Rattle.simulation.specs.Holds.{Holds, sent, memoryAfter, AsModel}
 use Rattle.simulation.specs.Records.{recordAt, recordsIn}
 use Rattle.simulation.specs.Buffer.{answerAt, exchangeAt, Applies}
@@ -159,4 +158,4 @@ parts list (p ∷ ps) h m first L c H =
 
 pub whole-file : WholeFile
 unfolding logOf
-whole-file m list ps e c H = parts list ps (blank (map slotOf (m .slots))) m 0 (e, refl) c H
+whole-file m list ps e c H = parts list ps (blank (lentIn m)) m 0 (e, refl) c H

@@ -1,17 +1,22 @@
 -- What is printed for a whole file: the joined texts of its parts are the model's log of the file. This is the statement to read; it is proved
 -- in proofs/Whole.antt, and what the program brings to it in proofs/Pieces.antt.
 use mathlib.Core.Path.{_≡_}
-use mathlib.Core.Bool.{false}
+use mathlib.Core.Bool.{false, cond}
 use mathlib.Core.List.{List, [], _∷_, _++_, map, flatten}
 use Prim.Native.Nat.{ℕ, _+_, _%_}
 use lib.ListN.{length, take, drop}
 use Rattle.model.specs.Rules.{inForce}
+use Rattle.model.specs.Rights.{tableOf, tableFits}
+use Rattle.model.specs.Answer.{Ok, No}
 use Rattle.model.specs.Log.{logOf}
+use Rattle.values.specs.declared.Answer.{Answer}
+use Rattle.values.specs.Meaning.{answerOf}
 use Rattle.slots.specs.Slots.{slotOf}
 use Rattle.slots.specs.declared.Slot.{Slot}
 use Rattle.state.specs.State.{emptyHub}
-use Rattle.simulation.specs.Memory.{Memory, memory}
-use Rattle.simulation.specs.Left.{ready}
+use Rattle.simulation.specs.Memory.{Memory, memory, lentIn}
+use Rattle.simulation.specs.Left.{Sized, ready}
+use Rattle.simulation.specs.Tables.{Gives}
 use Rattle.logs.specs.OnePart.{Call}
 use Rattle.logs.specs.Part.{wholeRecords}
 
@@ -34,15 +39,15 @@ CutBetweenRecords [] = Unit {0}
 CutBetweenRecords (p ∷ []) = Unit {0}
 CutBetweenRecords (p ∷ q ∷ ps) = (length p % 16 ≡ 0) × CutBetweenRecords (q ∷ ps)
 
--- Any file, cut anywhere between records and handed in part by part with any list, from memory that does not count as set up: what was printed is, put together,
--- the model's log of the file.
+-- Any file, cut anywhere between records and handed in part by part with any list, from memory that does not count as set up: what was printed is,
+-- put together, the model's log of the file, with the table of rights that stands in the memory.
 abbrev pub WholeFile : Type 0
 WholeFile =
     (m : Memory) (list : List ℕ) (ps : List Part)
     → ready m ≡ false
     → CutBetweenRecords (map (λ p. p .bytes) ps)
     → HandedIn list m 0 ps
-    → flatten (map (λ p. p .printed) ps) ≡ logOf (inForce list) (map slotOf (m .slots)) (flatten (map (λ p. p .bytes) ps))
+    → flatten (map (λ p. p .printed) ps) ≡ logOf (inForce list) (lentIn m) (flatten (map (λ p. p .bytes) ps))
 
 ------------------------------------------------------------------------
 -- How `hublog` meets this
@@ -52,6 +57,15 @@ abbrev pub StartsBlank : Type 0
 StartsBlank =
     (slots : List Slot) (newest free queue lens merged : List ℕ)
     → ready (memory emptyHub slots newest free queue lens merged) ≡ false
+
+-- A table of any bytes may be given to it: then the memory does not count as set up either, and the table that stands is that one where it is accepted,
+-- and none where it gets 24.
+abbrev pub StartsWith : Type 0
+StartsWith =
+    (slots : List Slot) (newest free queue lens merged bytes : List ℕ) (y : Answer) (m : Memory) → Sized (memory emptyHub slots newest free queue lens merged)
+    → Gives (memory emptyHub slots newest free queue lens merged) bytes y m
+    → (ready m ≡ false) × (lentIn m ≡ record { row = map slotOf slots; table = cond (tableFits bytes) (tableOf bytes) [] })
+    × (answerOf y ≡ cond (tableFits bytes) Ok (No 24))
 
 -- the last part: what is kept at the end of the input, if there is any
 abbrev pub lastPart : List ℕ → List (List ℕ)
@@ -73,4 +87,4 @@ AnyReads =
     → ready m ≡ false
     → map (λ p. p .bytes) ps ≡ partsOf [] rs
     → HandedIn list m 0 ps
-    → flatten (map (λ p. p .printed) ps) ≡ logOf (inForce list) (map slotOf (m .slots)) (flatten rs)
+    → flatten (map (λ p. p .printed) ps) ≡ logOf (inForce list) (lentIn m) (flatten rs)

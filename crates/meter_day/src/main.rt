@@ -65,7 +65,7 @@ fn main() {
     let mut queue = [0u32; 12288];
     let mut lens = [0u32; 4096];
     let mut merged = [0u32; 12288];
-    let hub = Hub::fresh(0, 0, 0, 0, 0, [0u32; 1024]);
+    let hub = Hub::empty();
     let mut kind_space = [0u8; 22];
     let kinds: &mut [u8] = &mut kind_space;
     let mut number_space = [0u64; 22];

@@ -97,7 +97,7 @@ pub demand : Demand
 demand row b e bs =
     let A = accepts (b .rules) row (b .bytes) e in
     subst (λ (q : Hub). Demand3 (rowsIn q) (events q bs)) (sym (A .is))
-    (whole (run bs 0 (fresh (b .rules .batch (A .sizes .P)) (A .sizes) (rowsOf (b .rules .list)) (b .rules .table) (A .row)) _ [] [] plain₀ (accepted-inv (b .rules) A)))
+    (whole (run bs 0 (fresh (b .rules .batch (A .sizes .P)) (A .sizes) (rowsOf (b .rules .list)) (row .table) (row .row)) _ [] [] plain₀ (accepted-inv (b .rules) A)))
   where
     whole : {rows free : List ℕ} {es : List Event} → Result rows 0 free es [] [] → Demand3 rows es
     whole R = record { stepsTaken = R .taken; isOrder = R .isOrder; freesNothingNeeded = R .safe; freedOnce = R .once }

@@ -8,7 +8,7 @@ use native.Mathlib.Omega.{arith}
 use lib.Dec.{ltb, leb, eqb}
 use lib.ListN.{length, getD, take, replicate, length-append}
 use borrow.Author.Tests as Tests
-use Rattle.model.specs.Store.{absent, lastClock, Reading, Slot, Range, OpenAnnounce, OpenPass, CloseWithdraw, Purpose, Single, Marked}
+use Rattle.model.specs.Store.{absent, lastClock, Reading, Slot, Range, OpenAnnounce, OpenPass, CloseWithdraw, Purpose, Single, Marked, Lent}
 use Rattle.model.specs.Store.{Totaling, Doing, Idle, PutPublish, PutStamp, PutHandIn, FlushTake, FlushRead, FlushFree, OnTime}
 use Rattle.model.specs.Store.{ReadEnter, ReadStand, GetShow, startWorker, Site, Store, Hub, blank, up, workerAt, slotAt, place}
 use Rattle.model.specs.Totals.{rowAt, ofGroup}
@@ -75,8 +75,8 @@ module _ (now : ℕ) (s : Store) (olds : List (List ℕ)) (h : List Call) (o : L
 ------------------------------------------------------------------------
 -- All records
 
--- a site in the ranges of a setup, whose batch size is what the rules give and from 1 to 64
-pub record SiteFits (rules : Rules) (x : Site) : Type 0 where
+-- a site in the ranges of a setup, whose batch size is what the rules give and from 1 to 64, with this table of rights
+pub record SiteFits (rules : Rules) (table : List ℕ) (x : Site) : Type 0 where
   pub one≤P : 1 ≤ x .P
   pub P≤16 : x .P ≤ 16
   pub one≤V : 1 ≤ x .V'
@@ -84,13 +84,13 @@ pub record SiteFits (rules : Rules) (x : Site) : Type 0 where
   pub V≤N : x .V' ≤ x .N
   pub N≤2048 : x .N ≤ 2048
   pub batch : x .B ≡ rules .batch (x .P)
-  pub table : x .table ≡ rules .table
+  pub own : x .table ≡ table
   pub one≤B : 1 ≤ x .B
   pub B≤64 : x .B ≤ 64
 
 -- A store that records left, of which the first, a setup, was handed in under the rules given: it has the invariant with some history, order and
 -- plain registers, the bounds, and sorted pools.
-pub record Reached (rules : Rules) (s : Store) : Type 0 where
+pub record Reached (rules : Rules) (table : List ℕ) (s : Store) : Type 0 where
   pub now : ℕ
   pub olds : List (List ℕ)
   pub calls : List Call
@@ -99,17 +99,17 @@ pub record Reached (rules : Rules) (s : Store) : Type 0 where
   pub inv : Inv now s olds calls order plain
   pub within : Within (s .site .B) s
   pub byHigh : StoreByHigh s
-  pub fits : SiteFits rules (s .site)
+  pub fits : SiteFits rules table (s .site)
 
-abbrev pub ReachedHub : Rules → Hub → Type 0
-ReachedHub rules (blank row) = ⊥
-ReachedHub rules (up s) = Reached rules s
+abbrev pub ReachedHub : Rules → List ℕ → Hub → Type 0
+ReachedHub rules table (blank row) = ⊥
+ReachedHub rules table (up s) = Reached rules table s
 
 -- one record more, under any rules
-pub reached-apply : {first : Rules} (rules : Rules) (s : Store) → Reached first s → (b : List ℕ)
-    → (t : Store) × (apply rules (up s) b .hub ≡ up t) × Reached first t
+pub reached-apply : {first : Rules} {table : List ℕ} (rules : Rules) (s : Store) → Reached first table s → (b : List ℕ)
+    → (t : Store) × (apply rules (up s) b .hub ≡ up t) × Reached first table t
 unfolding apply
-reached-apply {first} rules s R b = (
+reached-apply {first} {table} rules s R b = (
   F .0,
   F .1,
   record {
@@ -123,7 +123,7 @@ reached-apply {first} rules s R b = (
         (A .kept .inv);
     within = subst (λ (q : Site). Within (q .B) (F .0)) (sym (F .2)) (F .3);
     byHigh = F .4;
-    fits = subst (SiteFits first) (sym (F .2)) (R .fits);
+    fits = subst (SiteFits first table) (sym (F .2)) (R .fits);
   },
 )
   where
@@ -139,13 +139,13 @@ reached-apply {first} rules s R b = (
     F : (t : Store) × (applyDecoded rules (up s) (decode b) .hub ≡ up t) × SameSite s t × Within (s .site .B) t × StoreByHigh t
     F = decoded-bounded (R .now) s (R .olds) (R .calls) (R .order) (R .plain) (R .inv) (R .fits .one≤B) (R .within) (R .byHigh) rules (decode b)
 
-reached-all : {first : Rules} (bs : List Ruled) (s : Store) → Reached first s → Throughout (ReachedHub first) (events (up s) bs)
+reached-all : {first : Rules} {table : List ℕ} (bs : List Ruled) (s : Store) → Reached first table s → Throughout (ReachedHub first table) (events (up s) bs)
 unfolding events
 reached-all [] s R = tt
-reached-all {first} (b ∷ bs) s R =
+reached-all {first} {table} (b ∷ bs) s R =
     let T = reached-apply (b .rules) s R (b .bytes) in (
-      (R, subst (ReachedHub first) (sym (T .1)) (T .2)),
-      subst (λ (q : Hub). Throughout (ReachedHub first) (events q bs)) (sym (T .1)) (reached-all bs (T .0) (T .2)),
+      (R, subst (ReachedHub first table) (sym (T .1)) (T .2)),
+      subst (λ (q : Hub). Throughout (ReachedHub first table) (events q bs)) (sym (T .1)) (reached-all bs (T .0) (T .2)),
     )
 
 all-start : (b n : ℕ) → 0 < b → All (FitW b) (replicate n startWorker)
@@ -153,8 +153,8 @@ all-start b zero h = tt
 all-start b (suc n) h = (h, all-start b n h)
 
 -- the store that an accepted setup leaves
-pub reached-start : (rules : Rules) → Allowed rules → {hub : Hub} (A : Accepted rules hub)
-    → Reached rules (fresh (rules .batch (A .sizes .P)) (A .sizes) (rowsOf (rules .list)) (rules .table) (A .row))
+pub reached-start : (rules : Rules) → Allowed rules → {lent : Lent} {hub : Hub} (A : Accepted rules lent hub)
+    → Reached rules (lent .table) (fresh (rules .batch (A .sizes .P)) (A .sizes) (rowsOf (rules .list)) (lent .table) (lent .row))
 unfolding fresh
 reached-start rules allowed A =
     let size = allowed (A .sizes .P) (A .fits .one≤P) (A .fits .P≤16) in
@@ -176,19 +176,19 @@ reached-start rules allowed A =
             V≤N = A .fits .V≤N;
             N≤2048 = A .fits .N≤2048;
             batch = refl;
-            table = refl;
+            own = refl;
             one≤B = size .0;
             B≤64 = size .1;
           };
     }
 
 -- after every accepted setup whose rules are allowed, every hub that a record meets or leaves
-pub reached : (row : List Slot) (setup : Ruled) → Allowed (setup .rules) → applyRuled (blank row) setup .answer ≡ Ok
-    → (records : List Ruled) → Throughout (ReachedHub (setup .rules)) (events (applyRuled (blank row) setup .hub) records)
+pub reached : (row : Lent) (setup : Ruled) → Allowed (setup .rules) → applyRuled (blank row) setup .answer ≡ Ok
+    → (records : List Ruled) → Throughout (ReachedHub (setup .rules) (row .table)) (events (applyRuled (blank row) setup .hub) records)
 reached row b allowed e bs =
     let A = accepts (b .rules) row (b .bytes) e in
-    subst (λ (q : Hub). Throughout (ReachedHub (b .rules)) (events q bs)) (sym (A .is))
-    (reached-all bs (fresh (b .rules .batch (A .sizes .P)) (A .sizes) (rowsOf (b .rules .list)) (b .rules .table) (A .row)) (reached-start (b .rules) allowed A))
+    subst (λ (q : Hub). Throughout (ReachedHub (b .rules) (row .table)) (events q bs)) (sym (A .is))
+    (reached-all bs (fresh (b .rules .batch (A .sizes .P)) (A .sizes) (rowsOf (b .rules .list)) (row .table) (row .row)) (reached-start (b .rules) allowed A))
 
 ------------------------------------------------------------------------
 -- What specs/Reached.antt claims
@@ -251,7 +251,7 @@ module _ {now : ℕ} {s : Store} {olds : List (List ℕ)} {h : List Call} {o : L
   times-fit w t (ReadStand g c) a = tt
   times-fit w t (GetShow r) a = tt
 
-pub bounds : {rules : Rules} (s : Store) → Reached rules s → Bounds s
+pub bounds : {rules : Rules} {table : List ℕ} (s : Store) → Reached rules table s → Bounds s
 bounds s R =
     record {
       workers = (R .fits .one≤P, R .fits .P≤16, R .inv .workersLength);
@@ -281,7 +281,7 @@ pub sound : Sound
 sound row b allowed e bs =
     All-map (λ z a. (hub (z .before) (a .0), hub (z .after) (a .1))) (events (applyRuled (blank row) b .hub) bs) (reached row b allowed e bs)
   where
-    hub : (h : Hub) → ReachedHub (b .rules) h → SoundHub (b .rules) h
+    hub : (h : Hub) → ReachedHub (b .rules) (row .table) h → SoundHub (b .rules) h
     hub (blank row) a = a
     hub (up s) a = record { batch = a .fits .batch; bounds = bounds s a; refuses14 = refuses-14 (a .inv) }
 
@@ -292,7 +292,7 @@ pub as-published : AsPublished
 as-published row b allowed e bs =
     All-map (λ z a. (hub (z .before) (a .0), hub (z .after) (a .1))) (events (applyRuled (blank row) b .hub) bs) (reached row b allowed e bs)
   where
-    hub : (h : Hub) → ReachedHub (b .rules) h → FigureHub h
+    hub : (h : Hub) → ReachedHub (b .rules) (row .table) h → FigureHub h
     hub (blank row) a = a
     hub (up s) a =
         record {

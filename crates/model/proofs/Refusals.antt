@@ -6,7 +6,7 @@ use Prim.Native.Nat.{ℕ, _<_}
 use native.Mathlib.Omega.{arith}
 use lib.Dec.{ltb, leb, eqb}
 use lib.ListN.{length, getD}
-use Rattle.model.specs.Store.{lastClock, Reading, Slot, Range, OpenAnnounce, OpenPass, CloseWithdraw, MarkKeep, MarkRelease, Doing}
+use Rattle.model.specs.Store.{lastClock, Reading, Slot, Range, OpenAnnounce, OpenPass, CloseWithdraw, MarkKeep, MarkRelease, Doing, Lent}
 use Rattle.model.specs.Store.{Idle, PutPublish, PutStamp, PutHandIn, FlushTake, FlushRead, FlushFree, OnTime, ReadEnter, ReadStand}
 use Rattle.model.specs.Store.{GetShow, Store, Hub, blank, up, workerAt, slotAt, newestOf, rangeOf, withWorker, place}
 use Rattle.model.specs.Marks.{MarkNeed, EmptyMark, UnreadMark, markRefusal, needFor, timeFor}
@@ -96,10 +96,10 @@ module _ (s : Store) (w : ℕ) (wb : ltb w (s .site .P) ≡ true) where
 abbrev Ends : Hub → Decoded → Applied → Type 0
 Ends h d a = EndsWell h d (a .answer) (a .hub)
 
-setup-well : (rules : Rules) (row : List Slot) (z : Sizes) → Ends (blank row) (Asks (SetUp z)) (setUp rules (blank row) z)
+setup-well : (rules : Rules) (row : Lent) (z : Sizes) → Ends (blank row) (Asks (SetUp z)) (setUp rules (blank row) z)
 unfolding setUp takesStep occurrences
 setup-well rules row z =
-    cond-both (Ends (blank row) (Asks (SetUp z))) (inRanges z && leb (z .N) (length row) && listFits (z .V') (rules .list)) _ _ (λ e. tt)
+    cond-both (Ends (blank row) (Asks (SetUp z))) (inRanges z && leb (z .N) (length (row .row)) && listFits (z .V') (rules .list)) _ _ (λ e. tt)
     (λ e. on-reading (blank row) (Asks (SetUp z)) 5 refl (omega arith))
 
 begin-well : (rules : Rules) (s : Store) (w : ℕ) (c : Operation) → Ends (up s) (Asks (Begin w c)) (begin rules s w c)

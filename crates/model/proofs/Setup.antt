@@ -11,8 +11,7 @@ use lib.Dec.{ltb, leb, eqb}
 use lib.Seq.{length-take-le}
 use lib.ListN.{length, getD, take, replicate, length-replicate, getD-replicate}
 use borrow.Author.Tests as Tests
-use Rattle.model.specs.Store.{absent, markCount, lastClock, Slot, startWorker, Hub, blank, up, upFrom}
-use Rattle.model.specs.Rights.{Right}
+use Rattle.model.specs.Store.{absent, markCount, lastClock, Slot, startWorker, Hub, blank, up, upFrom, Lent}
 use Rattle.model.specs.Rules.{Rules}
 use Rattle.model.specs.Answer.{Ok, Applied}
 use Rattle.model.specs.Totals.{follow}
@@ -86,7 +85,7 @@ sum-replicate f a e zero = refl
 sum-replicate f a e (suc n) = omega (arith, e, sum-replicate f a e n)
 
 -- what `inRanges` and the row's length give
-module _ (size : ℕ) (z : Sizes) (rows : List ℕ) (table : List Right) (row : List Slot) (rf : follow (z .V') 0 0 rows ≡ true)
+module _ (size : ℕ) (z : Sizes) (rows : List ℕ) (table : List ℕ) (row : List Slot) (rf : follow (z .V') 0 0 rows ≡ true)
     (long : z .N ≤ length row) (v≤n : z .V' ≤ z .N) (n≤ : z .N ≤ 2048) (c< : z .clock < absent) where
   abbrev p : ℕ
   p = z .P
@@ -251,47 +250,45 @@ in-ranges z e =
     }
 
 -- a record that a hub not yet set up answers `ok` is a setup: its store is fresh, with sizes in their ranges
-pub record Accepted (rules : Rules) (hub : Hub) : Type 0 where
+pub record Accepted (rules : Rules) (lent : Lent) (hub : Hub) : Type 0 where
   pub sizes : Sizes
-  pub row : List Slot
-  pub is : hub ≡ up (fresh (rules .batch (sizes .P)) sizes (rowsOf (rules .list)) (rules .table) row)
-  pub long : sizes .N ≤ length row
+  pub is : hub ≡ up (fresh (rules .batch (sizes .P)) sizes (rowsOf (rules .list)) (lent .table) (lent .row))
+  pub long : sizes .N ≤ length (lent .row)
   pub fits : InRanges sizes
   pub rows : follow (sizes .V') 0 0 (rowsOf (rules .list)) ≡ true
 
-abbrev Accepts : Rules → Applied → Type 0
-Accepts rules a = a .answer ≡ Ok → Accepted rules (a .hub)
+abbrev Accepts : Rules → Lent → Applied → Type 0
+Accepts rules lent a = a .answer ≡ Ok → Accepted rules lent (a .hub)
 
-refuses : (rules : Rules) (h : Hub) (k : ℕ) → Accepts rules (refuse h k)
-refuses rules h k e = absurd (let z : _≡_ {A = ℕ} 0 1 = cc in omega arith)
+refuses : (rules : Rules) (lent : Lent) (h : Hub) (k : ℕ) → Accepts rules lent (refuse h k)
+refuses rules lent h k e = absurd (let z : _≡_ {A = ℕ} 0 1 = cc in omega arith)
 
-obeys : (rules : Rules) (row : List Slot) (d : Decoded) → Accepts rules (applyDecoded rules (blank row) d)
+obeys : (rules : Rules) (lent : Lent) (d : Decoded) → Accepts rules lent (applyDecoded rules (blank lent) d)
 unfolding applyDecoded obey setUp listFits
-obeys rules row (Asks (SetUp z)) =
-    cond-both (Accepts rules) (inRanges z && leb (z .N) (length row) && listFits (z .V') (rules .list)) _ _
+obeys rules lent (Asks (SetUp z)) =
+    cond-both (Accepts rules lent) (inRanges z && leb (z .N) (length (lent .row)) && listFits (z .V') (rules .list)) _ _
     (λ e o.
-    let t = and-both (inRanges z && leb (z .N) (length row)) _ e in
-    let w = and-both (inRanges z) (leb (z .N) (length row)) (t .0) in
+    let t = and-both (inRanges z && leb (z .N) (length (lent .row))) _ e in
+    let w = and-both (inRanges z) (leb (z .N) (length (lent .row))) (t .0) in
     record {
       sizes = z;
-      row = row;
       is = refl;
-      long = Tests.leb-true (z .N) (length row) (w .1);
+      long = Tests.leb-true (z .N) (length (lent .row)) (w .1);
       fits = in-ranges z (w .0);
       rows = and-both (eqb (length (rules .list) % 4) 0) _ (t .1) .1;
     })
-    (λ e. refuses rules (blank row) 5)
-obeys rules row (Asks (Begin w o)) = refuses rules (blank row) 8
-obeys rules row (Asks (Step w)) = refuses rules (blank row) 8
-obeys rules row (Refuses k) = refuses rules (blank row) k
+    (λ e. refuses rules lent (blank lent) 5)
+obeys rules lent (Asks (Begin w o)) = refuses rules lent (blank lent) 8
+obeys rules lent (Asks (Step w)) = refuses rules lent (blank lent) 8
+obeys rules lent (Refuses k) = refuses rules lent (blank lent) k
 
-pub accepts : (rules : Rules) (row : List Slot) (b : List ℕ) → apply rules (blank row) b .answer ≡ Ok
-    → Accepted rules (apply rules (blank row) b .hub)
+pub accepts : (rules : Rules) (lent : Lent) (b : List ℕ) → apply rules (blank lent) b .answer ≡ Ok
+    → Accepted rules lent (apply rules (blank lent) b .hub)
 unfolding apply
-accepts rules row b = obeys rules row (decode b)
+accepts rules lent b = obeys rules lent (decode b)
 
 -- its store meets the invariant
-pub accepted-inv : (rules : Rules) {hub : Hub} (A : Accepted rules hub)
-    → Inv 0 (fresh (rules .batch (A .sizes .P)) (A .sizes) (rowsOf (rules .list)) (rules .table) (A .row)) (replicate (A .sizes .V') []) [] [] plain₀
-accepted-inv rules A =
-    start-inv (rules .batch (A .sizes .P)) (A .sizes) (rowsOf (rules .list)) (rules .table) (A .row) (A .rows) (A .long) (A .fits .V≤N) (A .fits .N≤2048) (omega (arith, A .fits .clock≤last))
+pub accepted-inv : (rules : Rules) {lent : Lent} {hub : Hub} (A : Accepted rules lent hub)
+    → Inv 0 (fresh (rules .batch (A .sizes .P)) (A .sizes) (rowsOf (rules .list)) (lent .table) (lent .row)) (replicate (A .sizes .V') []) [] [] plain₀
+accepted-inv rules {lent} A =
+    start-inv (rules .batch (A .sizes .P)) (A .sizes) (rowsOf (rules .list)) (lent .table) (lent .row) (A .rows) (A .long) (A .fits .V≤N) (A .fits .N≤2048) (omega (arith, A .fits .clock≤last))

@@ -13,7 +13,7 @@ use Rattle.model.specs.About.{about}
 use Rattle.model.specs.Marks.{MarkNeed, NoMark, EmptyMark, HeldMark, UnreadMark, markOf, markRefusal}
 use Rattle.model.specs.Rules.{Rules, Ruled}
 use Rattle.model.specs.Totals.{registerOf, ofGroup, sum₀, firstOf}
-use Rattle.model.specs.Rights.{Right, ToPut, ToRead, ToCollect, ToMark, Needed, NoRight, OnThese, InAny, OnAll, allowed}
+use Rattle.model.specs.Rights.{ToPut, ToRead, ToCollect, ToMark, Needed, NoRight, OnThese, InAny, OnAll, allowed, tableOf, tableFits}
 use Rattle.model.specs.Answer.{Answer, Ok, No, Applied}
 use Rattle.model.specs.Versions.{alone}
 use Rattle.model.specs.Steps.{goalAt, stepAt}
@@ -48,9 +48,9 @@ firstSlots (suc v) (z ∷ l) =
     record { value = none; low = 0; high = absent; older = absent; newer = absent } ∷ firstSlots v l
 
 -- H2.5 to H2.11: what a setup makes: P workers at their start, an empty queue, register r in slot r, the slots from V on free, upwards, and
--- empty marks (H13.1). The batch size is b, and the rows of the list of totals are kept (H12.3). The row beyond N is not in the store; that it
+-- empty marks (H13.1). The batch size is b, and the rows of the list of totals (H12.3) and of the table of rights (H15.4) are kept. The row beyond N is not in the store; that it
 -- keeps its contents (H2.13) is said where memory is lent.
-unfoldable pub fresh : ℕ → Sizes → List ℕ → List Right → List Slot → Store
+unfoldable pub fresh : ℕ → Sizes → List ℕ → List ℕ → List Slot → Store
 fresh b z rows table row =
     record {
       site = record { P = z .P; V' = z .V'; N = z .N; B = b; rows = rows; table = table };
@@ -67,9 +67,23 @@ fresh b z rows table row =
 -- not one that a setup accepts.
 unfoldable pub setUp : Rules → Hub → Sizes → Applied
 setUp rules (up s) z = refuse (up s) 9
-setUp rules (blank row) z =
-    let y : Applied = record { hub = up (fresh (rules .batch (z .P)) z (rowsOf (rules .list)) (rules .table) row); answer = Ok } in
-    unless (inRanges z && leb (z .N) (length row) && listFits (z .V') (rules .list)) (blank row) 5 y
+setUp rules (blank x) z =
+    let y : Applied = record { hub = up (fresh (rules .batch (z .P)) z (rowsOf (rules .list)) (x .table) (x .row)); answer = Ok } in
+    unless (inRanges z && leb (z .N) (length (x .row)) && listFits (z .V') (rules .list)) (blank x) 5 y
+
+------------------------------------------------------------------------
+-- The table of rights
+
+-- H15.8: a table of any bytes is given: 9 where the hub is set up, then 24, and the table that stood stays
+unfoldable pub giveTable : Hub → List ℕ → Applied
+giveTable (up s) bytes = refuse (up s) 9
+giveTable (blank x) bytes =
+    let y : Applied = record { hub = blank (record { row = x .row; table = tableOf bytes }); answer = Ok } in
+    unless (tableFits bytes) (blank x) 24 y
+
+-- H15.10: the hub without setup and tables
+abbrev pub emptied : List Slot → Hub
+emptied row = blank (record { row = row; table = [] })
 
 ------------------------------------------------------------------------
 -- The begin of an operation
@@ -209,7 +223,7 @@ step s w =
 -- H6.10: a step is taken: the hub is set up, and the record is a step of a worker below P that is not idle. H6.9: so a record that is refused
 -- on reading takes none, and a step that meets 14, 15, 18, 19, 20 or 21 is taken.
 unfoldable pub takesStep : Hub → Decoded → Bool
-takesStep (blank row) d = false
+takesStep (blank x) d = false
 takesStep (up s) (Asks (SetUp z)) = false
 takesStep (up s) (Asks (Begin w o)) = false
 takesStep (up s) (Asks (Step w)) = ltb w (s .site .P) && not (isIdle (workerAt s w .doing))
@@ -221,9 +235,9 @@ takesStep (up s) (Refuses k) = false
 -- H7.1: 8 not set up
 unfoldable pub obey : Rules → Hub → Command → Applied
 obey rules h (SetUp z) = setUp rules h z
-obey rules (blank row) (Begin w o) = refuse (blank row) 8
+obey rules (blank x) (Begin w o) = refuse (blank x) 8
 obey rules (up s) (Begin w o) = begin rules s w o
-obey rules (blank row) (Step w) = refuse (blank row) 8
+obey rules (blank x) (Step w) = refuse (blank x) 8
 obey rules (up s) (Step w) = step s w
 
 unfoldable pub applyDecoded : Rules → Hub → Decoded → Applied

@@ -5,7 +5,7 @@ use mathlib.Core.List.{List, [], _∷_, _++_, map}
 use Prim.Native.Nat.{ℕ}
 use lib.ListN.{length, replicate, getD, set}
 use Rattle.model.specs.Totals.{groupOf, signOf, registerOf}
-use Rattle.model.specs.Store.{absent, markCount, Range, Slot, slot₀, FlushRead, startWorker, Store, Hub, blank, up}
+use Rattle.model.specs.Store.{absent, markCount, Range, Slot, slot₀, FlushRead, startWorker, Store, Lent, Hub, blank, up}
 use Rattle.model.specs.Batch.{batchOf}
 use Rattle.model.specs.Rules.{document01, inForce, Ruled, under}
 use Rattle.model.specs.Answer.{Answer, Ok, Going, At, None, No}
@@ -49,9 +49,13 @@ setup p v n t = SetUp (record { P = p; V' = v; N = n; clock = t })
 abbrev pub put : ℕ → ℕ → ℕ → Command
 put w r x = Begin w (Put r (record { count = x }))
 
--- a hub that is not set up, with a row of so many slots
+-- a row of so many slots is lent, and no table stands
+abbrev pub rowAlone : ℕ → Lent
+rowAlone n = record { row = replicate n slot₀; table = [] }
+
+-- a hub that is not set up, with such a row
 abbrev pub rowOf : ℕ → Hub
-rowOf n = blank (replicate n slot₀)
+rowOf n = blank (rowAlone n)
 
 -- the answers to a list of commands
 abbrev pub answers : ℕ → List Command → List Answer
@@ -64,11 +68,11 @@ abbrev pub leaves : Hub → List Command → Hub
 leaves h l = hubAfter h (map handed l)
 
 unfoldable pub clockOf : Hub → ℕ
-clockOf (blank row) = 0
+clockOf (blank x) = 0
 clockOf (up s) = s .clock
 
 unfoldable pub slotsOf : Hub → List Slot
-slotsOf (blank row) = row
+slotsOf (blank x) = x .row
 slotsOf (up s) = s .slots
 
 ------------------------------------------------------------------------
@@ -198,4 +202,4 @@ exampleText =
 
 -- over a row of two slots, the least that its setup needs
 abbrev pub Example : Type 0
-Example = logOf (inForce []) (replicate 2 slot₀) exampleFile ≡ exampleText
+Example = logOf (inForce []) (rowAlone 2) exampleFile ≡ exampleText

@@ -15,7 +15,7 @@ use mathlib.Core.Option.{Option, none, some}
 use Prim.Native.Nat.{ℕ, zero, suc, _+_, _≤_, _<_}
 use lib.Dec.{ltb, leb, eqb}
 use lib.ListN.{length, getD}
-use Rattle.model.specs.Store.{absent, Reading, Content, countOf, Slot, Doing, PutPublish, Store, Hub, blank, up, workerAt, slotAt, newestOf, holders}
+use Rattle.model.specs.Store.{absent, Reading, Content, countOf, Slot, Doing, PutPublish, Store, Hub, blank, up, workerAt, slotAt, newestOf, holders, Lent, lent₀}
 use Rattle.model.specs.Store.{held}
 use Rattle.model.specs.About.{Effect, NoEffect, ByStamp, ByClock, about}
 use Rattle.model.specs.Rules.{Ruled}
@@ -420,7 +420,7 @@ Took c e = TookBy c (decode (e .bytes)) (e .before) (e .answer) (e .after)
 
 -- what stands where a list has no event
 abbrev pub event₀ : Event
-event₀ = record { list = []; bytes = []; before = blank []; answer = Ok; after = blank [] }
+event₀ = record { list = []; bytes = []; before = blank lent₀; answer = Ok; after = blank lent₀ }
 
 -- H6.22: between two answers `freed S` for one slot, a put's first step took that slot
 abbrev pub FreedOnce : List Event → Type 0
@@ -449,6 +449,6 @@ rowsIn (up s) = s .site .rows
 -- H6.4: for every lent row, every setup record that is answered `ok`, and every list of records after it, whatever the rules of each.
 abbrev pub Demand : Type 0
 Demand =
-    (row : List Slot) (setup : Ruled) → applyRuled (blank row) setup .answer ≡ Ok
+    (row : Lent) (setup : Ruled) → applyRuled (blank row) setup .answer ≡ Ok
     → (records : List Ruled)
     → Demand3 (rowsIn (applyRuled (blank row) setup .hub)) (events (applyRuled (blank row) setup .hub) records)

@@ -3,7 +3,7 @@ use mathlib.Core.Path.{_≡_}
 use mathlib.Core.Logic.{_⊎_}
 use mathlib.Core.List.{List}
 use Prim.Native.Nat.{ℕ}
-use Rattle.model.specs.Store.{Slot, Hub, blank}
+use Rattle.model.specs.Store.{Slot, Hub, blank, Lent}
 use Rattle.model.specs.Batch.{AsDocumented}
 use Rattle.model.specs.Rules.{Rules, document01, inForce, Allowed, allUnder}
 use Rattle.model.specs.Answer.{Ok}
@@ -17,7 +17,7 @@ use Rattle.model.specs.Figure.{FigureHub}
 -- a claim about the rows of totals and the events of every list of records after every accepted setup, all under these rules
 abbrev pub AllUnder : Rules → (List ℕ → List Event → Type 0) → Type 0
 AllUnder rules Claim =
-    (row : List Slot) (setup : List ℕ) → apply rules (blank row) setup .answer ≡ Ok
+    (row : Lent) (setup : List ℕ) → apply rules (blank row) setup .answer ≡ Ok
     → (records : List (List ℕ)) → Claim (rowsIn (apply rules (blank row) setup .hub)) (events (apply rules (blank row) setup .hub) (allUnder rules records))
 
 pub record Theorems (rules : Rules) : Type 0 where

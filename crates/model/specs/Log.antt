@@ -5,7 +5,7 @@ use Prim.Native.Nat.{ℕ, zero, suc, _+_, _/_, _%_}
 use Prim.Native.String.{String}
 use Prim.Native.Char.{code}
 use lib.Dec.{ltb}
-use Rattle.model.specs.Store.{Slot, blank}
+use Rattle.model.specs.Store.{Lent, blank}
 use Rattle.model.specs.Rules.{Rules, allUnder}
 use Rattle.model.specs.Answer.{Answer, Ok, Going, Freed, At, Value, None, Below, Done, No}
 use Rattle.model.specs.Record.{recordsOf}
@@ -46,6 +46,6 @@ unfoldable pub lines : ℕ → List Answer → List ℕ
 lines n [] = []
 lines n (a ∷ l) = line n a ++ lines (n + 1) l
 
--- H10.6: the log of a file under the rules given: the hub is not set up at first, and its row of slots is lent
-unfoldable pub logOf : Rules → List Slot → List ℕ → List ℕ
-logOf rules row file = lines 0 (answersTo (blank row) (allUnder rules (recordsOf file)))
+-- H10.6: the log of a file under the rules given: the hub is not set up at first, and its row of slots and the table that stands are lent
+unfoldable pub logOf : Rules → Lent → List ℕ → List ℕ
+logOf rules lent file = lines 0 (answersTo (blank lent) (allUnder rules (recordsOf file)))

@@ -8,7 +8,7 @@ use Prim.Native.Nat.{ℕ, zero, suc, _+_, _*_, _-_, _≤_, _<_}
 use lib.Dec.{ltb}
 use lib.ListN.{length}
 use Rattle.model.specs.Totals.{groupOf, rowAt, ofGroup, follow}
-use Rattle.model.specs.Store.{absent, markCount, lastClock, Reading, Slot, Purpose, Single, Marked, Totaling, PutPublish, Worker}
+use Rattle.model.specs.Store.{absent, markCount, lastClock, Reading, Slot, Purpose, Single, Marked, Totaling, PutPublish, Worker, Lent}
 use Rattle.model.specs.Store.{Store, Hub, blank, up, workerAt, slotAt, newestOf, markAt}
 use Rattle.model.specs.About.{Hand, Empty, Covered, Merged, Needless, about}
 use Rattle.model.specs.Rules.{Rules, twelveDigits, Allowed, Ruled}
@@ -122,5 +122,5 @@ Throughout Q es = All (λ e. Q (e .before) × Q (e .after)) es
 -- only a setup looks at the batch size.
 abbrev pub Sound : Type 0
 Sound =
-    (row : List Slot) (setup : Ruled) → Allowed (setup .rules) → applyRuled (blank row) setup .answer ≡ Ok
+    (row : Lent) (setup : Ruled) → Allowed (setup .rules) → applyRuled (blank row) setup .answer ≡ Ok
     → (records : List Ruled) → Throughout (SoundHub (setup .rules)) (events (applyRuled (blank row) setup .hub) records)

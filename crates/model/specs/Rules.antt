@@ -1,9 +1,8 @@
 -- The rules in force when a record is handed in, and a record with its rules. A list of records may change its rules on the way.
-use mathlib.Core.List.{List, [], map}
+use mathlib.Core.List.{List, map}
 use mathlib.Core.Option.{Option, none, some}
 use Prim.Native.Nat.{ℕ, _≤_}
 use Rattle.model.specs.Batch.{batchOf}
-use Rattle.model.specs.Rights.{Right}
 
 -- What a record is handed in with: the rules in force, where a later paper set them otherwise than document 01, and the list that is lent.
 pub record Rules : Type 0 where
@@ -13,8 +12,6 @@ pub record Rules : Type 0 where
   pub limit : Option ℕ
   -- H12.1: the bytes of the list of totals; only a setup looks at them
   pub list : List ℕ
-  -- H15.4: the rows of the table of rights that stands; only a setup looks at them
-  pub table : List Right
 
 -- H7.9: the largest number of twelve digits
 abbrev pub twelveDigits : ℕ
@@ -22,11 +19,11 @@ twelveDigits = 999999999999
 
 -- the rules of the scope paper, document 01, which were in force before the first change request: every value may be put
 abbrev pub document01 : List ℕ → Rules
-document01 l = record { batch = batchOf; limit = none; list = l; table = [] }
+document01 l = record { batch = batchOf; limit = none; list = l }
 
 -- the rules of docs/HUB.md, which the code follows. H7.9: a value has at most twelve digits.
 abbrev pub inForce : List ℕ → Rules
-inForce l = record { batch = batchOf; limit = some twelveDigits; list = l; table = [] }
+inForce l = record { batch = batchOf; limit = some twelveDigits; list = l }
 
 -- H1.19, H2.2: a local pool has room for 64 ranges, so the batch size is from 1 to 64 for each number of workers that a setup may have
 abbrev pub Allowed : Rules → Type 0

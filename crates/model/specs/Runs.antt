@@ -5,21 +5,19 @@ use mathlib.Core.List.{List, [], _∷_, _++_, map}
 use mathlib.Core.Option.{none, some}
 use Prim.Native.Nat.{ℕ}
 use lib.ListN.{replicate}
-use Rattle.model.specs.Store.{slot₀}
-use Rattle.model.specs.Rights.{Right}
-use Rattle.model.specs.Batch.{batchOf}
+use Rattle.model.specs.Store.{Hub}
 use Rattle.model.specs.Rules.{twelveDigits, document01, inForce, Ruled, under}
 use Rattle.model.specs.Record.{Open, Read, Close, Get, Collect, Total, Mark, Release, MarkedRead, Command, Begin, Step}
 use Rattle.model.specs.Answer.{Ok, No}
-use Rattle.model.specs.Apply.{applyRuled, answersTo}
+use Rattle.model.specs.Apply.{giveTable, applyRuled, answersTo}
 use Rattle.model.specs.Row.{RowNone, RowNo, writeRow}
 use Rattle.model.specs.Log.{text, lines, logOf}
 use Rattle.model.specs.Demand.{events, order}
-use Rattle.model.specs.Cases.{recordOf, handed, handedBefore, setup, put, rowOf, joined}
+use Rattle.model.specs.Cases.{recordOf, handed, handedBefore, setup, put, rowAlone, rowOf, joined}
 
 -- the log of a list of commands, over a row of n slots, with the list of totals given
 abbrev pub logWith : List ℕ → ℕ → List Command → List ℕ
-logWith list n l = logOf (inForce list) (replicate n slot₀) (joined (map recordOf l))
+logWith list n l = logOf (inForce list) (rowAlone n) (joined (map recordOf l))
 
 abbrev pub logFor : ℕ → List Command → List ℕ
 logFor n l = logWith [] n l
@@ -292,20 +290,36 @@ empty =
 
 -- H15: worker 0 may put and read on both registers, mark on register 0 and collect, which a row gives for registers that are not there; worker 1 may
 -- read register 1, which the total begins with. What either may not do is refused with 23, after 4 and before 10.
-abbrev pub rightsTable : List Right
+abbrev pub rightsTable : List ℕ
 rightsTable =
-    record { worker = 0; rights = 3; first = 0; last = 1 }
-    ∷ record { worker = 0; rights = 8; first = 0; last = 0 }
-    ∷ record { worker = 0; rights = 4; first = 200; last = 255 }
-    ∷ record { worker = 1; rights = 2; first = 1; last = 1 }
+    (0 ∷ 3 ∷ 0 ∷ 0 ∷ 1 ∷ 0 ∷ 0 ∷ 0 ∷ [])
+    ++ (0 ∷ 8 ∷ 0 ∷ 0 ∷ 0 ∷ 0 ∷ 0 ∷ 0 ∷ [])
+    ++ (0 ∷ 4 ∷ 200 ∷ 0 ∷ 255 ∷ 0 ∷ 0 ∷ 0 ∷ [])
+    ++ (1 ∷ 2 ∷ 1 ∷ 0 ∷ 1 ∷ 0 ∷ 0 ∷ 0 ∷ [])
+
+-- H15.8: tables that are refused: a part of a row, a worker above 15, rights above 15, a last register above 255, a first above the last, a last pair that
+-- is not zero, by either byte, and 65 rows
+abbrev pub refusedTables : List (List ℕ)
+refusedTables =
+    replicate 7 0
+    ∷ (16 ∷ replicate 7 0)
+    ∷ (0 ∷ 16 ∷ replicate 6 0)
+    ∷ (0 ∷ 0 ∷ 0 ∷ 0 ∷ 0 ∷ 1 ∷ 0 ∷ 0 ∷ [])
+    ∷ (0 ∷ 0 ∷ 2 ∷ 0 ∷ 1 ∷ 0 ∷ 0 ∷ 0 ∷ [])
+    ∷ (replicate 6 0 ++ (1 ∷ 0 ∷ []))
+    ∷ (replicate 6 0 ++ (0 ∷ 1 ∷ []))
+    ∷ replicate 520 0
     ∷ []
 
 abbrev pub rightsList : List ℕ
 rightsList = 1 ∷ 0 ∷ 1 ∷ 0 ∷ 1 ∷ 0 ∷ 0 ∷ 0 ∷ []
 
 abbrev pub rightsSetup : Ruled
-rightsSetup =
-    under (record { batch = batchOf; limit = some twelveDigits; list = rightsList; table = rightsTable }) (recordOf (setup 2 2 6 1))
+rightsSetup = with rightsList (setup 2 2 6 1)
+
+-- the hub before it, with that table
+abbrev pub rightsHub : Hub
+rightsHub = giveTable (rowOf 6) rightsTable .hub
 
 abbrev pub rights : List Command
 rights =
@@ -319,7 +333,12 @@ pub record Runs : Type 0 where
   -- H9.6: without a reading a buffer that is long enough stays as it is; H9.3: a shorter one gets 7 all the same
   pub row-none : writeRow 0 7 none (replicate 16 9) ≡ record { answer = RowNone; buffer = replicate 16 9 }
   pub row-none-short : writeRow 0 7 none (replicate 15 9) ≡ record { answer = RowNo 7; buffer = replicate 15 9 }
-  pub rights-log : lines 0 (answersTo (rowOf 6) (rightsSetup ∷ map handed rights))
+  -- H15.8: a refused table leaves the one that stood; 64 rows and none are accepted; on a hub that is set up any table gets 9
+  pub tables-refused : map (giveTable rightsHub) refusedTables ≡ replicate 8 (record { hub = rightsHub; answer = No 24 })
+  pub tables-accepted : map (λ t. giveTable rightsHub t .answer) (rightsTable ∷ replicate 512 0 ∷ [] ∷ []) ≡ replicate 3 Ok
+  pub table-replaced : giveTable rightsHub [] .hub ≡ rowOf 6
+  pub table-late : map (λ t. giveTable (applyRuled rightsHub rightsSetup .hub) t .answer) (rightsTable ∷ [] ∷ refusedTables) ≡ replicate 10 (No 9)
+  pub rights-log : lines 0 (answersTo rightsHub (rightsSetup ∷ map handed rights))
       ≡ text "0 ok\n1 no 23\n2 ok\n3 none\n4 ok\n5 none\n6 no 23\n7 no 23\n8 ok\n9 ok\n10 no 23\n11 no 10\n12 going\n"
       ++ text "13 at 1\n14 no 23\n15 ok\n16 going\n17 none\n18 no 23\n19 no 4\n"
   pub empty-log : logWith movedList 6 (emptySetup ∷ empty)

@@ -6,7 +6,6 @@ use Prim.Native.Nat.{ℕ, zero, suc, _+_, _-_}
 use lib.Dec.{ltb}
 use lib.ListN.{getD, set}
 use Rattle.model.specs.Totals.{Sum}
-use Rattle.model.specs.Rights.{Right}
 
 -- H1.8: a time or a neighbour that is not there: an unset low, an open high, no announced time, no older or newer neighbour.
 -- H1.9, H1.10: the number is above every time, and above every slot.
@@ -115,7 +114,7 @@ pub record Site : Type 0 where
   -- H12.3: the rows of the list of totals
   pub rows : List ℕ
   -- H15.4: the rows of the table of rights that stood at setup
-  pub table : List Right
+  pub table : List ℕ
 
 -- A hub that is set up. `newest` has the slot of each register's newest version (H1.11), `free` the free slots with the one that is taken first
 -- in front (H1.25), `queue` the shared pools, first in first (H1.20), `marks` the time that each mark holds, or none (H13.1).
@@ -129,9 +128,18 @@ pub record Store : Type 0 where
   pub workers : List Worker
   pub marks : List ℕ
 
--- H2.1: the hub as a record meets it: not set up, with the row of slots that is lent to it; or set up.
+-- What a setup finds: the row of slots that is lent to it, and the rows of the table of rights that stands (H15.9).
+pub record Lent : Type 0 where
+  pub row : List Slot
+  pub table : List ℕ
+
+-- nothing is lent
+abbrev pub lent₀ : Lent
+lent₀ = record { row = []; table = [] }
+
+-- H2.1: the hub as a record meets it: not set up, with what is lent to it; or set up.
 pub data Hub : Type 0 where
-  blank : List Slot → Hub
+  blank : Lent → Hub
   up : Store → Hub
 
 -- What stands where a list of slots has no entry, as at an absent neighbour. Nothing of it is ever stored.

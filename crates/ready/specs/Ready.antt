@@ -19,7 +19,7 @@ use Rattle.worker.specs.About.{aboutOf}
 use Rattle.worker.specs.declared.Pool.{Pool}
 use Rattle.worker.specs.declared.Worker.{Worker}
 use Rattle.state.specs.declared.Hub.{Hub}
-use Rattle.state.specs.State.{workerIn}
+use Rattle.state.specs.State.{workerIn, tableSound}
 
 -- the first k numbers are below n
 unfoldable pub belowTo : List ℕ → ℕ → ℕ → Bool
@@ -114,11 +114,11 @@ sizesFit h long =
     && (leb (h .free) (besides h) && windowFits (h .window) (besides h))
     && leb (h .listed) 1024
 
--- Lent memory counts as set up: the hub, newest, free, queue, lens, merged; `linked` says that every neighbour in the row of slots is in range.
+-- All but the table of rights is in range: the hub, newest, free, queue, lens, merged; `linked` says that every neighbour in the row of slots is.
 -- A local pool has at most B ranges, a queued one 2B, a list in hand 4B, and none has more than there are slots besides the newest.
 -- The registers of the rows of totals are below V.
-unfoldable pub readyOf : Hub → List ℕ → List ℕ → List ℕ → List ℕ → List ℕ → Bool → ℕ → Bool
-readyOf h newest free queue lens merged linked long =
+unfoldable pub scansFit : Hub → List ℕ → List ℕ → List ℕ → List ℕ → List ℕ → Bool → ℕ → Bool
+scansFit h newest free queue lens merged linked long =
     let b = batchOf (h .p) in
     let w = h .window in
     cond (sizesFit h long)
@@ -127,3 +127,7 @@ readyOf h newest free queue lens merged linked long =
     && (eqb (lensSum lens (w .first) (w .pools)) (w .queued) && workersFit h merged (min b (besides h)) (min (4 * b) (besides h)) (h .p))
     && (rowsBelow (h .rows) (h .v) (h .listed) && linked))
     false
+
+-- Lent memory counts as set up: and the rows of rights that count are a table.
+unfoldable pub readyOf : Hub → List ℕ → List ℕ → List ℕ → List ℕ → List ℕ → Bool → ℕ → Bool
+readyOf h newest free queue lens merged linked long = scansFit h newest free queue lens merged linked long && tableSound h

@@ -4,7 +4,7 @@ ghost use Prim.Native.Nat.{_+_, _*_, _-_, _<_, _≤_, min};
 ghost use lib.ListN.{length};
 ghost use Rattle.model.specs.Batch.{batchOf};
 ghost use Rattle.ready.specs.Ready.{belowTo, slotsBelow, poolFits, listFits, handFits, namedBelow, rowsBelow, purposeFits, readFits};
-ghost use Rattle.ready.specs.Ready.{placeFits, workerFits, workersFit, lensFit, lensSum, windowFits, sizesFit, readyOf};
+ghost use Rattle.ready.specs.Ready.{placeFits, workerFits, workersFit, lensFit, lensSum, windowFits, sizesFit, readyOf, scansFit};
 use state::Hub;
 use values::Window;
 use worker::Facts;
@@ -270,8 +270,8 @@ fn sizes_fit(hub: Hub, long: usize) -> bool
         & (hub.listed <= 1024)
 }
 
-// Whether lent memory counts as set up. `linked` says it of the neighbours in the row of slots, which has so many.
-pub fn ready<'a>(
+// Whether all but the table of rights is in range. `linked` says it of the neighbours in the row of slots, which has so many.
+fn scans_fit<'a>(
     hub: Hub,
     newest: &'a [u16; 256],
     free: &'a [u16; 2048],
@@ -283,7 +283,7 @@ pub fn ready<'a>(
 ) -> bool
     ensures { λ r. ⌜
         r
-        ≡ readyOf hub (now (newest .entry)) (now (free .entry)) (now (queue .entry)) (now (lens .entry)) (now (merged .entry)) linked long
+        ≡ scansFit hub (now (newest .entry)) (now (free .entry)) (now (queue .entry)) (now (lens .entry)) (now (merged .entry)) linked long
         ⌝ }
 {
     if sizes_fit(hub, long) {
@@ -301,4 +301,24 @@ pub fn ready<'a>(
         return (((a & b) & (c & d)) & (e & f)) & (g & linked);
     }
     false
+}
+
+// Whether lent memory counts as set up. `linked` says that the neighbours in the row of slots, which has so many, are in range.
+pub fn ready<'a>(
+    hub: Hub,
+    newest: &'a [u16; 256],
+    free: &'a [u16; 2048],
+    queue: &'a [u32; 12288],
+    lens: &'a [u32; 4096],
+    merged: &'a [u32; 12288],
+    linked: bool,
+    long: usize,
+) -> bool
+    ensures { λ r. ⌜
+        r
+        ≡ readyOf hub (now (newest .entry)) (now (free .entry)) (now (queue .entry)) (now (lens .entry)) (now (merged .entry)) linked long
+        ⌝ }
+{
+    let fit = scans_fit(hub, newest, free, queue, lens, merged, linked, long);
+    fit & rights::stands(&hub.rights, hub.granted)
 }

@@ -91,7 +91,7 @@ pub fn driven(m: Memory, script: &[[u8; 4]]) -> Memory {
 // Memory that a setup of p, v, n and a list of totals left, with the clock at 1.
 pub fn set_up(p: u8, v: u8, n: u8, list: &[u8]) -> Memory {
     let none = slots::vacant();
-    let hub = Hub::fresh(0, 0, 0, 0, 0, [0u32; 1024]);
+    let hub = Hub::empty();
     let m = Memory {
         hub,
         slots: [none; 2048],

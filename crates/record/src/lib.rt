@@ -76,7 +76,7 @@ pub fn four(b: &[u8], i: usize) -> u32
     wide32(two(b, i)) + 65536 * wide32(two(b, i + 2))
 }
 
-fn eight(b: &[u8], i: usize) -> u64
+pub fn eight(b: &[u8], i: usize) -> u64
     requires { ⌜ i + 8 ≤ length (now b) ⌝ }
     ensures { λ r. ⌜ r ≡ number (now (b .entry)) i 8 ⌝ }
 {

@@ -12,7 +12,7 @@ use Rattle.model.specs.Record.{number, zeros, Command, SetUp, Begin, Step, Put,
 use Rattle.model.specs.Record.{MarkedRead}
 use Rattle.model.specs.Record.{Decoded, Asks, Refuses, commandOf, unusedZero, decode}
 use Rattle.values.specs.declared.Answer.{Answer}
-use Rattle.state.specs.State.{workerIn}
+use Rattle.state.specs.State.{workerIn, tableKept}
 use Rattle.gate.specs.declared.Gate.{Gate}
 use Rattle.gate.specs.Gate.{decodedRep, gateOf, whoOf}
 use Rattle.simulation.specs.Memory.{Memory}
@@ -94,7 +94,7 @@ abbrev gateBy : Bool → Memory → List ℕ → Decoded → Gate
 gateBy up m list d =
     let x = workerIn (m .hub) (whoOf (decodedRep d)) in
     gateOf (decodedRep d) up (m .hub .p) (m .hub .v) (length (m .slots)) (x .doing) (x .announced) list (rowsKept (m .hub))
-    (m .hub .marks) (marksRead (m .hub))
+    (m .hub .marks) (marksRead (m .hub)) (tableKept (m .hub))
 
 done-first : (up : Bool) (m : Memory) (list b : List ℕ) → doneAs up m list (take 16 b) ≡ doneAs up m list b
 unfolding doneAs

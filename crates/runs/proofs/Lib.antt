@@ -1,2 +1,3 @@
 pub mod First
 pub mod Within
+pub mod Given

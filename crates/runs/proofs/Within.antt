@@ -4,12 +4,17 @@ use mathlib.Core.Path.{_≡_, refl, sym, ap, subst, _∙_}
 use mathlib.Core.List.{List, [], _∷_, _++_}
 use Prim.Native.Nat.{ℕ, zero, suc, _≤_, _-_}
 use native.Mathlib.Nat.{sub-zero}
-use lib.ListN.{length, take, drop}
+use mathlib.Core.Bool.{Bool}
+use native.Mathlib.Omega.{arith}
+use lib.ListN.{length, take, drop, length-map}
 use lib.Seq.{length-take-le, take-at, drop-at}
 use Rattle.values.specs.declared.Answer.{Answer}
 use Rattle.state.specs.declared.Hub.{Hub}
 use Rattle.slots.specs.declared.Slot.{Slot}
+use Rattle.slots.specs.Slots.{linkedTo}
 use Rattle.versions.specs.Versions.{slotIn, rowOf}
+use Rattle.ready.specs.Ready.{readyOf}
+use Rattle.simulation.specs.Left.{ready}
 use Rattle.simulation.specs.Memory.{memory}
 use Rattle.simulation.specs.Loop.{Ran}
 
@@ -44,3 +49,14 @@ module _ {h h′ : Hub} {newest free queue lens merged newest′ free′ queue�
       (ap (λ (k : ℕ). rowOf (take k row)) (sub-zero n) ∙ row-take n row)
       (subst (λ (l : List Slot). Ran (memory h (rowOf (take (n - 0) row)) newest free queue lens merged) list bytes kinds numbers count
       (memory h′ l newest′ free′ queue′ lens′ merged′) kinds′ numbers′ y) (row-front n part rest (part-long n row part within same)) r)
+
+-- ---- the test of the first n slots
+pub tested : (n : ℕ) (h : Hub) (row : List (List ℕ)) (newest free queue lens merged : List ℕ) (up linked : Bool) → n ≤ length row
+    → linked ≡ linkedTo (rowOf (take (n - 0) row)) (h .n) (h .n) → up ≡ readyOf h newest free queue lens merged linked n
+    → up ≡ ready (memory h (take n (rowOf row)) newest free queue lens merged)
+unfolding ready
+tested n h row newest free queue lens merged up linked within ek eu =
+    let is : rowOf (take (n - 0) row) ≡ take n (rowOf row) = ap (λ (k : ℕ). rowOf (take k row)) (sub-zero n) ∙ row-take n row in
+    let long : n ≡ length (take n (rowOf row)) = sym (length-take-le n (rowOf row) (omega (arith, within, length-map row slotIn))) in
+    let near : linked ≡ linkedTo (take n (rowOf row)) (h .n) (h .n) = ek ∙ ap (λ (l : List Slot). linkedTo l (h .n) (h .n)) is in
+    eu ∙ (λ i. readyOf h newest free queue lens merged (near i) (long i))

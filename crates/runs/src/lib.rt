@@ -1,9 +1,11 @@
-// The loop over the records (crate `core`) run on the first n slots of a row of words: for one record, and for as many as there is room for.
+// The loop over the records (crate `core`) run on the first n slots of a row of words: for one record, and for as many as there is room for. And the
+// call that gives a table of rights.
 ghost use mathlib.Core.Path.{_≡_};
 ghost use Prim.Native.Nat.{_+_, _/_, _≤_, min};
 ghost use lib.ListN.{length, take, drop};
 ghost use Rattle.versions.specs.Versions.{rowOf};
 ghost use Rattle.simulation.specs.Loop.{RanAll};
+ghost use Rattle.simulation.specs.Tables.{Gives};
 ghost use Rattle.runs.specs.Runs.{One};
 use state::Hub;
 use values::Answer;
@@ -94,6 +96,67 @@ pub fn run_one(
     let left = done.hub;
     let answer = done.last;
     Applied { hub: left, answer }
+}
+
+// ---- a table of rights
+
+// H15.8: gives a table of any bytes: 9 where the memory counts as set up, then 24; a refusal changes nothing. The slots are the first n of the words.
+pub fn give_table<'a>(
+    row: &[[u64; 6]],
+    n: usize,
+    hub: Hub,
+    table: &'a [u8],
+    newest: &'a [u16; 256],
+    free: &'a [u16; 2048],
+    queue: &'a [u32; 12288],
+    lens: &'a [u32; 4096],
+    merged: &'a [u32; 12288],
+) -> Applied
+    requires { ⌜ n ≤ length (now row) ⌝ }
+    ensures { λ r. ⌜
+        Gives
+        (record {
+          hub = hub;
+          slots = take n (rowOf (now (row .entry)));
+          newest = now (newest .entry);
+          free = now (free .entry);
+          queue = now (queue .entry);
+          lens = now (lens .entry);
+          merged = now (merged .entry);
+        })
+        (now (table .entry)) (r .answer)
+        (record {
+          hub = r .hub;
+          slots = take n (rowOf (now (row .entry)));
+          newest = now (newest .entry);
+          free = now (free .entry);
+          queue = now (queue .entry);
+          lens = now (lens .entry);
+          merged = now (merged .entry);
+        })
+        ⌝ }
+{
+    let first = &row[0..n];
+    let linked = versions::all_linked(first, hub.n);
+    if ready::ready(hub, newest, free, queue, lens, merged, linked, n) {
+        return Applied {
+            hub,
+            answer: Answer::No(9),
+        };
+    }
+    let mut rights = hub.rights;
+    if rights::take_table(&mut rights, table) {
+        let granted = table.len() / 8;
+        let left = Hub::fresh(0, 0, 0, 0, 0, [0u32; 1024], granted, rights);
+        return Applied {
+            hub: left,
+            answer: Answer::Ok,
+        };
+    }
+    Applied {
+        hub,
+        answer: Answer::No(24),
+    }
 }
 
 // ---- a buffer of records

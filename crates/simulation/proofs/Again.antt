@@ -2,7 +2,7 @@
 -- which the store after a setup or after one record more was written is memory that records left, and memory that holds a hub of the model holds
 -- its next hub after a record that writes it.
 use mathlib.Core.Path.{_≡_, refl, sym, ap, _∙_, subst}
-use mathlib.Core.Bool.{_&&_}
+use mathlib.Core.Bool.{true, _&&_}
 use mathlib.Core.Logic.{_⊎_, inl, inr, ⊎-elim}
 use mathlib.Core.List.{List, [], _∷_, _++_, map, reverse}
 use Prim.Native.Nat.{ℕ, suc, _*_, _≤_, _<_}
@@ -15,6 +15,7 @@ use Rattle.lists.proofs.Over.{length-over}
 use Rattle.model.specs.Store as Model
 use Rattle.model.specs.Store.{Store, blank, up, startWorker, workerAt}
 use Rattle.model.specs.Batch.{batchOf}
+use Rattle.model.specs.Rights.{tableStands}
 use Rattle.model.specs.Rules.{inForce, under}
 use Rattle.model.specs.Answer.{Ok, Applied}
 use Rattle.model.specs.Record.{SetUp, Begin, Step, Decoded, Asks, Refuses, decode, rowsOf, listFits}
@@ -42,6 +43,7 @@ use Rattle.simulation.proofs.Sound.{Sound, sound, left-next}
 use Rattle.simulation.proofs.Ready.{hand-short, times-short, length-joined}
 use Rattle.simulation.proofs.Laid.{memory-path, hub-path}
 use Rattle.simulation.proofs.Laws.{next-size}
+use Rattle.simulation.proofs.Rights.{few-rights, standing-stands}
 
 ------------------------------------------------------------------------
 -- The lists in hand
@@ -110,7 +112,7 @@ module _ (s : Store) (S : Sound s) (m : Memory) (Z : Sized m) (B : Begins (m .hu
   written-lies =
       memory-path
       (hub-path refl refl refl refl refl refl refl (sym (over-again (s .site .rows) (m .hub .rows)))
-      (parts-again 28 (λ x. timesRead (x .doing)) (s .workers) (m .hub .times) times-room reads) refl refl refl)
+      (parts-again 28 (λ x. timesRead (x .doing)) (s .workers) (m .hub .times) times-room reads) refl refl refl (sym (over-again (s .site .table) (m .hub .rights))) refl)
       (sym (over-again (map slotRep (s .slots)) (m .slots)))
       (sym (over-again (s .newest) (m .newest)))
       (sym (over-again (reverse (s .free)) (m .free)))
@@ -139,6 +141,7 @@ module _ (s : Store) (S : Sound s) (m : Memory) (Z : Sized m) (B : Begins (m .hu
             (omega (arith, length-map (s .workers) readOf, length-replicate {A = ℕ} 16 0, S .bounds .workers .1, S .bounds .workers .2))
             ∙ length-replicate {A = ℕ} 16 0;
         rows = length-over (s .site .rows) (m .hub .rows) (omega (arith, Z .rows, S .bounds .rows .1)) ∙ Z .rows;
+        rights = length-over (s .site .table) (m .hub .rights) (omega (arith, Z .rights, few-rights (s .site .table) (S .table))) ∙ Z .rights;
         newest = length-over (s .newest) (m .newest) (omega (arith, Z .newest, S .bounds .registers .1, S .bounds .registers .2)) ∙ Z .newest;
         free =
             length-over (reverse (s .free)) (m .free)
@@ -162,41 +165,42 @@ module _ (s : Store) (S : Sound s) (m : Memory) (Z : Sized m) (B : Begins (m .hu
 abbrev pub LeftHub : Model.Hub → Type 0
 LeftHub h = (t : Store) × (h ≡ up t) × LeftByRecords t
 
--- or it is not set up, and has this row
-abbrev pub BlankOrLeft : List Model.Slot → Model.Hub → Type 0
+-- or it is not set up, and this is lent
+abbrev pub BlankOrLeft : Model.Lent → Model.Hub → Type 0
 BlankOrLeft row h = (h ≡ blank row) ⊎ LeftHub h
 
 -- an accepted setup leaves such a store
-pub setup-left : (list : List ℕ) (row : List Model.Slot) (b : List ℕ) → apply (inForce list) (blank row) b .answer ≡ Ok
+pub setup-left : (list : List ℕ) (row : Model.Lent) (b : List ℕ) → tableStands (row .table) ≡ true → apply (inForce list) (blank row) b .answer ≡ Ok
     → LeftHub (apply (inForce list) (blank row) b .hub)
 unfolding hubAfter
-setup-left list row b ok =
+setup-left list row b fits ok =
     let A = accepts (inForce list) row b ok in (
-      fresh (batchOf (A .sizes .P)) (A .sizes) (rowsOf list) [] (A .row),
+      fresh (batchOf (A .sizes .P)) (A .sizes) (rowsOf list) (row .table) (row .row),
       A .is,
-      record { row = row; setup = under (inForce list) b; batch = refl; table = refl; accepted = ok; records = []; left = A .is },
+      record { row = row; setup = under (inForce list) b; batch = refl; table = fits; accepted = ok; records = []; left = A .is },
     )
 
 -- every other record leaves the hub as it was
-abbrev SameOrOk : List Model.Slot → Applied → Type 0
+abbrev SameOrOk : Model.Lent → Applied → Type 0
 SameOrOk row a = (a .hub ≡ blank row) ⊎ (a .answer ≡ Ok)
 
-same-or-ok : (list : List ℕ) (row : List Model.Slot) (d : Decoded) → SameOrOk row (applyDecoded (inForce list) (blank row) d)
+same-or-ok : (list : List ℕ) (row : Model.Lent) (d : Decoded) → SameOrOk row (applyDecoded (inForce list) (blank row) d)
 unfolding applyDecoded obey setUp
 same-or-ok list row (Asks (SetUp z)) =
-    cond-both (SameOrOk row) (inRanges z && leb (z .N) (length row) && listFits (z .V') list) _ _ (λ e. inr refl) (λ e. inl refl)
+    cond-both (SameOrOk row) (inRanges z && leb (z .N) (length (row .row)) && listFits (z .V') list) _ _ (λ e. inr refl) (λ e. inl refl)
 same-or-ok list row (Asks (Begin w o)) = inl refl
 same-or-ok list row (Asks (Step w)) = inl refl
 same-or-ok list row (Refuses k) = inl refl
 
-blank-next : (list : List ℕ) (row : List Model.Slot) (b : List ℕ) → BlankOrLeft row (apply (inForce list) (blank row) b .hub)
+blank-next : (list : List ℕ) (row : Model.Lent) (b : List ℕ) → tableStands (row .table) ≡ true → BlankOrLeft row (apply (inForce list) (blank row) b .hub)
 unfolding apply
-blank-next list row b = ⊎-elim (λ e. inl e) (λ ok. inr (setup-left list row b ok)) (same-or-ok list row (decode b))
+blank-next list row b fits = ⊎-elim (λ e. inl e) (λ ok. inr (setup-left list row b fits ok)) (same-or-ok list row (decode b))
 
-pub hub-next : (list : List ℕ) (row : List Model.Slot) (h : Model.Hub) (b : List ℕ) → BlankOrLeft row h
+pub hub-next : (list : List ℕ) (row : Model.Lent) (h : Model.Hub) (b : List ℕ) → tableStands (row .table) ≡ true → BlankOrLeft row h
     → BlankOrLeft row (apply (inForce list) h b .hub)
-hub-next list row h b (inl e) = subst (λ (k : Model.Hub). BlankOrLeft row (apply (inForce list) k b .hub)) (sym e) (blank-next list row b)
-hub-next list row h b (inr (s, e, L)) =
+hub-next list row h b fits (inl e) =
+    subst (λ (k : Model.Hub). BlankOrLeft row (apply (inForce list) k b .hub)) (sym e) (blank-next list row b fits)
+hub-next list row h b fits (inr (s, e, L)) =
     inr (subst (λ (k : Model.Hub). LeftHub (apply (inForce list) k b .hub)) (sym e) (left-next L (under (inForce list) b)))
 
 ------------------------------------------------------------------------
@@ -206,9 +210,9 @@ module _ (m m′ : Memory) (Z : Sized m) (list : List ℕ) where
   -- the hub by value that is written over has its lengths
   hub-sized : (h₀ : Model.Hub) (t : Store)
       → (length (nextHub h₀ t (m .hub) .workers) ≡ 16) × (length (nextHub h₀ t (m .hub) .times) ≡ 448) × (length (nextHub h₀ t (m .hub) .rows) ≡ 1024)
-      × (length (nextHub h₀ t (m .hub) .marks) ≡ 12) × (length (nextHub h₀ t (m .hub) .reading) ≡ 16)
-  hub-sized (blank row) t = (refl, length-replicate {A = ℕ} 448 0, length-replicate {A = ℕ} 1024 0, refl, refl)
-  hub-sized (up s) t = (Z .workers, Z .times, Z .rows, Z .marks, Z .reading)
+      × (length (nextHub h₀ t (m .hub) .marks) ≡ 12) × (length (nextHub h₀ t (m .hub) .reading) ≡ 16) × (length (nextHub h₀ t (m .hub) .rights) ≡ 64)
+  hub-sized (blank row) t = (refl, length-replicate {A = ℕ} 448 0, length-replicate {A = ℕ} 1024 0, refl, refl, Z .rights)
+  hub-sized (up s) t = (Z .workers, Z .times, Z .rows, Z .marks, Z .reading, Z .rights)
 
   -- over m, which held the hub h₀, the hub h was written, in a window that begins well
   written : (h₀ h : Model.Hub) → ((t : Store) → Begins (nextHub h₀ t (m .hub) .window)) → LeftHub h → m′ ≡ writeHub h₀ h m
@@ -222,6 +226,7 @@ module _ (m m′ : Memory) (Z : Sized m) (list : List ℕ) where
         marks = hub-sized h₀ t .3;
         reading = hub-sized h₀ t .4;
         rows = hub-sized h₀ t .2;
+        rights = hub-sized h₀ t .5;
         newest = Z .newest;
         free = Z .free;
         queue = Z .queue;
@@ -235,7 +240,7 @@ module _ (m m′ : Memory) (Z : Sized m) (list : List ℕ) where
       ))
 
   -- it is not set up: the memory is as it was
-  unwritten : (row : List Model.Slot) (h : Model.Hub) → Holds (blank row) m → h ≡ blank row → m′ ≡ writeHub (blank row) h m → Holds h m′ × Sized m′
+  unwritten : (row : Model.Lent) (h : Model.Hub) → Holds (blank row) m → h ≡ blank row → m′ ≡ writeHub (blank row) h m → Holds h m′ × Sized m′
   unwritten row h H e is =
       subst (λ (k : Model.Hub). Holds k m′ × Sized m′) (sym e)
       (subst (λ (x : Memory). Holds (blank row) x × Sized x) (sym (is ∙ ap (λ (k : Model.Hub). writeHub (blank row) k m) e)) (H, Z))
@@ -246,7 +251,7 @@ module _ (m m′ : Memory) (Z : Sized m) (list : List ℕ) where
   holds-written (blank row) b H is =
       ⊎-elim (λ e. unwritten row (apply (inForce list) (blank row) b .hub) H e is)
       (λ L. written (blank row) (apply (inForce list) (blank row) b .hub) (λ t. record { first = omega arith; from = omega arith }) L is)
-      (blank-next list row b)
+      (blank-next list row b (ap (λ (x : Model.Lent). tableStands (x .table)) (H .1) ∙ standing-stands (m .hub)))
   holds-written (up s) b L is =
       let some = All-map (λ l a. a .0) (s .queue) (sound (L .store) .bounds .queued) in
       written (up s) (apply (inForce list) (up s) b .hub) (λ t. begins-after (s .queue) (t .queue) (m .hub .window) some (L .begins))

@@ -22,7 +22,7 @@ use Rattle.answers.specs.Numbers.{kindOf, numberOf, answerFrom}
 use Rattle.worker.specs.declared.Announced.{Announced}
 use Rattle.worker.specs.declared.Doing.{Doing}
 use Rattle.worker.specs.declared.Worker.{Worker}
-use Rattle.state.specs.State.{workerIn}
+use Rattle.state.specs.State.{workerIn, tableKept}
 use Rattle.arrays.specs.Arrays.{fillTo}
 use Rattle.gate.specs.declared.Gate.{Gate}
 use Rattle.gate.specs.Gate.{operationRep, decodedRep, decodedIn, sizesOk, gateOf, whoOf}
@@ -83,17 +83,17 @@ module _ (m : Memory) (list : List ℕ) where
   abbrev SetsUp : Record.Decoded → Gate → Type 0
   SetsUp r g = makes g ≡ setsUp r (said (answerOf (obeyIn m list g .answer)) .ok)
 
-  gate-sets-up : (r : Record.Decoded) (up : Bool) (p v long : ℕ) (d : Doing) (t : Announced) (rows marks reading : List ℕ)
-      → SetsUp r (gateOf (decodedRep r) up p v long d t list rows marks reading)
+  gate-sets-up : (r : Record.Decoded) (up : Bool) (p v long : ℕ) (d : Doing) (t : Announced) (rows marks reading table : List ℕ)
+      → SetsUp r (gateOf (decodedRep r) up p v long d t list rows marks reading table)
   unfolding gateOf setsUp obeyIn
-  gate-sets-up (Record.Refuses k) up p v long d t rows marks reading = refl
-  gate-sets-up (Asks (SetUp z)) up p v long d t rows marks reading =
+  gate-sets-up (Record.Refuses k) up p v long d t rows marks reading table = refl
+  gate-sets-up (Asks (SetUp z)) up p v long d t rows marks reading table =
       let N : Gate → Type 0 = SetsUp (Asks (SetUp z)) in
       cond-both N up _ _ (λ e. refl) (λ e. cond-both N (sizesOk (z .P) (z .V') (z .N) (z .clock) long && Record.listFits (z .V') list) _ _ (λ e. refl) (λ e. refl))
-  gate-sets-up (Asks (Record.Begin w o)) up p v long d t rows marks reading =
+  gate-sets-up (Asks (Record.Begin w o)) up p v long d t rows marks reading table =
       let N : Gate → Type 0 = SetsUp (Asks (Record.Begin w o)) in
-      cond-both N up _ _ (λ e. begin-gate-by N p v w (operationRep o) d t rows marks reading (λ k f. refl) (λ f. refl)) (λ e. refl)
-  gate-sets-up (Asks (Record.Step w)) up p v long d t rows marks reading =
+      cond-both N up _ _ (λ e. begin-gate-by N p v w (operationRep o) d t rows marks reading table (λ k f. refl) (λ f. refl)) (λ e. refl)
+  gate-sets-up (Asks (Record.Step w)) up p v long d t rows marks reading table =
       let N : Gate → Type 0 = SetsUp (Asks (Record.Step w)) in
       cond-both N up _ _ (λ e. cond-both N (ltb w p) _ _ (λ e. refl) (λ e. refl)) (λ e. refl)
 
@@ -107,7 +107,7 @@ module _ (m : Memory) (list bytes : List ℕ) where
       let w : Worker = workerIn (x .hub) (whoOf (decodedIn (recordAt bytes k))) in
       ap (λ (t : Bool). s .up || t)
       (gate-sets-up x list (decode (recordAt bytes k)) (s .up) (x .hub .p) (x .hub .v) (length (x .slots)) (w .doing) (w .announced)
-      (rowsKept (x .hub)) (x .hub .marks) (marksRead (x .hub)))
+      (rowsKept (x .hub)) (x .hub .marks) (marksRead (x .hub)) (tableKept (x .hub)))
 
   any-at : (k : ℕ)
       → OnAny (stateAt m list bytes k .up) (stateAt m list bytes k .memory) (recordAt bytes k) (answerTo m list bytes k) (stateAt m list bytes (suc k) .memory)

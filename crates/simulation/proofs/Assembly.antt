@@ -16,14 +16,13 @@ use Rattle.model.specs.Apply.{apply}
 use Rattle.values.specs.Meaning.{answerOf}
 use Rattle.worker.specs.declared.Worker.{Worker}
 use Rattle.worker.specs.Rep.{doingRep}
-use Rattle.slots.specs.Slots.{slotOf}
 use Rattle.state.specs.declared.Hub.{Hub}
 use Rattle.state.specs.State.{workerIn}
 use Rattle.queue.specs.State.{Begins}
 use Rattle.gate.specs.declared.Gate.{Gate}
 use Rattle.gate.specs.declared.Gate.the-variants.{Refuse, Make, Start, Go}
 use Rattle.gate.specs.Gate.{decodedIn}
-use Rattle.simulation.specs.Memory.{Memory, hubRep, write, writeHub}
+use Rattle.simulation.specs.Memory.{Memory, lentIn, hubRep, write, writeHub}
 use Rattle.simulation.specs.Left.{LeftByRecords, Left, Sized, ready}
 use Rattle.simulation.specs.Shell.{Result, goIn, obeyIn, gateIn, doneAs, doneOf}
 use Rattle.simulation.specs.Holds.{Holds}
@@ -63,10 +62,10 @@ done-by h m list b a g e F =
 
 module _ (m : Memory) (list b : List ℕ) (Z : Sized m) (bytes : Bytes b) (e : ready m ≡ false) where
   -- the code does what the model's hub does that is not set up and whose row is lent
-  pub done-blank : DoneAs (blank (map slotOf (m .slots))) m list b (apply (inForce list) (blank (map slotOf (m .slots))) b)
+  pub done-blank : DoneAs (blank (lentIn m)) m list b (apply (inForce list) (blank (lentIn m)) b)
   unfolding apply
   done-blank =
-      done-by (blank (map slotOf (m .slots))) m list b (apply (inForce list) (blank (map slotOf (m .slots))) b) _ (ap (λ (t : Bool). gateIn t m list b) e)
+      done-by (blank (lentIn m)) m list b (apply (inForce list) (blank (lentIn m)) b) _ (ap (λ (t : Bool). gateIn t m list b) e)
       (follows-blank m Z list (decode b) (clock-fits b bytes))
 
 ------------------------------------------------------------------------
@@ -132,7 +131,7 @@ module _ (steps : StepsSimulate) where
 
   done-as : (h : Model.Hub) (m : Memory) (list b : List ℕ) → Holds h m → Sized m → Bytes b → DoneAs h m list b (apply (inForce list) h b)
   done-as (blank row) m list b (e, r) Z B =
-      subst (λ (l : List Model.Slot). DoneAs (blank l) m list b (apply (inForce list) (blank l) b)) (sym r) (done-blank m list b Z B e)
+      subst (λ (l : Model.Lent). DoneAs (blank l) m list b (apply (inForce list) (blank l) b)) (sym r) (done-blank m list b Z B e)
   done-as (up s) m list b L Z B = done-left s m list b L Z
 
   -- the public function's contract

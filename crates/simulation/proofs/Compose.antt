@@ -2,11 +2,13 @@
 -- records decide all of it. From this comes demand 3 of every part of a list that starts behind an accepted setup.
 use mathlib.Core.Path.{_≡_, refl, sym, ap, _∙_, subst}
 use mathlib.Core.Logic.{inl, inr}
+use mathlib.Core.Bool.{true}
 use mathlib.Core.List.{List, [], _∷_, _++_, map, map-append}
 use Prim.Native.Nat.{ℕ}
 use native.Mathlib.Omega.{arith}
 use lib.ListN.{getD, drop}
-use Rattle.model.specs.Store.{Slot, Store, Hub, blank, up}
+use Rattle.model.specs.Store.{Lent, Store, Hub, blank, up}
+use Rattle.model.specs.Rights.{tableStands}
 use Rattle.model.specs.Rules.{inForce, Ruled, under}
 use Rattle.model.specs.Answer.{Answer, Ok}
 use Rattle.model.specs.Record.{Sizes, SetUp, Decoded, Asks, decode}
@@ -22,7 +24,7 @@ use Rattle.simulation.proofs.Again.{BlankOrLeft, hub-next}
 ------------------------------------------------------------------------
 -- Two lists of records
 
-events-append : (h : Hub) (l n : List Ruled) → events h (l ++ n) ≡ events h l ++ events (hubAfter h l) n
+pub events-append : (h : Hub) (l n : List Ruled) → events h (l ++ n) ≡ events h l ++ events (hubAfter h l) n
 unfolding events hubAfter
 events-append h [] n = refl
 events-append h (b ∷ l) n =
@@ -89,13 +91,13 @@ unfolding events hubAfter
 middle h [] x fs e = (ap (λ (l : List Exchange). getD l 0 x .answer) e, ap (drop 1) e)
 middle h (y ∷ es) x fs e = middle (apply (inForce (y .list)) h (y .bytes) .hub) es x fs (ap (drop 1) e)
 
-hubs : (row : List Slot) (h : Hub) (es : List Exchange) → BlankOrLeft row h → BlankOrLeft row (hubAfter h (sent es))
+hubs : (row : Lent) (h : Hub) (es : List Exchange) → tableStands (row .table) ≡ true → BlankOrLeft row h → BlankOrLeft row (hubAfter h (sent es))
 unfolding hubAfter
-hubs row h [] B = B
-hubs row h (e ∷ es) B = hubs row (apply (inForce (e .list)) h (e .bytes) .hub) es (hub-next (e .list) row h (e .bytes) B)
+hubs row h [] fits B = B
+hubs row h (e ∷ es) fits B = hubs row (apply (inForce (e .list)) h (e .bytes) .hub) es fits (hub-next (e .list) row h (e .bytes) fits B)
 
 -- a hub that accepts a setup is not set up
-accepting : (list : List ℕ) (row : List Slot) (h : Hub) (b : List ℕ) (z : Sizes) → decode b ≡ Asks (SetUp z) → apply (inForce list) h b .answer ≡ Ok → BlankOrLeft row h
+accepting : (list : List ℕ) (row : Lent) (h : Hub) (b : List ℕ) (z : Sizes) → decode b ≡ Asks (SetUp z) → apply (inForce list) h b .answer ≡ Ok → BlankOrLeft row h
     → h ≡ blank row
 unfolding apply applyDecoded obey setUp
 accepting list row h b z d ok (inl e) = e
@@ -105,14 +107,14 @@ accepting list row h b z d ok (inr (s, e, L)) =
     let never : _≡_ {A = ℕ} 0 1 = cc in
     absurd (omega arith)
 
-pub behind-setup : (row : List Slot) (h : Hub) (es fs : List Exchange) (list b : List ℕ) (z : Sizes) → BlankOrLeft row h
+pub behind-setup : (row : Lent) (h : Hub) (es fs : List Exchange) (list b : List ℕ) (z : Sizes) → tableStands (row .table) ≡ true → BlankOrLeft row h
     → Answered h (es ++ (record { list = list; bytes = b; answer = Ok } ∷ fs)) → decode b ≡ Asks (SetUp z)
     → CodeDemand3 (apply (inForce list) (blank row) b .hub) [] fs
 unfolding events
-behind-setup row h es fs list b z B e d =
+behind-setup row h es fs list b z fits B e d =
     let M = middle h es (record { list = list; bytes = b; answer = Ok }) fs e in
     let k : Hub = hubAfter h (sent es) in
-    let is : k ≡ blank row = accepting list row k b z d (sym (M .0)) (hubs row h es B) in
+    let is : k ≡ blank row = accepting list row k b z d (sym (M .0)) (hubs row h es fits B) in
     let ok : apply (inForce list) (blank row) b .answer ≡ Ok = ap (λ (q : Hub). apply (inForce list) q b .answer) (sym is) ∙ sym (M .0) in
     record {
       answers = sym (subst (λ (q : Hub). Answered (apply (inForce list) q b .hub) fs) is (M .1));

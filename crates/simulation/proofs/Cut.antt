@@ -24,8 +24,9 @@ use Rattle.values.specs.Meaning.{answerOf}
 use Rattle.slots.specs.declared.Slot.{Slot}
 use Rattle.slots.specs.Slots.{slotRep, slotOf, vacantSlot, linkedAnd, linkedTo}
 use Rattle.state.specs.declared.Hub.{Hub}
-use Rattle.ready.specs.Ready.{sizesFit, readyOf}
-use Rattle.simulation.specs.Memory.{Memory, cut, write, withHub, nextHub, writeHub}
+use Rattle.state.specs.State.{standing}
+use Rattle.ready.specs.Ready.{sizesFit, scansFit, readyOf}
+use Rattle.simulation.specs.Memory.{Memory, lentIn, cut, write, withHub, nextHub, writeHub}
 use Rattle.simulation.specs.Left.{LeftByRecords, Left, Sized, ready}
 use Rattle.simulation.specs.Shell.{doneOf}
 use Rattle.simulation.specs.Holds.{Holds, AsModel}
@@ -68,8 +69,8 @@ too-many : (h : Hub) (long : ℕ) → 2048 < h .n → sizesFit h long ≡ false
 unfolding sizesFit
 too-many h long u = simp (lt-leb (h .n) 2048 u, and-false)
 
-ready-cut : (m : Memory) → ready (cut m) ≡ ready m
-unfolding ready readyOf sizesFit
+pub ready-cut : (m : Memory) → ready (cut m) ≡ ready m
+unfolding ready readyOf scansFit sizesFit
 ready-cut m =
     ⊎-elim
     (λ u. rw (long-cut (m .hub .n) (m .slots) (u .0), linked-cut (m .slots) (m .hub .n) (m .hub .n) (u .0)))
@@ -122,17 +123,24 @@ module _ (m : Memory) (list : List ℕ) (l : List Slot) where
   abbrev row′ : List Model.Slot
   row′ = map slotOf (take 2048 l)
 
-  refused-cut : (k : ℕ) → Alike m (blank row′) (blank row) (refuse (blank row′) k) (refuse (blank row) k)
+  -- with the table that stands
+  abbrev lent : Model.Lent
+  lent = record { row = row; table = standing (m .hub) }
+
+  abbrev lent′ : Model.Lent
+  lent′ = record { row = row′; table = standing (m .hub) }
+
+  refused-cut : (k : ℕ) → Alike m (blank lent′) (blank lent) (refuse (blank lent′) k) (refuse (blank lent) k)
   refused-cut k = record { memory = refl; answer = refl; few = tt }
 
   -- the slots that a setup takes
   made-cut : (z : Sizes) → z .N ≤ 2048 → take (z .N) row′ ≡ take (z .N) row
   made-cut z h = ap (take (z .N)) (map-take slotOf 2048 l) ∙ take-take (z .N) 2048 row h
 
-  set-up-cut : (z : Sizes) → Alike m (blank row′) (blank row) (setUp (inForce list) (blank row′) z) (setUp (inForce list) (blank row) z)
+  set-up-cut : (z : Sizes) → Alike m (blank lent′) (blank lent) (setUp (inForce list) (blank lent′) z) (setUp (inForce list) (blank lent) z)
   unfolding setUp fresh
   set-up-cut z =
-      both (Alike m (blank row′) (blank row)) (inRanges z && leb (z .N) (length row′) && listFits (z .V') list)
+      both (Alike m (blank lent′) (blank lent)) (inRanges z && leb (z .N) (length row′) && listFits (z .V') list)
       (inRanges z && leb (z .N) (length row) && listFits (z .V') list) _ _ _ _
       (ap (λ (t : Bool). t && listFits (z .V') list)
       (and-same (inRanges z) _ _ (λ e. rw (map-take slotOf 2048 l) (long-cut (z .N) row (in-ranges z e .N≤2048)))))
@@ -144,14 +152,14 @@ module _ (m : Memory) (list : List ℕ) (l : List Slot) where
       })
       (λ e. refused-cut 5)
 
-  decoded-cut : (r : Decoded) → Alike m (blank row′) (blank row) (applyDecoded (inForce list) (blank row′) r) (applyDecoded (inForce list) (blank row) r)
+  decoded-cut : (r : Decoded) → Alike m (blank lent′) (blank lent) (applyDecoded (inForce list) (blank lent′) r) (applyDecoded (inForce list) (blank lent) r)
   unfolding applyDecoded obey
   decoded-cut (Asks (SetUp z)) = set-up-cut z
   decoded-cut (Asks (Begin w o)) = refused-cut 8
   decoded-cut (Asks (Step w)) = refused-cut 8
   decoded-cut (Refuses k) = refused-cut k
 
-  apply-cut : (b : List ℕ) → Alike m (blank row′) (blank row) (apply (inForce list) (blank row′) b) (apply (inForce list) (blank row) b)
+  apply-cut : (b : List ℕ) → Alike m (blank lent′) (blank lent) (apply (inForce list) (blank lent′) b) (apply (inForce list) (blank lent) b)
   unfolding apply
   apply-cut b = decoded-cut (decode b)
 
@@ -214,10 +222,10 @@ module _ (m m′ : Memory) (rest : drop 2048 (m′ .slots) ≡ drop 2048 (m .slo
 
   -- what the model makes of the record, with the first 2048 slots and with the whole row
   module _ (list b : List ℕ) (y : Answer) (D : Does (cut m) list b y (cut m′)) (Z : Sized m) where
-    blank-as-model-cut : ready m ≡ false → AsModel (blank (map slotOf (m .slots))) m (exchangeOf list b y ∷ []) m′
+    blank-as-model-cut : ready m ≡ false → AsModel (blank (lentIn m)) m (exchangeOf list b y ∷ []) m′
     blank-as-model-cut e =
-        let h : Model.Hub = blank (row (cut m) list (m .slots)) in
-        let A = D .asModel (blank (row′ (cut m) list (m .slots))) (ready-cut m ∙ e, refl) in
+        let h : Model.Hub = blank (lent (cut m) list (m .slots)) in
+        let A = D .asModel (blank (lent′ (cut m) list (m .slots))) (ready-cut m ∙ e, refl) in
         let L = apply-cut (cut m) list (m .slots) b in
         as-model m m′ Z list h b y (e, refl) (written h (apply (inForce list) h b .hub) (L .few) (one-memory A ∙ L .memory)) (one-answer A ∙ L .answer)
 
@@ -228,7 +236,7 @@ module _ (m m′ : Memory) (rest : drop 2048 (m′ .slots) ≡ drop 2048 (m .slo
         let f : FewIn (apply (inForce list) (up s) b .hub) = subst FewIn (sym (N .1)) (left-few (N .2)) in
         as-model m m′ Z list (up s) b y L (written (up s) (apply (inForce list) (up s) b .hub) f (one-memory A)) (one-answer A)
     as-model-cut (blank l) H =
-        subst (λ (q : List Model.Slot). AsModel (blank q) m (exchangeOf list b y ∷ []) m′) (sym (H .1)) (blank-as-model-cut (H .0))
+        subst (λ (q : Model.Lent). AsModel (blank q) m (exchangeOf list b y ∷ []) m′) (sym (H .1)) (blank-as-model-cut (H .0))
 
 -- the contract with the first 2048 slots is the contract with the whole row, where the rest of the row is as it was
 does-cut : (m m′ : Memory) (list b : List ℕ) (y : Answer) → Sized m → Does (cut m) list b y (cut m′) → drop 2048 (m′ .slots) ≡ drop 2048 (m .slots)
@@ -247,6 +255,7 @@ sized-cut m Z =
       marks = Z .marks;
       reading = Z .reading;
       rows = Z .rows;
+      rights = Z .rights;
       newest = Z .newest;
       free = Z .free;
       queue = Z .queue;
@@ -273,17 +282,17 @@ module _ (m m′ : Memory) (list b : List ℕ) (y : Answer) (Z : Sized m) (D : D
   cut-written h₀ (blank row) f e = ap cut e
   cut-written h₀ (up s) f e = ap cut e ∙ write-cut s f (withHub m (nextHub h₀ s (m .hub)))
 
-  blank-uncut : ready (cut m) ≡ false → AsModel (blank (map slotOf (take 2048 (m .slots)))) (cut m) (exchangeOf list b y ∷ []) (cut m′)
+  blank-uncut : ready (cut m) ≡ false → AsModel (blank (lentIn (cut m))) (cut m) (exchangeOf list b y ∷ []) (cut m′)
   blank-uncut e =
-      let A = D .asModel (blank (row (cut m) list (m .slots))) (sym (ready-cut m) ∙ e, refl) in
+      let A = D .asModel (blank (lent (cut m) list (m .slots))) (sym (ready-cut m) ∙ e, refl) in
       let L = apply-cut (cut m) list (m .slots) b in
-      let a : Applied = apply (inForce list) (blank (row (cut m) list (m .slots))) b in
-      as-model (cut m) (cut m′) (sized-cut m Z) list (blank (row′ (cut m) list (m .slots))) b y (e, refl)
-      (cut-written (blank (row (cut m) list (m .slots))) (a .hub) (L .few) (one-memory A) ∙ sym (L .memory)) (one-answer A ∙ sym (L .answer))
+      let a : Applied = apply (inForce list) (blank (lent (cut m) list (m .slots))) b in
+      as-model (cut m) (cut m′) (sized-cut m Z) list (blank (lent′ (cut m) list (m .slots))) b y (e, refl)
+      (cut-written (blank (lent (cut m) list (m .slots))) (a .hub) (L .few) (one-memory A) ∙ sym (L .memory)) (one-answer A ∙ sym (L .answer))
 
   as-model-uncut : (h : Model.Hub) → Holds h (cut m) → AsModel h (cut m) (exchangeOf list b y ∷ []) (cut m′)
   as-model-uncut (blank l) H =
-      subst (λ (q : List Model.Slot). AsModel (blank q) (cut m) (exchangeOf list b y ∷ []) (cut m′)) (sym (H .1)) (blank-uncut (H .0))
+      subst (λ (q : Model.Lent). AsModel (blank q) (cut m) (exchangeOf list b y ∷ []) (cut m′)) (sym (H .1)) (blank-uncut (H .0))
   as-model-uncut (up s) L =
       let A = D .asModel (up s) (left-uncut L) in
       let N = left-next (L .store) (under (inForce list) b) in

@@ -23,9 +23,11 @@ use Rattle.values.specs.Meaning.{answerOf}
 use Rattle.values.specs.declared.Answer as Code
 use Rattle.values.specs.declared.Answer.the-variants as Is
 use Rattle.answers.specs.Numbers.{kindOf, numberOf, answerFrom}
-use Rattle.slots.specs.Slots.{slotOf}
 use Rattle.queue.specs.State.{Begins}
-use Rattle.simulation.specs.Memory.{Memory, write}
+use Rattle.model.specs.Rights.{eachOf, tableStands}
+use Rattle.simulation.specs.Memory.{Memory, lentIn, write}
+use Rattle.simulation.proofs.Rights.{standing-stands}
+use Rattle.simulation.proofs.Tables.{table, late, empty}
 use Rattle.simulation.specs.Left.{LeftUnder, Left, ready}
 use Rattle.simulation.specs.Holds.{Holds, Decided, sent, AsModel}
 use Rattle.simulation.specs.Public.{OnAny, exchangeOf}
@@ -126,7 +128,7 @@ from-setup m (ForBuffer l₀ bytes kinds numbers n kinds′ numbers′ m′) A e
 ------------------------------------------------------------------------
 -- All calls together
 
-held : (h : Hub) (m : Memory) → Holds h m → BlankOrLeft (map slotOf (m .slots)) h
+held : (h : Hub) (m : Memory) → Holds h m → BlankOrLeft (lentIn m) h
 held (blank row) m H = inl (ap blank (H .1))
 held (up s) m L = inr (s, refl, L .store)
 
@@ -154,25 +156,26 @@ calls-behind m (c ∷ cs) ds C = calls-behind (leftBy c) cs ds (C .1)
 
 -- demand 3 of a setup in the first call
 first-setup : (m : Memory) (c : CallIn) (ds : List CallIn) → Calls m (c ∷ ds) → (es fs : List Exchange) (list b : List ℕ) → Accepts (exchanged c) es list b fs
-    → CodeDemand3 (apply (inForce list) (blank (map slotOf (m .slots))) b .hub) [] (fs ++ exchanges ds)
+    → CodeDemand3 (apply (inForce list) (blank (lentIn m)) b .hub) [] (fs ++ exchanges ds)
 unfolding Calls exchanges
 first-setup m c ds C es fs list b S =
-    let D : Decided m = (blank (map slotOf (m .slots)), (from-setup m c (C .0) es fs list b S, refl)) in
+    let D : Decided m = (blank (lentIn m), (from-setup m c (C .0) es fs list b S, refl)) in
     let x : Exchange = record { list = list; bytes = b; answer = Ok } in
     let whole : exchanges (c ∷ ds) ≡ es ++ (x ∷ (fs ++ exchanges ds)) =
     ap (λ (l : List Exchange). l ++ exchanges ds) (S .place) ∙ append-assoc es (x ∷ fs) (exchanges ds) in
-    behind-setup (map slotOf (m .slots)) (D .0) es (fs ++ exchanges ds) list b (S .sizes) (held (D .0) m (D .1))
+    behind-setup (lentIn m) (D .0) es (fs ++ exchanges ds) list b (S .sizes) (standing-stands (m .hub)) (held (D .0) m (D .1))
     (subst (λ (l : List Exchange). l ≡ map exchange (events (D .0) (sent l))) whole (calls-as-model (D .0) m (c ∷ ds) (D .1) C .answers)) (S .setup)
 
 -- memory from before the first change request
 on-earlier : (list : List ℕ) (s : Store) (m : Memory) (E : LeftUnder (document01 list) s) (cs : List CallIn) → Begins (m .hub .window) → m ≡ write s m → Calls m cs
     → OnEarlier list s m E cs
+unfolding tableStands eachOf
 on-earlier list s m E cs begins laid C =
     let L : Left s m =
     record {
       store =
           record {
-            row = E .row;
+            row = record { row = E .row; table = [] };
             setup = under (document01 list) (E .setup);
             batch = refl;
             table = refl;
@@ -205,5 +208,8 @@ demands =
       demand3Left = λ s m cs L C. behind-records s (L .store) (exchanges cs) (calls-as-model (up s) m cs L C .answers);
       monthEnd = λ h old es D.
           subst (λ (l : List Exchange). SameFigures (history 0 l [])) (D .answers) (month-end (rowsIn h) (events h (old ++ sent es)) (D .demand));
+      table = table;
+      late = late;
+      empty = empty;
       earlier = on-earlier;
     }

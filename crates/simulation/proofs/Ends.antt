@@ -41,7 +41,7 @@ use Rattle.marks.specs.declared.MarkNeed.{MarkNeed}
 use Rattle.marks.specs.declared.MarkNeed.the-variants.{Empty, Unread}
 use Rattle.marks.specs.Marks.{readAs, readBy, refusalIn, timeIn}
 use Rattle.marks.proofs.Refused.{refusal-by}
-use Rattle.state.specs.State.{nobody, workerIn, withWorkersIn, withWorkerIn, withReadingIn, atPlace}
+use Rattle.state.specs.State.{nobody, workerIn, tableKept, withWorkersIn, withWorkerIn, withReadingIn, atPlace}
 use Rattle.gate.specs.declared.Gate.{Gate}
 use Rattle.gate.specs.declared.Gate.the-variants.{Refuse, Make, Start, Go}
 use Rattle.gate.specs.Gate.{operationRep, decodedRep, decodedIn, sizesOk, gateOf, whoOf}
@@ -108,18 +108,18 @@ read-numbered b =
     (λ f. cond-both ReadNumbered (unusedZero b (commandOf b (getD b 0 0))) _ _ (λ g. tt) (λ g. omega arith)))
 
 -- 9 and 5 of a setup, 8, those of a begin, and 3 of a step
-gate-numbered : (r : Record.Decoded) → ReadNumbered r → (up : Bool) (p v long : ℕ) (d : Doing) (t : Announced) (list rows marks reading : List ℕ)
-    → GateNumbered r up p d (gateOf (decodedRep r) up p v long d t list rows marks reading)
+gate-numbered : (r : Record.Decoded) → ReadNumbered r → (up : Bool) (p v long : ℕ) (d : Doing) (t : Announced) (list rows marks reading table : List ℕ)
+    → GateNumbered r up p d (gateOf (decodedRep r) up p v long d t list rows marks reading table)
 unfolding gateOf occurrences
-gate-numbered (Record.Refuses k) n up p v long d t list rows marks reading = (n, refl)
-gate-numbered (Asks (SetUp z)) n up p v long d t list rows marks reading =
+gate-numbered (Record.Refuses k) n up p v long d t list rows marks reading table = (n, refl)
+gate-numbered (Asks (SetUp z)) n up p v long d t list rows marks reading table =
     let N : Gate → Type 0 = GateNumbered (Asks (SetUp z)) up p d in
     cond-both N up _ _ (λ e. (omega arith, refl))
     (λ e. cond-both N (sizesOk (z .P) (z .V') (z .N) (z .clock) long && Record.listFits (z .V') list) _ _ (λ f. tt) (λ f. (omega arith, refl)))
-gate-numbered (Asks (Record.Begin w o)) n up p v long d t list rows marks reading =
+gate-numbered (Asks (Record.Begin w o)) n up p v long d t list rows marks reading table =
     let N : Gate → Type 0 = GateNumbered (Asks (Record.Begin w o)) up p d in
-    cond-both N up _ _ (λ e. begin-gate-by N p v w (operationRep o) d t rows marks reading (λ k f. (f, refl)) (λ f. tt)) (λ e. (omega arith, refl))
-gate-numbered (Asks (Record.Step w)) n up p v long d t list rows marks reading =
+    cond-both N up _ _ (λ e. begin-gate-by N p v w (operationRep o) d t rows marks reading table (λ k f. (f, refl)) (λ f. tt)) (λ e. (omega arith, refl))
+gate-numbered (Asks (Record.Step w)) n up p v long d t list rows marks reading table =
     let N : Gate → Type 0 = GateNumbered (Asks (Record.Step w)) up p d in
     cond-both N up _ _
     (λ e. cond-both N (ltb w p) _ _ (λ f. (refl, e, f)) (λ f. (omega arith, rw (e, f))))
@@ -300,7 +300,7 @@ module _ (up : Bool) (m : Memory) (list : List ℕ) where
         let x : Worker = workerIn (m .hub) (whoOf (decodedIn b)) in
         gate-ends (decode b) (x .doing) (looks-at (decode b)) (gateIn up m list b)
         (gate-numbered (decode b) (read-numbered b) up (m .hub .p) (m .hub .v) (length (m .slots)) (x .doing) (x .announced) list (rowsKept (m .hub))
-        (m .hub .marks) (marksRead (m .hub)))
+        (m .hub .marks) (marksRead (m .hub)) (tableKept (m .hub)))
 
     -- a record that is refused before it is a command
     refused-read : (k : ℕ) → decode b ≡ Record.Refuses k → doneAs up m list b ≡ answered m (No k)

@@ -26,6 +26,8 @@ use Rattle.worker.specs.declared.Stance.{Stance}
 use Rattle.worker.specs.declared.Stance.the-variants.{Nowhere, StandsOn}
 use Rattle.worker.specs.Rep.{announcedRep, goalRep, doingRep}
 use Rattle.worker.specs.About.{aboutOf}
+use Rattle.rights.specs.declared.Needed.{Needed}
+use Rattle.rights.specs.Needs.{neededIn}
 use Rattle.gate.specs.declared.TimeNeed.{TimeNeed}
 use Rattle.gate.specs.declared.TimeNeed.the-variants.{Any, Absent, Own}
 use Rattle.gate.specs.declared.Putting.{Putting}
@@ -84,19 +86,22 @@ markNeedRep (Mark.EmptyMark m) = Need.Empty m
 markNeedRep (Mark.HeldMark m) = Need.Held m
 markNeedRep (Mark.UnreadMark m) = Need.Unread m
 
-abbrev pub termsRep : List ℕ → Terms → Code.Terms
-termsRep rows x =
+-- with the right that the code asks for
+abbrev pub termsRep : List ℕ → Needed → Terms → Code.Terms
+termsRep rows n x =
     record {
       register = namedRep (x .register);
       row = rowRep rows (x .group);
       value = valueRep (x .value);
+      right = n;
       time = needRep (x .time);
       mark = markNeedRep (x .mark);
       first = doingRep (x .first);
     }
 
 -- the index of a row fits sixteen bits
-pub same-terms : (rows : List ℕ) → length rows ≤ 1024 → (o : Record.Operation) → termsOf (operationRep o) rows ≡ termsRep rows (terms rows o)
+pub same-terms : (rows : List ℕ) → length rows ≤ 1024 → (o : Record.Operation)
+    → termsOf (operationRep o) rows ≡ termsRep rows (termsOf (operationRep o) rows .right) (terms rows o)
 same-terms rows h (Record.Put r x) = refl
 same-terms rows h Record.Open = refl
 same-terms rows h (Record.Read r) = refl
@@ -109,6 +114,19 @@ same-terms rows h (Record.Total g) =
 same-terms rows h (Record.Mark m) = refl
 same-terms rows h (Record.Release m) = refl
 same-terms rows h (Record.MarkedRead r m) = refl
+
+-- which is the model's
+pub same-right : (rows : List ℕ) (o : Record.Operation) → neededIn (termsOf (operationRep o) rows .right) rows ≡ terms rows o .right
+same-right rows (Record.Put r x) = refl
+same-right rows Record.Open = refl
+same-right rows (Record.Read r) = refl
+same-right rows Record.Close = refl
+same-right rows (Record.Get r) = refl
+same-right rows Record.Collect = refl
+same-right rows (Record.Total g) = refl
+same-right rows (Record.Mark m) = refl
+same-right rows (Record.Release m) = refl
+same-right rows (Record.MarkedRead r m) = refl
 
 pub same-group : (rows : List ℕ) (x : Option ℕ) → groupOk (rowRep rows x) rows ≡ groupThere rows x
 same-group rows none = refl

@@ -25,11 +25,13 @@ use Rattle.values.specs.declared.Content.{Content}
 use Rattle.values.specs.declared.Content.the-variants.{NoReading}
 use Rattle.slots.specs.declared.Slot.{Slot}
 use Rattle.slots.specs.Slots.{slotRep, slotOf, vacantSlot, madeSlot, madeTo}
-use Rattle.state.specs.State.{emptyHub, freshHub}
+use Rattle.state.specs.declared.Hub.{Hub}
+use Rattle.state.specs.State.{bareHub, freshHub, standing, standingCount}
 use Rattle.arrays.specs.Arrays.{short, fillTo}
 use Rattle.simulation.specs.Memory.{partsOver, readOf, hubRep, handWords, inHandWords, mergedOver}
 use Rattle.simulation.proofs.Contents.{content-back}
 use Rattle.simulation.proofs.Laid.{hub-path}
+use Rattle.simulation.proofs.Rights.{standing-length, standing-over}
 
 ------------------------------------------------------------------------
 -- Numbers in order
@@ -167,16 +169,19 @@ rows-few v list e =
     let a = and-both (eqb (length list % 4) 0) _ e in
     omega (arith, few-rows v 0 0 (rowsOf list) (a .1) (omega arith) (omega arith))
 
-pub hub-made : (b : ℕ) (z : Sizes) (list : List ℕ) (row : List Model.Slot) → z .P ≤ 16 → length (rowsOf list) ≤ 1024
-    → freshHub (z .P) (z .V') (z .N) (z .clock) (length list / 4) (over (take 1024 (rowsOf list)) (replicate 1024 0))
-    ≡ hubRep (fresh b z (rowsOf list) [] row) emptyHub
+-- with the table that stands in the hub by value before it
+pub hub-made : (b : ℕ) (z : Sizes) (list : List ℕ) (row : List Model.Slot) (k : Hub) → z .P ≤ 16 → length (rowsOf list) ≤ 1024
+    → length (k .rights) ≡ 64
+    → freshHub (z .P) (z .V') (z .N) (z .clock) (length list / 4) (over (take 1024 (rowsOf list)) (replicate 1024 0)) (standingCount k) (k .rights)
+    ≡ hubRep (fresh b z (rowsOf list) (standing k) row) (bareHub (k .rights))
 unfolding fresh
-hub-made b z list row h few =
+hub-made b z list row k h few long =
     hub-path refl refl refl refl (sym (up-length (z .V') (z .N - z .V'))) refl (sym (rows-length list))
     (ap (λ (l : List ℕ). over l (replicate 1024 0)) (take-all 1024 (rowsOf list) few)) (parts-made 28 (λ x. timesRead (x .doing)) refl (z .P) (replicate 448 0)) refl
     (sym
     (ap (λ (l : List ℕ). over l (replicate 16 0)) (map-replicate readOf (z .P) startWorker)
     ∙ over-replicate 0 (z .P) 16 h))
+    (sym (standing-length k long)) (sym (standing-over k))
     (sym
     (ap (λ (l : List Worker). over l (replicate 16 (workerRep startWorker))) (map-replicate workerRep (z .P) startWorker)
     ∙ over-replicate (workerRep startWorker) (z .P) 16 h))

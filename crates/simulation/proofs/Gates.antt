@@ -14,7 +14,7 @@ use Rattle.model.specs.Store as Model
 use Rattle.model.specs.Store.{Store, up, absent, markCount, workerAt, place}
 use Rattle.model.specs.Marks as Mark
 use Rattle.model.specs.Marks.{markRefusal}
-use Rattle.model.specs.Rights.{Right, allowed}
+use Rattle.model.specs.Rights.{allowed}
 use Rattle.model.specs.Rules.{inForce}
 use Rattle.model.specs.Answer.{Ok, Stepped, Applied}
 use Rattle.model.specs.Record as Record
@@ -27,17 +27,18 @@ use Rattle.worker.specs.declared.Worker.{Worker}
 use Rattle.worker.specs.Rep.{doingRep, workerRep}
 use Rattle.record.specs.declared.Decoded.{Decoded}
 use Rattle.state.specs.declared.Hub.{Hub}
-use Rattle.state.specs.State.{workerIn}
+use Rattle.state.specs.State.{workerIn, tableKept}
+use Rattle.rights.specs.Needs.{neededIn}
 use Rattle.worker.specs.About.{aboutOf}
 use Rattle.gate.specs.declared.Terms as Code
 use Rattle.gate.specs.declared.Gate.{Gate}
 use Rattle.gate.specs.declared.Gate.the-variants.{Refuse, Make, Start, Go}
-use Rattle.gate.specs.Gate.{operationRep, decodedRep, markOf, namedOk, groupOk, valueOk, openOk, timeOk, beginGate, gateOf, whoOf}
+use Rattle.gate.specs.Gate.{operationRep, decodedRep, termsOf, markOf, namedOk, groupOk, valueOk, openOk, timeOk, beginGate, gateOf, whoOf}
 use Rattle.marks.specs.Marks.{refusalIn}
 use Rattle.simulation.specs.Memory.{readOf, hubRep}
 use Rattle.simulation.specs.Shell.{rowsKept, marksRead}
 use Rattle.simulation.proofs.Laws.{worker-in}
-use Rattle.simulation.proofs.Facts.{same-facts, termsRep, same-terms, same-names, same-group, same-value, same-open, same-use}
+use Rattle.simulation.proofs.Facts.{same-facts, termsRep, same-terms, same-right, same-names, same-group, same-value, same-open, same-use}
 use Rattle.simulation.proofs.Sound.{Sound}
 use Rattle.simulation.proofs.Marks.{numberOf, UnreadIn, refusal-same, Numbered, numbered}
 
@@ -45,7 +46,7 @@ use Rattle.simulation.proofs.Marks.{numberOf, UnreadIn, refusal-same, N
 abbrev pub gateBy : Decoded → Bool → ℕ → List ℕ → Hub → Gate
 gateBy r ready long list h =
     gateOf r ready (h .p) (h .v) long (workerIn h (whoOf r) .doing) (workerIn h (whoOf r) .announced) list (rowsKept h)
-    (h .marks) (marksRead h)
+    (h .marks) (marksRead h) (tableKept h)
 
 -- a begin of operation o by worker w in the store s is accepted
 pub record Begun (s : Store) (w : ℕ) (o : Record.Operation) (a : Applied) : Type 0 where
@@ -80,11 +81,6 @@ both M true false g g′ a a′ e f f′ = absurd (true≢false e)
 both M false true g g′ a a′ e f f′ = absurd (true≢false (sym e))
 both M false false g g′ a a′ e f f′ = f′ refl
 
--- a test that only the model makes, and that is passed: without a table all is allowed
-passes : {A B : Type 0} (M : A → B → Type 0) (t : Bool) (g : A) (a a′ : B) → t ≡ true → M g a → M g (cond t a a′)
-passes M true g a a′ e m = m
-passes M false g a a′ e m = absurd (true≢false (sym e))
-
 module _ (s : Store) (S : Sound s) (k : Hub) (list : List ℕ) where
   abbrev rows : List ℕ
   rows = s .site .rows
@@ -92,6 +88,13 @@ module _ (s : Store) (S : Sound s) (k : Hub) (list : List ℕ) where
   -- the rows that count are the store's
   kept-rows : rowsKept (hubRep s k) ≡ rows
   kept-rows = take-over rows (k .rows) (length rows) refl
+
+  abbrev table : List ℕ
+  table = s .site .table
+
+  -- so are those of rights
+  kept-table : tableKept (hubRep s k) ≡ table
+  kept-table = take-over table (k .rights) (length table) refl
 
   -- what the workers read of marks
   abbrev reading : List ℕ
@@ -116,7 +119,7 @@ module _ (s : Store) (S : Sound s) (k : Hub) (list : List ℕ) where
 
   begins : (w : ℕ) (o : Record.Operation)
       → Means s (beginGate (s .site .P) (s .site .V') w (operationRep o) (workerIn (hubRep s k) w .doing) (workerIn (hubRep s k) w .announced) rows
-      (s .marks) reading)
+      (s .marks) reading table)
       (begin (inForce list) s w o)
   unfolding beginGate begin refusedBy
   begins w o =
@@ -126,9 +129,9 @@ module _ (s : Store) (S : Sound s) (k : Hub) (list : List ℕ) where
       (namedBelow (s .site .V') (a .register) && namedBelow markCount (Mark.markOf (a .mark))) _ _ _ _ (same-names (a .register) (a .mark) (s .site .V'))
       (λ r. both M (groupOk (z .row) rows) (groupThere rows (a .group)) _ _ _ _ (same-group rows (a .group))
       (λ g. both M (valueOk (z .value)) (valueWithin (inForce list .limit) (a .value)) _ _ _ _ (same-value list (a .value))
-      (λ k. passes M (allowed (s .site .table) (s .site .V') w (a .right)) (cond (aboutOf (x w .doing) .idle) _ _) (cond (isIdle (y .doing)) _ _) _
-      (ap (λ (t : List Right). allowed t (s .site .V') w (a .right)) (S .table))
-      (both M (aboutOf (x w .doing) .idle) (isIdle (y .doing))
+      (λ k. both M (allowed table (s .site .V') w (neededIn (z .right) rows)) (allowed table (s .site .V') w (a .right)) _ _ _ _
+      (ap (allowed table (s .site .V') w) (same-right rows o))
+      (λ p. both M (aboutOf (x w .doing) .idle) (isIdle (y .doing))
       _ _ _ _ (ap (λ (k : Worker). aboutOf (k .doing) .idle) (who-is w i) ∙ same-facts (y .doing) .0)
       (λ e. both M (openOk (z .time) (x w .announced)) (mayOpen (a .time) (ltb (y .announced) absent)) _ _ _ _
       (ap (λ (k : Worker). openOk (z .time) (k .announced)) (who-is w i) ∙ same-open (a .time) (y .announced))
@@ -139,7 +142,8 @@ module _ (s : Store) (S : Sound s) (k : Hub) (list : List ℕ) where
       (numbered s (a .mark)) (ltb-true w (s .site .P) i) (idle-is (y .doing) e))
       (λ n. refl))
       (λ n. refl))
-      (λ n. refl)))
+      (λ n. refl))
+      (λ n. refl))
       (λ n. refl))
       (λ n. refl))
       (λ n. refl))
@@ -155,7 +159,7 @@ module _ (s : Store) (S : Sound s) (k : Hub) (list : List ℕ) where
       a = terms rows o
 
       z : Code.Terms
-      z = termsRep rows a
+      z = termsRep rows (termsOf (operationRep o) rows .right) a
 
       -- the refusal for a mark, if any
       by-mark : (q : Option ℕ) → markRefusal s (a .mark) ≡ q → refusalIn (z .mark) (s .marks) reading ≡ numberOf (markRefusal s (a .mark))
@@ -175,6 +179,7 @@ module _ (s : Store) (S : Sound s) (k : Hub) (list : List ℕ) where
           (cond (namedOk (q .register) (s .site .V') && namedOk (markOf (q .mark)) markCount)
           (cond (groupOk (q .row) rows)
           (cond (valueOk (q .value))
+          (cond (allowed table (s .site .V') w (neededIn (q .right) rows))
           (cond (aboutOf (x w .doing) .idle)
           (cond (openOk (q .time) (x w .announced))
           (cond (timeOk (q .time) (x w .announced))
@@ -182,6 +187,7 @@ module _ (s : Store) (S : Sound s) (k : Hub) (list : List ℕ) where
           (Refuse 13))
           (Refuse 12))
           (Refuse 10))
+          (Refuse 23))
           (Refuse 16))
           (Refuse 17))
           (Refuse 4))
@@ -195,9 +201,11 @@ module _ (s : Store) (S : Sound s) (k : Hub) (list : List ℕ) where
   gate-left (Record.Asks (Record.SetUp z)) long = refl
   gate-left (Record.Asks (Record.Begin w o)) long =
       subst (λ (l : List ℕ). Means s (beginGate (s .site .P) (s .site .V') w (operationRep o) (x w .doing) (x w .announced) l (s .marks)
-      (marksRead (hubRep s k))) (begin (inForce list) s w o)) (sym kept-rows)
-      (subst (λ (l : List ℕ). Means s (beginGate (s .site .P) (s .site .V') w (operationRep o) (x w .doing) (x w .announced) rows (s .marks) l)
-      (begin (inForce list) s w o)) (sym kept-reading) (begins w o))
+      (marksRead (hubRep s k)) (tableKept (hubRep s k))) (begin (inForce list) s w o)) (sym kept-rows)
+      (subst (λ (l : List ℕ). Means s (beginGate (s .site .P) (s .site .V') w (operationRep o) (x w .doing) (x w .announced) rows (s .marks) l
+      (tableKept (hubRep s k))) (begin (inForce list) s w o)) (sym kept-reading)
+      (subst (λ (l : List ℕ). Means s (beginGate (s .site .P) (s .site .V') w (operationRep o) (x w .doing) (x w .announced) rows (s .marks) reading l)
+      (begin (inForce list) s w o)) (sym kept-table) (begins w o)))
   gate-left (Record.Asks (Record.Step w)) long =
       both (Means s) (ltb w (s .site .P)) (ltb w (s .site .P)) _ _ _ _ refl
       (λ i. record { inside = ltb-true w (s .site .P) i; is = refl })

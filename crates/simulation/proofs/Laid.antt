@@ -52,8 +52,8 @@ memory-path h s n f q l g =
 
 pub hub-path : {h h′ : Hub} → h .p ≡ h′ .p → h .v ≡ h′ .v → h .n ≡ h′ .n → h .clock ≡ h′ .clock → h .free ≡ h′ .free
     → h .window ≡ h′ .window → h .listed ≡ h′ .listed → h .rows ≡ h′ .rows → h .times ≡ h′ .times → h .marks ≡ h′ .marks → h .reading ≡ h′ .reading
-    → h .workers ≡ h′ .workers → h ≡ h′
-hub-path p v n c f q k r t g b w =
+    → h .granted ≡ h′ .granted → h .rights ≡ h′ .rights → h .workers ≡ h′ .workers → h ≡ h′
+hub-path p v n c f q k r t g b e x w =
     λ i. record {
       p = p i;
       v = v i;
@@ -66,6 +66,8 @@ hub-path p v n c f q k r t g b w =
       times = t i;
       marks = g i;
       reading = b i;
+      granted = e i;
+      rights = x i;
       workers = w i;
     }
 

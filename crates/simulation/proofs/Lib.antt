@@ -35,6 +35,7 @@ pub mod Begin
 pub mod Fresh
 pub mod Below
 pub mod Setup
+pub mod Rights
 pub mod Scans
 pub mod Ranges
 pub mod Ready
@@ -48,4 +49,5 @@ pub mod Applied
 pub mod Main
 pub mod Cut
 pub mod Parts
+pub mod Tables
 pub mod Demands

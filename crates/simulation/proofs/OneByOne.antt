@@ -20,7 +20,9 @@ use Rattle.values.specs.declared.Answer.{Answer}
 use Rattle.worker.specs.declared.Announced.{Announced}
 use Rattle.worker.specs.declared.Doing.{Doing}
 use Rattle.worker.specs.declared.Worker.{Worker}
-use Rattle.state.specs.State.{workerIn}
+use Rattle.model.specs.Rights.{tableStands}
+use Rattle.state.specs.State.{workerIn, tableKept}
+use Rattle.simulation.proofs.Rights.{standing-stands}
 use Rattle.gate.specs.declared.Gate.{Gate}
 use Rattle.gate.specs.declared.Gate.the-variants.{Refuse, Make}
 use Rattle.gate.specs.Gate.{decodedRep, decodedIn, sizesOk, gateOf, whoOf}
@@ -51,14 +53,14 @@ answerTo m list bytes k = stateAt m list bytes (suc k) .last
 
 -- where the memory does not count as set up, nothing begins and no step is taken
 blank-gate : (P : Gate → Type 0) → ((k : ℕ) → P (Refuse k)) → ((p v n k : ℕ) → P (Make p v n k))
-    → (r : Record.Decoded) (p v long : ℕ) (d : Doing) (t : Announced) (list rows marks reading : List ℕ)
-    → P (gateOf (decodedRep r) false p v long d t list rows marks reading)
+    → (r : Record.Decoded) (p v long : ℕ) (d : Doing) (t : Announced) (list rows marks reading table : List ℕ)
+    → P (gateOf (decodedRep r) false p v long d t list rows marks reading table)
 unfolding gateOf
-blank-gate P f g (Record.Refuses k) p v long d t list rows marks reading = f k
-blank-gate P f g (Asks (SetUp z)) p v long d t list rows marks reading =
+blank-gate P f g (Record.Refuses k) p v long d t list rows marks reading table = f k
+blank-gate P f g (Asks (SetUp z)) p v long d t list rows marks reading table =
     cond-both P (sizesOk (z .P) (z .V') (z .N) (z .clock) long && Record.listFits (z .V') list) _ _ (λ e. g (z .P) (z .V') (z .N) (z .clock)) (λ e. f 5)
-blank-gate P f g (Asks (Record.Begin w o)) p v long d t list rows marks reading = f 8
-blank-gate P f g (Asks (Record.Step w)) p v long d t list rows marks reading = f 8
+blank-gate P f g (Asks (Record.Begin w o)) p v long d t list rows marks reading table = f 8
+blank-gate P f g (Asks (Record.Step w)) p v long d t list rows marks reading table = f 8
 
 -- a hub that records left counts as set up where memory holds it
 held-ready : (h : Model.Hub) (m : Memory) → Holds h m → Sized m → LeftHub h → ready m ≡ true
@@ -77,11 +79,15 @@ module _ (steps : StepsSimulate) (m : Memory) (list b : List ℕ) (Z : Sized m) 
   now-ready h H L = held-ready (apply (inForce list) h b .hub) (doneOf m list b .memory) (one-holds (did h H))
       (holds-written m (doneOf m list b .memory) Z list h b H (one-memory (did h H)) .1) L
 
-  module _ (row : List Model.Slot) (H : Holds (blank row) m) where
+  module _ (row : Model.Lent) (H : Holds (blank row) m) where
     -- a refusal changes nothing
     flag-refused : (k : ℕ) → gateIn (ready m) m list b ≡ Refuse k → Flagged
     unfolding doneOf doneAs obeyIn
     flag-refused k g = ap (λ (x : Gate). ready (obeyIn m list x .memory)) g ∙ H .0 ∙ sym (λ i. H .0 i || makes (g i))
+
+    -- the table that stands is one that may be given
+    fits : tableStands (row .table) ≡ true
+    fits = ap (λ (x : Model.Lent). tableStands (x .table)) (H .1) ∙ standing-stands (m .hub)
 
     -- an accepted setup
     flag-made : (p v n k : ℕ) → gateIn (ready m) m list b ≡ Make p v n k → Flagged
@@ -89,7 +95,7 @@ module _ (steps : StepsSimulate) (m : Memory) (list b : List ℕ) (Z : Sized m) 
     flag-made p v n k g =
         let ok : apply (inForce list) (blank row) b .answer ≡ Ok =
         sym (one-answer (did (blank row) H)) ∙ ap (λ (x : Gate). answerOf (obeyIn m list x .answer)) g in
-        now-ready (blank row) H (setup-left list row b ok) ∙ sym (λ i. H .0 i || makes (g i))
+        now-ready (blank row) H (setup-left list row b fits ok) ∙ sym (λ i. H .0 i || makes (g i))
 
   flagged : (h : Model.Hub) → Holds h m → Flagged
   flagged (up s) L =
@@ -98,7 +104,7 @@ module _ (steps : StepsSimulate) (m : Memory) (list b : List ℕ) (Z : Sized m) 
       let x : Worker = workerIn (m .hub) (whoOf (decodedIn b)) in
       blank-gate (λ (g : Gate). gateIn (ready m) m list b ≡ g → Flagged) (flag-refused row H) (flag-made row H)
       (Record.decode b) (m .hub .p) (m .hub .v) (length (m .slots)) (x .doing) (x .announced) list (rowsKept (m .hub))
-      (m .hub .marks) (marksRead (m .hub))
+      (m .hub .marks) (marksRead (m .hub)) (tableKept (m .hub))
       (ap (λ (t : Bool). gateIn t m list b) (H .0))
 
 ------------------------------------------------------------------------

@@ -136,7 +136,7 @@ numbers-small = search arith
 decoded-ranged : (list : List ℕ) (h : Model.Hub) → SoundIn h → (d : Decoded) → RangedRead d → RangedBy (applyDecoded (inForce list) h d)
 unfolding applyDecoded obey setUp step
 decoded-ranged list h S (Refuses k) r = r
-decoded-ranged list (blank row) S (Asks (SetUp z)) r = cond-both RangedBy (inRanges z && leb (z .N) (length row) && listFits (z .V') list) _ _ (λ e. tt) (λ e. lit< tt)
+decoded-ranged list (blank row) S (Asks (SetUp z)) r = cond-both RangedBy (inRanges z && leb (z .N) (length (row .row)) && listFits (z .V') list) _ _ (λ e. tt) (λ e. lit< tt)
 decoded-ranged list (blank row) S (Asks (Begin w o)) r = lit< tt
 decoded-ranged list (blank row) S (Asks (Step w)) r = lit< tt
 decoded-ranged list (up s) S (Asks (SetUp z)) r = lit< tt

@@ -10,13 +10,14 @@ use lib.ListN.{length, getD}
 use borrow.Author.Tests.{lt-ltb, le-leb, lt-leb, eq-eqb, ltb-true, leb-true, eqb-true}
 use Rattle.model.specs.Store.{markCount}
 use Rattle.model.specs.Rules.{twelveDigits}
+use Rattle.model.specs.Rights.{rightFits}
 use Rattle.worker.specs.declared.Purpose.{Purpose}
 use Rattle.worker.specs.declared.Purpose.the-variants.{Single, Marked, Totaling}
 use Rattle.worker.specs.declared.Facts.{Facts}
 use Rattle.worker.specs.declared.Worker.{Worker}
 use Rattle.worker.specs.About.{aboutOf}
 use Rattle.slots.specs.Slots.{linkedTo}
-use Rattle.state.specs.State.{workerIn}
+use Rattle.state.specs.State.{workerIn, tableSound}
 use Rattle.ready.specs.Ready.{
   rowsBelow,
   sumFits,
@@ -35,12 +36,14 @@ use Rattle.ready.specs.Ready.{
   lensSum,
   besides,
   sizesFit,
+  scansFit,
   readyOf,
 }
 use Rattle.ready.proofs.Sizes.{WindowIn, and-both, sizes-tell, sizes-yes}
 use Rattle.simulation.specs.Memory.{Memory}
 use Rattle.simulation.specs.Left.{ready}
 use Rattle.simulation.specs.Ranges.{batchIn, TimesRead, PurposeInRange, PlaceInRange, WorkerInRange, InRanges, ReadyExactly}
+use Rattle.simulation.proofs.Rights.{right-tells, right-yes, each-tells, each-yes, sound-tells}
 use Rattle.simulation.proofs.Scans as Scans
 
 -- a test that is made where another passes
@@ -160,7 +163,7 @@ module _ (m : Memory) where
   -- All of the memory
 
   tells : ready m ≡ true → InRanges m
-  unfolding ready readyOf
+  unfolding ready readyOf scansFit
   tells e =
       let h = m .hub in
       let w = h .window in
@@ -172,14 +175,18 @@ module _ (m : Memory) where
       let F : Bool = workersFit h (m .merged) local list (h .p) in
       let G : Bool = linkedTo (m .slots) (h .n) (h .n) in
       let H : Bool = rowsBelow (h .rows) (h .v) (h .listed) in
-      let all = where-both (sizesFit h (length (m .slots))) (A && B && (C && D) && (E && F) && (H && G)) e in
+      let scans : Bool =
+      scansFit h (m .newest) (m .free) (m .queue) (m .lens) (m .merged) G (length (m .slots)) in
+      let whole = and-both scans (tableSound h) e in
+      let all = where-both (sizesFit h (length (m .slots))) (A && B && (C && D) && (E && F) && (H && G)) (whole .0) in
       let z = sizes-tell h (length (m .slots)) (all .0) in
       let parts = and-both (A && B && (C && D) && (E && F)) (H && G) (all .1) in
+      let table = sound-tells h (whole .1) in
       let hg = and-both H G (parts .1) in
       let front = and-both (A && B && (C && D)) (E && F) (parts .0) in
-      let scans = and-both (A && B) (C && D) (front .0) in
-      let ab = and-both A B (scans .0) in
-      let cd = and-both C D (scans .1) in
+      let four = and-both (A && B) (C && D) (front .0) in
+      let ab = and-both A B (four .0) in
+      let cd = and-both C D (four .1) in
       let ef = and-both E F (front .1) in
       record {
         p = z .p;
@@ -196,6 +203,8 @@ module _ (m : Memory) where
         queueSlots = Scans.slots-tell (m .queue) (w .from) (h .n) (w .queued) (cd .0);
         listed = z .listed;
         rows = Scans.rows-tell (h .rows) (h .v) (h .listed) (hg .0);
+        granted = table .0;
+        rights = λ i b. right-tells (getD (h .rights) i 0) (each-tells rightFits refl (h .rights) (h .granted) (table .1) i b);
         neighbours = Scans.linked-tells (m .slots) (h .n) (h .n) (hg .1);
         workers =
             λ w b.
@@ -204,7 +213,7 @@ module _ (m : Memory) where
       }
 
   yes : InRanges m → ready m ≡ true
-  unfolding ready readyOf
+  unfolding ready readyOf scansFit
   yes R =
       let h = m .hub in
       let w = h .window in
@@ -221,6 +230,8 @@ module _ (m : Memory) where
         Scans.workers-yes h (m .merged) local list (h .p) (λ w b. worker-yes w (omega (arith, b, R .p .1)) (workerIn h w) (R .workers w b)),
         Scans.rows-yes (h .rows) (h .v) (h .listed) (R .rows),
         Scans.linked-yes (m .slots) (h .n) (h .n) (R .neighbours),
+        le-leb (h .granted) 64 (R .granted),
+        each-yes rightFits (h .rights) (h .granted) (λ i b. right-yes (getD (h .rights) i 0) (R .rights i b)),
       )
 
 pub ready-exact : ReadyExactly

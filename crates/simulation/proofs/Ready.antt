@@ -42,6 +42,7 @@ use Rattle.simulation.specs.Shell.{queueIn}
 use Rattle.simulation.proofs.FlushQueue.{queue-sized, queue-held}
 use Rattle.simulation.specs.Ranges.{lengthIn, InRanges}
 use Rattle.simulation.proofs.Each.{All-reverse, All-joined}
+use Rattle.simulation.proofs.Rights.{few-rights, rights-in}
 use Rattle.simulation.proofs.Scans as Scans
 use Rattle.simulation.proofs.Scans.{ranges-below, NearIn, lens-sum}
 use Rattle.simulation.proofs.Ranges.{local, list, worker-tells, ready-exact}
@@ -330,6 +331,8 @@ module _ {s : Store} (m : Memory) (S : Sound s) (Z : Sized m) (B : Begins (m .hu
             queueSlots = queue-below;
             listed = S .bounds .rows .1;
             rows = rows-below;
+            granted = few-rights (s .site .table) (S .table);
+            rights = rights-in (s .site .table) (S .table) (m .hub .rights);
             neighbours = near-in;
             workers = λ w b. worker-tells same w (omega (arith, b, S .bounds .workers .1)) (workerIn (hubRep s emptyHub) w) (worker-yes w b);
           }

@@ -22,7 +22,7 @@ use Rattle.model.proofs.Setup.{InRanges, in-ranges}
 use Rattle.slots.specs.Slots.{slotOf}
 use Rattle.gate.specs.declared.Gate.the-variants.{Refuse, Make}
 use Rattle.gate.specs.Gate.{decodedRep, sizesOk, gateOf, whoOf}
-use Rattle.simulation.specs.Memory.{Memory}
+use Rattle.simulation.specs.Memory.{Memory, lentIn}
 use Rattle.simulation.specs.Left.{Sized}
 use Rattle.simulation.specs.Shell.{setUpIn, obeyIn}
 use Rattle.simulation.proofs.Bytes.{Bytes}
@@ -84,17 +84,21 @@ same-sizes z long h =
 -- A record that was read as r
 
 module _ (m : Memory) (Z : Sized m) (list : List ℕ) where
+  abbrev lent : Model.Lent
+  lent = lentIn m
+
   abbrev row : List Model.Slot
-  row = map slotOf (m .slots)
+  row = lent .row
 
   -- an accepted setup
   made : (z : Sizes) → InRanges z → z .N ≤ length (m .slots) → listFits (z .V') list ≡ true
-      → Follows list (blank row) m (Make (z .P) (z .V') (z .N) (z .clock)) (record { hub = up (fresh (batchOf (z .P)) z (rowsOf list) [] row); answer = Answers.Ok })
+      → Follows list (blank lent) m (Make (z .P) (z .V') (z .N) (z .clock))
+      (record { hub = up (fresh (batchOf (z .P)) z (rowsOf list) (lent .table) row); answer = Answers.Ok })
   unfolding obeyIn setUpIn fresh
   made z I long lf =
       record {
         memory =
-            memory-path (hub-made (batchOf (z .P)) z list row (I .P≤16) (rows-few (z .V') list lf)) (slots-made (m .slots) (z .V') (z .N) long)
+            memory-path (hub-made (batchOf (z .P)) z list row (m .hub) (I .P≤16) (rows-few (z .V') list lf) (Z .rights)) (slots-made (m .slots) (z .V') (z .N) long)
             (newest-made (m .newest) (z .V') (omega (arith, I .V≤256, Z .newest)) (omega (arith, I .V≤256)))
             (free-made (m .free) (z .N) (z .N - z .V') (z .V') (omega (arith, I .V≤N)) (omega (arith, I .N≤2048, Z .free)) (omega (arith, I .N≤2048)))
             (overAt-none (m .queue) 0 []) (overAt-none (m .lens) 0 []) (merged-made (z .P) (m .merged));
@@ -102,25 +106,25 @@ module _ (m : Memory) (Z : Sized m) (list : List ℕ) where
       }
 
   set-up : (z : Sizes) → z .clock ≤ lastClock
-      → Follows list (blank row) m (cond (sizesOk (z .P) (z .V') (z .N) (z .clock) (length (m .slots)) && listFits (z .V') list) (Make (z .P) (z .V') (z .N) (z .clock)) (Refuse 5))
-      (setUp (inForce list) (blank row) z)
+      → Follows list (blank lent) m (cond (sizesOk (z .P) (z .V') (z .N) (z .clock) (length (m .slots)) && listFits (z .V') list) (Make (z .P) (z .V') (z .N) (z .clock)) (Refuse 5))
+      (setUp (inForce list) (blank lent) z)
   unfolding setUp
   set-up z h =
       let long : length (m .slots) ≡ length row = sym (length-map (m .slots) slotOf) in
-      both (Follows list (blank row) m) (sizesOk (z .P) (z .V') (z .N) (z .clock) (length (m .slots)) && listFits (z .V') list)
+      both (Follows list (blank lent) m) (sizesOk (z .P) (z .V') (z .N) (z .clock) (length (m .slots)) && listFits (z .V') list)
       (inRanges z && leb (z .N) (length row) && listFits (z .V') list) _ _ _ _
       (ap (λ (t : Bool). t && listFits (z .V') list) (same-sizes z (length (m .slots)) h ∙ ap (λ (n : ℕ). inRanges z && leb (z .N) n) long))
       (λ e.
       let t = and-both (inRanges z && leb (z .N) (length row)) _ e in
       let a = and-both (inRanges z) (leb (z .N) (length row)) (t .0) in
       made z (in-ranges z (a .0)) (omega (arith, leb-true (z .N) (length row) (a .1))) (t .1))
-      (λ e. refused (blank row) m 5 refl)
+      (λ e. refused (blank lent) m 5 refl)
 
   -- the code does what the model's hub does that is not set up and whose row is lent
   pub follows-blank : (r : Record.Decoded) → ClockFits r
-      → Follows list (blank row) m (gateBy (decodedRep r) false (length (m .slots)) list (m .hub)) (applyDecoded (inForce list) (blank (map slotOf (m .slots))) r)
+      → Follows list (blank lent) m (gateBy (decodedRep r) false (length (m .slots)) list (m .hub)) (applyDecoded (inForce list) (blank lent) r)
   unfolding whoOf gateOf applyDecoded obey
-  follows-blank (Record.Refuses k) f = refused (blank row) m k refl
+  follows-blank (Record.Refuses k) f = refused (blank lent) m k refl
   follows-blank (Record.Asks (Record.SetUp z)) f = set-up z f
-  follows-blank (Record.Asks (Record.Begin w o)) f = refused (blank row) m 8 refl
-  follows-blank (Record.Asks (Record.Step w)) f = refused (blank row) m 8 refl
+  follows-blank (Record.Asks (Record.Begin w o)) f = refused (blank lent) m 8 refl
+  follows-blank (Record.Asks (Record.Step w)) f = refused (blank lent) m 8 refl

@@ -2,6 +2,7 @@
 -- invariant, which holds after each record: a range's slot is pending and so counted below N, a pending version stands in its register's
 -- list, where each slot is once.
 use mathlib.Core.Path.{_≡_, refl, sym, ap, _∙_, subst}
+use mathlib.Core.Bool.{true}
 use mathlib.Core.Logic.{_≢_, _⊎_, inl, inr, ⊎-elim}
 use mathlib.Core.List.{List, [], _∷_, _++_}
 use Prim.Native.Nat.{ℕ, _*_, _≤_, _<_, _+_}
@@ -10,6 +11,7 @@ use lib.ListN.{length}
 use Rattle.model.specs.Store as Model
 use Rattle.model.specs.Store.{markCount, Store, Range, up, absent, lastClock, startWorker, workerAt, slotAt, newestOf}
 use Rattle.model.specs.Batch.{batchOf}
+use Rattle.model.specs.Rights.{tableStands}
 use Rattle.model.specs.Rules.{Rules, Ruled}
 use Rattle.model.specs.Record.{rowsOf}
 use Rattle.model.specs.Apply.{fresh, apply, applyRuled, hubAfter}
@@ -73,8 +75,8 @@ pub record Sound (s : Store) : Type 0 where
   -- the sizes, the lengths and how long the lists are, for the batch size of H1.24
   pub bounds : Bounds s
   pub batch : s .site .B ≡ batchOf (s .site .P)
-  -- there is no table of rights
-  pub table : s .site .table ≡ []
+  -- the table of rights is one that may be given
+  pub table : tableStands (s .site .table) ≡ true
   pub newest : (r : ℕ) → r < s .site .V' → newestOf s r < s .site .N
   -- an unstamped newest version has an older one, in another slot
   pub unstamped : (r : ℕ) → r < s .site .V' → slotAt s (newestOf s r) .low ≡ absent
@@ -94,18 +96,19 @@ pub record Sound (s : Store) : Type 0 where
 ------------------------------------------------------------------------
 -- The model's invariant holds of it
 
-reached-from : (first : Rules) (bs : List Ruled) (s t : Store) → Reached first s → hubAfter (up s) bs ≡ up t → Reached first t
+reached-from : (first : Rules) (table : List ℕ) (bs : List Ruled) (s t : Store) → Reached first table s → hubAfter (up s) bs ≡ up t → Reached first table t
 unfolding hubAfter
-reached-from first [] s t R e = subst (Reached first) (up-inj s t e) R
-reached-from first (b ∷ bs) s t R e =
+reached-from first table [] s t R e = subst (Reached first table) (up-inj s t e) R
+reached-from first table (b ∷ bs) s t R e =
     let N = reached-apply (b .rules) s R (b .bytes) in
-    reached-from first bs (N .0) t (N .2) (subst (λ (h : Model.Hub). hubAfter h bs ≡ up t) (N .1) e)
+    reached-from first table bs (N .0) t (N .2) (subst (λ (h : Model.Hub). hubAfter h bs ≡ up t) (N .1) e)
 
-pub reached : {s : Store} (L : LeftByRecords s) → Reached (L .setup .rules) s
+pub reached : {s : Store} (L : LeftByRecords s) → Reached (L .setup .rules) (L .row .table) s
 reached {s} L =
     let rules : Rules = L .setup .rules in
     let A = accepts rules (L .row) (L .setup .bytes) (L .accepted) in
-    reached-from rules (L .records) (fresh (rules .batch (A .sizes .P)) (A .sizes) (rowsOf (rules .list)) (rules .table) (A .row)) s (reached-start rules (allowed rules (L .batch)) A)
+    reached-from rules (L .row .table) (L .records)
+    (fresh (rules .batch (A .sizes .P)) (A .sizes) (rowsOf (rules .list)) (L .row .table) (L .row .row)) s (reached-start rules (allowed rules (L .batch)) A)
     (subst (λ (h : Model.Hub). hubAfter h (L .records) ≡ up s) (A .is) (L .left))
 
 ------------------------------------------------------------------------
@@ -229,12 +232,12 @@ module _ {now : ℕ} {s : Store} {olds : List (List ℕ)} {h : List Call} {o : L
 ------------------------------------------------------------------------
 -- The statements
 
-reached-sound : (first : Rules) → first .batch ≡ batchOf → first .table ≡ [] → (s : Store) → Reached first s → Sound s
-reached-sound first same none s R =
+reached-sound : (first : Rules) (table : List ℕ) → first .batch ≡ batchOf → tableStands table ≡ true → (s : Store) → Reached first table s → Sound s
+reached-sound first table same fits s R =
     record {
       bounds = B;
       batch = R .fits .batch ∙ ap (λ (f : ℕ → ℕ). f (s .site .P)) same;
-      table = R .fits .table ∙ none;
+      table = ap tableStands (R .fits .own) ∙ fits;
       newest = newest-in I;
       unstamped = unstamped-apart I;
       free = free-slot I;
@@ -264,7 +267,7 @@ reached-sound first same none s R =
 
 -- every store that records left is sound
 pub sound : {s : Store} → LeftByRecords s → Sound s
-sound {s} L = reached-sound (L .setup .rules) (L .batch) (L .table) s (reached L)
+sound {s} L = reached-sound (L .setup .rules) (L .row .table) (L .batch) (L .table) s (reached L)
 
 after-more : (h : Model.Hub) (bs : List Ruled) (b : Ruled) → hubAfter h (bs ++ (b ∷ [])) ≡ applyRuled (hubAfter h bs) b .hub
 unfolding hubAfter

@@ -9,19 +9,21 @@ use Prim.Native.Nat.{ℕ, _%_, _≤_}
 use lib.ListN.{length}
 use Rattle.model.specs.Store.{Store, Hub, blank, up, upFrom}
 use Rattle.model.specs.Rules.{document01, inForce, Ruled, allUnder}
-use Rattle.model.specs.Answer.{Ok}
+use Rattle.model.specs.Answer.{Ok, No}
 use Rattle.model.specs.Record.{Sizes, SetUp, Asks, decode, recordsOf}
-use Rattle.model.specs.Apply.{apply, applyRuled, answersTo}
+use Rattle.model.specs.Apply.{giveTable, emptied, apply, applyRuled, answersTo}
 use Rattle.model.specs.Demand.{events, Exchange, exchange, history, Demand3, rowsIn}
 use Rattle.model.specs.MonthEnd.{SameFigures}
 use Rattle.values.specs.declared.Answer.{Answer}
+use Rattle.values.specs.Meaning.{answerOf}
 use Rattle.slots.specs.Slots.{slotOf}
 use Rattle.queue.specs.State.{Begins}
-use Rattle.simulation.specs.Memory.{Memory, write, cut}
+use Rattle.simulation.specs.Memory.{Memory, lentIn, write, cut}
 use Rattle.simulation.specs.Left.{LeftUnder, Left, Sized, ready}
 use Rattle.simulation.specs.Holds.{Holds, Decided, sent, AsModel}
 use Rattle.simulation.specs.Public.{exchangeOf, Does}
 use Rattle.simulation.specs.Records.{recordsIn}
+use Rattle.simulation.specs.Tables.{Gives, emptiedIn}
 use Rattle.simulation.specs.Buffer.{exchangeAt, Applies}
 
 ------------------------------------------------------------------------
@@ -108,7 +110,7 @@ pub record OnEarlier (list : List ℕ) (s : Store) (m : Memory) (E : LeftUnder (
   -- the calls do what the model does under the rules in force (demand 2),
   pub demand2 : AsModel (up s) m (exchanges cs) (leftByAll m cs)
   -- and with the records before them, under the earlier rules, they have demand 3
-  pub demand3 : CodeDemand3 (apply (document01 list) (blank (E .row)) (E .setup) .hub) (allUnder (document01 list) (E .records)) (exchanges cs)
+  pub demand3 : CodeDemand3 (apply (document01 list) (emptied (E .row)) (E .setup) .hub) (allUnder (document01 list) (E .records)) (exchanges cs)
 
 pub record Demands : Type 0 where
   -- Demand 2 of calls in any mix.
@@ -128,7 +130,7 @@ pub record Demands : Type 0 where
   -- Demand 3, from any memory on: of a setup that was accepted at any record of any call, and of all records after it.
   pub demand3 : (m : Memory) (cs ds : List CallIn) (c : CallIn) → Calls m (cs ++ (c ∷ ds))
       → (es fs : List Exchange) (list b : List ℕ) → Accepts (exchanged c) es list b fs
-      → CodeDemand3 (apply (inForce list) (blank (map slotOf (leftByAll m cs .slots))) b .hub) [] (fs ++ exchanges ds)
+      → CodeDemand3 (apply (inForce list) (blank (lentIn (leftByAll m cs))) b .hub) [] (fs ++ exchanges ds)
   -- Demand 3 of the records that left the memory, under whatever rules, and of the calls after them.
   pub demand3Left : (s : Store) (m : Memory) (cs : List CallIn) (L : Left s m) → Calls m cs
       → CodeDemand3 (applyRuled (blank (L .store .row)) (L .store .setup) .hub) (L .store .records) (exchanges cs)
@@ -136,6 +138,14 @@ pub record Demands : Type 0 where
   -- between which the mark was not released, have the same answer.
   pub monthEnd : (h : Hub) (old : List Ruled) (es : List Exchange) → CodeDemand3 h old es
       → SameFigures (history 0 (map exchange (events h old) ++ es) [])
+  -- H15.8: a table of any bytes, given to memory that holds a hub: the model's answer, and the memory then holds the model's hub.
+  pub table : (h : Hub) (m m′ : Memory) (bytes : List ℕ) (y : Answer) → Holds h m → Sized m → Gives m bytes y m′
+      → (answerOf y ≡ giveTable h bytes .answer) × Holds (giveTable h bytes .hub) m′
+  -- On memory that records left it gets 9 and changes nothing, so tables may come between any of the calls above.
+  pub late : (s : Store) (m m′ : Memory) (bytes : List ℕ) (y : Answer) → Left s m → Sized m → Gives m bytes y m′
+      → (answerOf y ≡ No 9) × (m′ ≡ m)
+  -- H15.10: emptied memory holds a hub that is not set up, without a table.
+  pub empty : (m : Memory) → Holds (emptied (map slotOf (m .slots))) (emptiedIn m)
   -- Memory that records left before the first change request (H7.10).
   pub earlier : (list : List ℕ) (s : Store) (m : Memory) (E : LeftUnder (document01 list) s) (cs : List CallIn) → Begins (m .hub .window) → m ≡ write s m → Calls m cs
       → OnEarlier list s m E cs

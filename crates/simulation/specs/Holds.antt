@@ -6,13 +6,13 @@ use Rattle.model.specs.Store.{Hub, blank, up}
 use Rattle.model.specs.Rules.{inForce, Ruled, under}
 use Rattle.model.specs.Apply.{applyRuled, hubAfter}
 use Rattle.model.specs.Demand.{events, Exchange, exchange}
-use Rattle.slots.specs.Slots.{slotOf}
-use Rattle.simulation.specs.Memory.{Memory, writeHub}
+use Rattle.simulation.specs.Memory.{Memory, lentIn, writeHub}
 use Rattle.simulation.specs.Left.{Left, ready}
 
--- The memory m holds the hub h: records left its store there; or the memory does not count as set up, and its row is the one that is lent.
+-- The memory m holds the hub h: records left its store there; or the memory does not count as set up, and its row and the table that stands in it are
+-- those that are lent.
 abbrev pub Holds : Hub → Memory → Type 0
-Holds (blank row) m = (ready m ≡ false) × (row ≡ map slotOf (m .slots))
+Holds (blank x) m = (ready m ≡ false) × (x ≡ lentIn m)
 Holds (up s) m = Left s m
 
 -- Memory on which the rules decide everything. On memory that counts as set up and that no records left they leave open what a record does

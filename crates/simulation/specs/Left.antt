@@ -1,15 +1,16 @@
 -- Memory that records left, and memory that counts as set up.
 use mathlib.Core.Path.{_≡_}
-use mathlib.Core.Bool.{Bool}
-use mathlib.Core.List.{List, []}
+use mathlib.Core.Bool.{Bool, true}
+use mathlib.Core.List.{List}
 use Prim.Native.Nat.{ℕ}
 use lib.ListN.{length}
 use Rattle.model.specs.Store as Model
 use Rattle.model.specs.Store.{Store, blank, up}
 use Rattle.model.specs.Answer.{Ok}
 use Rattle.model.specs.Batch.{batchOf}
+use Rattle.model.specs.Rights.{tableStands}
 use Rattle.model.specs.Rules.{Rules, Ruled, allUnder}
-use Rattle.model.specs.Apply.{apply, applyRuled, hubAfter}
+use Rattle.model.specs.Apply.{emptied, apply, applyRuled, hubAfter}
 use Rattle.slots.specs.Slots.{linkedTo}
 use Rattle.queue.specs.State.{Begins}
 use Rattle.ready.specs.Ready.{readyOf}
@@ -17,23 +18,23 @@ use Rattle.simulation.specs.Memory.{Memory, write}
 
 -- A store that an accepted setup and a list of records after it leave, each under its own rules.
 pub record LeftByRecords (s : Store) : Type 0 where
-  pub row : List Model.Slot
+  pub row : Model.Lent
   pub setup : Ruled
   -- the setup took the batch size of H1.24, which the code computes from P
   pub batch : setup .rules .batch ≡ batchOf
-  -- and no table of rights, of which the code knows nothing yet
-  pub table : setup .rules .table ≡ []
+  -- and the table that stood was one that may be given
+  pub table : tableStands (row .table) ≡ true
   pub accepted : applyRuled (blank row) setup .answer ≡ Ok
   pub records : List Ruled
   pub left : hubAfter (applyRuled (blank row) setup .hub) records ≡ up s
 
--- One that they leave all under the same rules.
+-- One that they leave all under the same rules, without a table of rights.
 pub record LeftUnder (rules : Rules) (s : Store) : Type 0 where
   pub row : List Model.Slot
   pub setup : List ℕ
-  pub accepted : apply rules (blank row) setup .answer ≡ Ok
+  pub accepted : apply rules (emptied row) setup .answer ≡ Ok
   pub records : List (List ℕ)
-  pub left : hubAfter (apply rules (blank row) setup .hub) (allUnder rules records) ≡ up s
+  pub left : hubAfter (apply rules (emptied row) setup .hub) (allUnder rules records) ≡ up s
 
 -- memory in which a store lies that records left
 pub record Left (s : Store) (m : Memory) : Type 0 where
@@ -48,6 +49,7 @@ pub record Sized (m : Memory) : Type 0 where
   pub marks : length (m .hub .marks) ≡ 12
   pub reading : length (m .hub .reading) ≡ 16
   pub rows : length (m .hub .rows) ≡ 1024
+  pub rights : length (m .hub .rights) ≡ 64
   pub newest : length (m .newest) ≡ 256
   pub free : length (m .free) ≡ 2048
   pub queue : length (m .queue) ≡ 12288

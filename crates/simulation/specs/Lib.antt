@@ -7,4 +7,5 @@ pub mod Records
 pub mod Shell
 pub mod Loop
 pub mod Buffer
+pub mod Tables
 pub mod Demands

@@ -11,9 +11,9 @@ use Rattle.marks.specs.Marks.{readBy}
 use Rattle.ranges.specs.Words.{flat}
 use Rattle.queue.specs.Rep.{joinedRanges, windowAt, windowAfter}
 use Rattle.slots.specs.declared.Slot.{Slot}
-use Rattle.slots.specs.Slots.{slotRep}
+use Rattle.slots.specs.Slots.{slotRep, slotOf}
 use Rattle.state.specs.declared.Hub.{Hub}
-use Rattle.state.specs.State.{emptyHub, withWindowIn}
+use Rattle.state.specs.State.{bareHub, withWindowIn, standing}
 
 -- the hub by value; the row of slots; for each register the slot of its newest version; the free slots, the one that is taken first last;
 -- the ranges of the queued pools, one pool after the other, and the pools' lengths, each from where the hub's window begins; and for each worker
@@ -57,6 +57,10 @@ withHub m h =
       merged = m .merged;
     }
 
+-- what a setup finds in the memory: the row of slots, and the table that stands
+abbrev pub lentIn : Memory → Model.Lent
+lentIn m = record { row = map slotOf (m .slots); table = standing (m .hub) }
+
 ------------------------------------------------------------------------
 -- A store in memory
 
@@ -92,6 +96,8 @@ hubRep s h =
       times = timesOver (s .workers) (h .times);
       marks = s .marks;
       reading = readsOver (s .workers);
+      granted = length (s .site .table);
+      rights = over (s .site .table) (h .rights);
       workers = over (map workerRep (s .workers)) (replicate 16 (workerRep startWorker));
     }
 
@@ -124,13 +130,13 @@ write s m =
       merged = mergedOver (s .workers) (m .merged);
     }
 
--- What the store s is written over after the hub k, whose hub by value was h: a setup starts with an empty one, any other record with h, its
--- window moved on where pools were taken.
+-- What the store s is written over after the hub k, whose hub by value was h: a setup starts with an empty one that keeps the array of rights, any
+-- other record with h, its window moved on where pools were taken.
 abbrev pub nextHub : Model.Hub → Store → Hub → Hub
-nextHub (Model.blank row) s h = emptyHub
+nextHub (Model.blank x) s h = bareHub (h .rights)
 nextHub (Model.up s₀) s h = withWindowIn h (windowAfter (s₀ .queue) (s .queue) (h .window))
 
 -- the memory of the hub k with the next hub written over it; where that is not set up, the memory is as it was
 abbrev pub writeHub : Model.Hub → Model.Hub → Memory → Memory
-writeHub k (Model.blank row) m = m
+writeHub k (Model.blank x) m = m
 writeHub k (Model.up s) m = write s (withHub m (nextHub k s (m .hub)))

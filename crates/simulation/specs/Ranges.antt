@@ -9,6 +9,7 @@ use Rattle.model.specs.Store.{absent, markCount}
 use Rattle.model.specs.Batch.{batchOf}
 use Rattle.model.specs.Totals.{registerOf, rowAt}
 use Rattle.model.specs.Rules.{twelveDigits}
+use Rattle.model.specs.Rights.{workerOf, rightsOf, firstRegister, lastRegister, lastPair}
 use Rattle.worker.specs.declared.Purpose.{Purpose}
 use Rattle.worker.specs.declared.Purpose.the-variants.{Single, Marked, Totaling}
 use Rattle.worker.specs.declared.Facts.{Facts}
@@ -74,6 +75,14 @@ pub record WorkerInRange (m : Memory) (w : ℕ) (x : Worker) : Type 0 where
   -- their slots are below N (H8.17)
   pub poolSlots : (i : ℕ) → i < x .pool .len → getD (x .pool .slots) i 0 < m .hub .n
 
+-- a row of rights (H15.8)
+pub record RightInRange (x : ℕ) : Type 0 where
+  pub worker : workerOf x ≤ 15
+  pub rights : rightsOf x ≤ 15
+  pub last : lastRegister x ≤ 255
+  pub first : firstRegister x ≤ lastRegister x
+  pub pair : lastPair x ≡ 0
+
 -- all of the memory
 pub record InRanges (m : Memory) : Type 0 where
   -- P is 1 to 16 (H8.11)
@@ -103,6 +112,9 @@ pub record InRanges (m : Memory) : Type 0 where
   -- the list of totals has at most 1,024 rows, and the register of each is below V (H8.23)
   pub listed : m .hub .listed ≤ 1024
   pub rows : (i : ℕ) → i < m .hub .listed → registerOf (rowAt (m .hub .rows) i) < m .hub .v
+  -- the table of rights has at most 64 rows, and each is one that a table may have (H8.27)
+  pub granted : m .hub .granted ≤ 64
+  pub rights : (i : ℕ) → i < m .hub .granted → RightInRange (getD (m .hub .rights) i 0)
   -- each neighbour of a slot below N, if there is one, is below N (H8.19)
   pub neighbours : (c : ℕ) → c < m .hub .n
       → Neighbour (m .hub) (getD (m .slots) c vacantSlot .older) × Neighbour (m .hub) (getD (m .slots) c vacantSlot .newer)

@@ -19,7 +19,7 @@ use Rattle.worker.specs.Rep.{poolRep}
 use Rattle.marks.specs.Marks.{readNext}
 use Rattle.state.specs.declared.Hub.{Hub}
 use Rattle.state.specs.State.{freshHub, workerIn, atPlace, withWorkersIn, withWorkerIn, withClockIn, withFreeIn, withWindowIn, withTimesIn}
-use Rattle.state.specs.State.{withMarksIn, withReadingIn}
+use Rattle.state.specs.State.{withMarksIn, withReadingIn, tableKept, standingCount}
 use Rattle.arrays.specs.Arrays.{short, fillTo}
 use Rattle.gate.specs.declared.Gate.{Gate}
 use Rattle.gate.specs.declared.Gate.the-variants.{Refuse, Make, Start, Go}
@@ -204,11 +204,12 @@ goIn m w x d = finishIn m w x (stepAtIn m x d)
 ------------------------------------------------------------------------
 -- A record
 
--- a setup that is accepted, with the bytes of the list of totals
+-- a setup that is accepted, with the bytes of the list of totals; the table that stands is kept
 unfoldable pub setUpIn : Memory → List ℕ → ℕ → ℕ → ℕ → ℕ → Memory
 setUpIn m list p v n k =
     record {
-      hub = freshHub p v n k (length list / 4) (over (take 1024 (rowsOf list)) (replicate 1024 0));
+      hub =
+          freshHub p v n k (length list / 4) (over (take 1024 (rowsOf list)) (replicate 1024 0)) (standingCount (m .hub)) (m .hub .rights);
       slots = madeTo (m .slots) v n;
       newest = fillTo (m .newest) short v;
       free = fillTo (m .free) (λ j. short (n - 1 - j)) (n - v);
@@ -229,7 +230,7 @@ abbrev pub gateIn : Bool → Memory → List ℕ → List ℕ → Gate
 gateIn up m list b =
     let x = workerIn (m .hub) (whoOf (decodedIn b)) in
     gateOf (decodedIn b) up (m .hub .p) (m .hub .v) (length (m .slots)) (x .doing) (x .announced) list (rowsKept (m .hub))
-    (m .hub .marks) (marksRead (m .hub))
+    (m .hub .marks) (marksRead (m .hub)) (tableKept (m .hub))
 
 unfoldable pub doneAs : Bool → Memory → List ℕ → List ℕ → Result
 doneAs up m list b = obeyIn m list (gateIn up m list b)

@@ -1,8 +1,11 @@
 -- The hub by value: what setup makes of it, a worker's record taken and replaced.
+use mathlib.Core.Bool.{Bool, cond, _&&_}
 use mathlib.Core.List.{List, []}
 use Prim.Native.Nat.{ℕ, _-_}
-use lib.ListN.{getD, set, replicate}
+use lib.Dec.{leb}
+use lib.ListN.{getD, set, take, replicate}
 use Rattle.model.specs.Store.{absent, startWorker}
+use Rattle.model.specs.Rights.{eachOf, rightFits}
 use Rattle.values.specs.declared.Window.{Window}
 use Rattle.worker.specs.Rep.{workerRep}
 use Rattle.worker.specs.declared.Worker.{Worker}
@@ -16,9 +19,9 @@ abbrev pub emptyWindow : Window
 emptyWindow = record { first = 0; pools = 0; from = 0; queued = 0 }
 
 -- H2.6 to H2.8, H8.10: all workers at their start, the queue empty. H2.10: the n - v slots that hold no register's version are free.
--- H12.3: so many rows of totals.
-abbrev pub freshHub : ℕ → ℕ → ℕ → ℕ → ℕ → List ℕ → Hub
-freshHub p v n t k rows =
+-- H12.3: so many rows of totals. H15.4: so many rows of rights.
+abbrev pub freshHub : ℕ → ℕ → ℕ → ℕ → ℕ → List ℕ → ℕ → List ℕ → Hub
+freshHub p v n t k rows granted rights =
     record {
       p = p;
       v = v;
@@ -31,12 +34,32 @@ freshHub p v n t k rows =
       times = replicate 448 0;
       marks = replicate 12 absent;
       reading = replicate 16 0;
+      granted = granted;
+      rights = rights;
       workers = replicate 16 (workerRep startWorker);
     }
 
--- that of a hub without workers
+-- that of a hub without workers, with this array for a table of rights, of which no row counts
+abbrev pub bareHub : List ℕ → Hub
+bareHub rights = freshHub 0 0 0 0 0 (replicate 1024 0) 0 rights
+
+-- H15.10: and without anything left in it
 abbrev pub emptyHub : Hub
-emptyHub = freshHub 0 0 0 0 0 (replicate 1024 0)
+emptyHub = bareHub (replicate 64 0)
+
+-- the rows of the table of rights that count
+abbrev pub tableKept : Hub → List ℕ
+tableKept h = take (h .granted) (h .rights)
+
+-- H15.9: the table that stands: those rows, where they are a table
+abbrev pub tableSound : Hub → Bool
+tableSound h = leb (h .granted) 64 && eachOf rightFits (tableKept h)
+
+abbrev pub standing : Hub → List ℕ
+standing h = cond (tableSound h) (tableKept h) []
+
+abbrev pub standingCount : Hub → ℕ
+standingCount h = cond (tableSound h) (h .granted) 0
 
 -- what stands where a list of workers has no entry
 abbrev pub nobody : Worker
@@ -67,6 +90,8 @@ withWorkersIn h l =
       times = h .times;
       marks = h .marks;
       reading = h .reading;
+      granted = h .granted;
+      rights = h .rights;
       workers = l;
     }
 
@@ -88,6 +113,8 @@ withClockIn h k =
       times = h .times;
       marks = h .marks;
       reading = h .reading;
+      granted = h .granted;
+      rights = h .rights;
       workers = h .workers;
     }
 
@@ -105,6 +132,8 @@ withFreeIn h k =
       times = h .times;
       marks = h .marks;
       reading = h .reading;
+      granted = h .granted;
+      rights = h .rights;
       workers = h .workers;
     }
 
@@ -122,6 +151,8 @@ withWindowIn h w =
       times = h .times;
       marks = h .marks;
       reading = h .reading;
+      granted = h .granted;
+      rights = h .rights;
       workers = h .workers;
     }
 
@@ -139,6 +170,8 @@ withTimesIn h ts =
       times = ts;
       marks = h .marks;
       reading = h .reading;
+      granted = h .granted;
+      rights = h .rights;
       workers = h .workers;
     }
 
@@ -156,6 +189,8 @@ withMarksIn h l =
       times = h .times;
       marks = l;
       reading = h .reading;
+      granted = h .granted;
+      rights = h .rights;
       workers = h .workers;
     }
 
@@ -173,5 +208,7 @@ withReadingIn h l =
       times = h .times;
       marks = h .marks;
       reading = l;
+      granted = h .granted;
+      rights = h .rights;
       workers = h .workers;
     }

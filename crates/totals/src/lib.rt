@@ -13,7 +13,7 @@ use worker::Purpose;
 
 // ---- a row
 
-fn group_of(row: u32) -> u16
+pub fn group_of(row: u32) -> u16
     ensures { λ r. ⌜ r ≡ groupOf row ⌝ }
 {
     (row % 256) as u16
@@ -26,7 +26,7 @@ pub fn is_plus(row: u32) -> bool
     row / 256 % 256 == 0
 }
 
-fn register_of(row: u32) -> u16
+pub fn register_of(row: u32) -> u16
     ensures { λ r. ⌜ r ≡ registerOf row ⌝ }
 {
     (row / 65536) as u16

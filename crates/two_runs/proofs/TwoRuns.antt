@@ -294,7 +294,7 @@ run r (b ∷ bs) (b′ ∷ bs′) B now s s′ e h h′ C o olds p I olds′ p�
 pub two-runs : TwoRuns
 two-runs row b e r bs bs′ B =
     let A = accepts (b .rules) row (b .bytes) e in
-    let s = fresh (b .rules .batch (A .sizes .P)) (A .sizes) (rowsOf (b .rules .list)) (b .rules .table) (A .row) in
+    let s = fresh (b .rules .batch (A .sizes .P)) (A .sizes) (rowsOf (b .rules .list)) (row .table) (row .row) in
     let I = accepted-inv (b .rules) A in
     subst (λ (q : Hub). Pairwise (SameAnswers r) (events q bs) (events q bs′)) (sym (A .is))
     (run r bs bs′ B 0 s s refl [] [] tt [] _ plain₀ I _ plain₀ I)

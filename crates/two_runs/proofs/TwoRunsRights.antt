@@ -9,7 +9,7 @@ use lib.Dec.{eqb}
 use borrow.Author.Tests as Tests
 use Rattle.model.specs.Store.{Site, Store, Hub, blank, up}
 use Rattle.model.specs.Totals.{registerOf, ofGroup}
-use Rattle.model.specs.Rights.{Right, ToRead, mayOn, mayOnEach, allowed}
+use Rattle.model.specs.Rights.{ToRead, eachOf, mayOn, mayOnEach, allowed}
 use Rattle.model.specs.Rules.{Rules, Ruled}
 use Rattle.model.specs.Answer.{Answer, Ok, Applied, No}
 use Rattle.model.specs.Record.{Operation, Put, Open, Read, Close, Get, Collect, Total, Mark, Release, MarkedRead, SetUp, Begin, Step}
@@ -32,7 +32,7 @@ began rules s w c =
     (λ k n e. absurd (let z : _≡_ {A = ℕ} 0 1 = cc in omega arith)) (λ P e. P .right)
 
 -- who may read some registers and not r reads others
-module _ (t : List Right) (w r : ℕ) (not-r : mayOn t w ToRead r ≡ false) where
+module _ (t : List ℕ) (w r : ℕ) (not-r : mayOn t w ToRead r ≡ false) where
   other : (q : ℕ) → mayOn t w ToRead q ≡ true → eqb q r ≡ false
   other q may = go (eqb q r) refl
     where
@@ -41,18 +41,18 @@ module _ (t : List Right) (w r : ℕ) (not-r : mayOn t w ToRead r ≡ false) whe
       go false e = refl
 
   others : (l : List ℕ) → mayOnEach t w ToRead (map registerOf l) ≡ true → names r l ≡ false
-  unfolding mayOnEach names
+  unfolding eachOf names
   others [] may = refl
   others (x ∷ l) may =
       let u = and-both (mayOn t w ToRead (registerOf x)) (mayOnEach t w ToRead (map registerOf l)) may in
       ap (λ (b : Bool). b || names r l) (other (registerOf x) (u .0)) ∙ others l (u .1)
 
   single : (q : ℕ) → mayOnEach t w ToRead (q ∷ []) ≡ true → eqb q r ≡ false
-  unfolding mayOnEach
+  unfolding eachOf
   single q may = other q (and-both (mayOn t w ToRead q) true may .0)
 
 -- so what began does not look at r
-off : (t : List Right) (v w r : ℕ) (rows : List ℕ) (c : Operation) → WithoutRead t w r → allowed t v w (terms rows c .right) ≡ true → looksIn r rows c ≡ false
+off : (t : List ℕ) (v w r : ℕ) (rows : List ℕ) (c : Operation) → WithoutRead t w r → allowed t v w (terms rows c .right) ≡ true → looksIn r rows c ≡ false
 off [] v w r rows c not-r may = absurd not-r
 off (x ∷ t) v w r rows (Put q y) not-r may = refl
 off (x ∷ t) v w r rows Open not-r may = refl
@@ -102,12 +102,12 @@ all-keep r w (b ∷ bs) now s olds h o p I not-r = (
 pub same-without-read : SameWithoutRead
 same-without-read row b e r bs bs′ B w not-r = same-for-worker row b e r bs bs′ B w kept
   where
-    A : Accepted (b .rules) (applyRuled (blank row) b .hub)
+    A : Accepted (b .rules) row (applyRuled (blank row) b .hub)
     A = accepts (b .rules) row (b .bytes) e
 
     kept : All (λ v. KeepsOff r (rowsIn (applyRuled (blank row) b .hub)) w (decode (v .bytes)) (v .answer)) (events (applyRuled (blank row) b .hub) bs)
     kept =
         subst (λ (q : Hub). WithoutRead (tableIn q) w r → All (λ v. KeepsOff r (rowsIn q) w (decode (v .bytes)) (v .answer)) (events q bs)) (sym (A .is))
-        (all-keep r w bs 0 (fresh (b .rules .batch (A .sizes .P)) (A .sizes) (rowsOf (b .rules .list)) (b .rules .table) (A .row)) _ [] [] plain₀
+        (all-keep r w bs 0 (fresh (b .rules .batch (A .sizes .P)) (A .sizes) (rowsOf (b .rules .list)) (row .table) (row .row)) _ [] [] plain₀
         (accepted-inv (b .rules) A))
         not-r

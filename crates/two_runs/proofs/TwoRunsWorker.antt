@@ -18,7 +18,7 @@ use Rattle.model.specs.Answer.{Answer, Ok, Going, Freed, At, Value, None, Below
 use Rattle.model.specs.Record.{Operation, SetUp, Begin, Step, Decoded, Asks, Refuses, decode, rowsOf}
 use Rattle.model.specs.Apply.{fresh, applyRuled}
 use Rattle.model.specs.Demand.{Event, events, Call, Unfinished, callAt, endFor, observe, effects, Plain, plain₀, All, occurrences, rowsIn}
-use Rattle.two_runs.specs.TwoRuns.{Pairwise, Alike, looksFor, looksAt, looksBy, SameAnswers, looksIn, KeepsOff, isOf, answersFor, SameForWorker}
+use Rattle.two_runs.specs.TwoRuns.{Pairwise, Alike, looksFor, looksAt, looksBy, SameAnswers, looksIn, KeepsOff, isOf, SameTo, told, SameForWorker}
 use Rattle.model.proofs.Basic.{lt-cases, All-at, All-append, All-map, All-through}
 use Rattle.model.proofs.Invariant.{Ctx, ctx, Serves, FitsFlush, FitsTime, Fits, CurrentOf, Inv}
 use Rattle.model.proofs.View.{idle-is}
@@ -160,39 +160,29 @@ all-off r w (b ∷ bs) now s olds h o p I H K = (
     h′ = observe now d a h
 
 -- records that are alike are of one worker
-of-same : (r w : ℕ) (b b′ : Ruled) → Alike r b b′ → isOf w (decode (b .bytes)) ≡ isOf w (decode (b′ .bytes))
+pub of-same : (r w : ℕ) (b b′ : Ruled) → Alike r b b′ → isOf w (decode (b .bytes)) ≡ isOf w (decode (b′ .bytes))
 of-same r w b b′ B =
     ⊎-elim (λ e. ap (λ (q : List ℕ). isOf w (decode q)) e) (λ u. ap (isOf w) (u .puts) ∙ sym (ap (isOf w) (u .puts′))) (B .bytes)
 
 same-list : (r w : ℕ) (bs bs′ : List Ruled) → Pairwise (Alike r) bs bs′ → (g g′ : Hub) → Pairwise (SameAnswers r) (events g bs) (events g′ bs′)
-    → All (Off r w) (events g bs) → answersFor w (events g bs) ≡ answersFor w (events g′ bs′)
-unfolding events answersFor
-same-list r w [] [] B g g′ S F = refl
+    → All (Off r w) (events g bs) → Pairwise (SameTo w) (told g bs) (told g′ bs′)
+unfolding events
+same-list r w [] [] B g g′ S F = tt
 same-list r w [] (b′ ∷ bs′) B g g′ S F = absurd B
 same-list r w (b ∷ bs) [] B g g′ S F = absurd B
-same-list r w (b ∷ bs) (b′ ∷ bs′) B g g′ S F =
-    go (isOf w (decode (b .bytes))) refl (same-list r w bs bs′ (B .1) _ _ (S .1) (F .1))
-    ∙ ap (λ (t : Bool). cond t (applyRuled g′ b′ .answer ∷ rest′) rest′) (of-same r w b b′ (B .0))
-  where
-    rest : List Answer
-    rest = answersFor w (events (applyRuled g b .hub) bs)
-
-    rest′ : List Answer
-    rest′ = answersFor w (events (applyRuled g′ b′ .hub) bs′)
-
-    go : (t : Bool) → isOf w (decode (b .bytes)) ≡ t → rest ≡ rest′
-        → cond t (applyRuled g b .answer ∷ rest) rest ≡ cond t (applyRuled g′ b′ .answer ∷ rest′) rest′
-    go true e u = ap (λ (q : Answer). q ∷ rest) (S .0 .equal (F .0 e)) ∙ ap (λ (q : List Answer). applyRuled g′ b′ .answer ∷ q) u
-    go false e u = u
+same-list r w (b ∷ bs) (b′ ∷ bs′) B g g′ S F = (
+  record { both = of-same r w b b′ (B .0); equal = λ e. S .0 .equal (F .0 e) },
+  same-list r w bs bs′ (B .1) _ _ (S .1) (F .1),
+)
 
 pub same-for-worker : SameForWorker
 same-for-worker row b e r bs bs′ B w K = same-list r w bs bs′ B _ _ (two-runs row b e r bs bs′ B) off
   where
-    A : Accepted (b .rules) (applyRuled (blank row) b .hub)
+    A : Accepted (b .rules) row (applyRuled (blank row) b .hub)
     A = accepts (b .rules) row (b .bytes) e
 
     off : All (Off r w) (events (applyRuled (blank row) b .hub) bs)
     off =
         subst (λ (q : Hub). All (Keeping r (rowsIn q) w) (events q bs) → All (Off r w) (events q bs)) (sym (A .is))
-        (all-off r w bs 0 (fresh (b .rules .batch (A .sizes .P)) (A .sizes) (rowsOf (b .rules .list)) (b .rules .table) (A .row)) _ [] [] plain₀ (accepted-inv (b .rules) A) tt)
+        (all-off r w bs 0 (fresh (b .rules .batch (A .sizes .P)) (A .sizes) (rowsOf (b .rules .list)) (row .table) (row .row)) _ [] [] plain₀ (accepted-inv (b .rules) A) tt)
         K

@@ -5,7 +5,7 @@
 -- of a group with a row of r. All other answers are the same in both runs, record by record, the answers to the puts themselves too; and what is
 -- answered to a worker that looks at r is the same but for the value.
 use mathlib.Core.Path.{_≡_}
-use mathlib.Core.Bool.{Bool, false, cond, _||_}
+use mathlib.Core.Bool.{Bool, true, false, _||_}
 use mathlib.Core.Logic.{_⊎_}
 use mathlib.Core.List.{List, [], _∷_, map}
 use mathlib.Core.Option.{none, some}
@@ -13,15 +13,15 @@ use Prim.Native.Nat.{ℕ, _≤_}
 use lib.Dec.{eqb}
 use Rattle.model.specs.Totals.{registerOf, ofGroup, Sum, sum₀}
 use Rattle.model.specs.Store.{Reading, Slot, Range, TimeStep, Purpose, Single, Marked, Totaling, Goal, Doing, Idle, PutPublish, PutStamp}
-use Rattle.model.specs.Store.{PutHandIn, FlushTake, FlushRead, FlushFree, OnTime, ReadEnter, ReadStand, GetShow, Worker, Store, Hub, blank, up}
+use Rattle.model.specs.Store.{PutHandIn, FlushTake, FlushRead, FlushFree, OnTime, ReadEnter, ReadStand, GetShow, Worker, Store, Lent, Hub, blank, up}
 use Rattle.model.specs.Store.{workerAt, withSlots, withWorkers, withDoing}
-use Rattle.model.specs.Rights.{Right, ToRead, mayOn}
+use Rattle.model.specs.Rights.{ToRead, mayOn}
 use Rattle.model.specs.Rules.{Rules, twelveDigits, Ruled}
 use Rattle.model.specs.Answer.{Answer, Ok, Going, Freed, At, Value, None, Below, Done, No}
 use Rattle.model.specs.Record.{Operation, Put, Open, Read, Close, Get, Collect, Total, Mark, Release, MarkedRead, SetUp, Begin}
 use Rattle.model.specs.Record.{Step, Decoded, Asks, Refuses, decode}
 use Rattle.model.specs.Apply.{valueWithin, applyRuled}
-use Rattle.model.specs.Demand.{Event, events, All, rowsIn}
+use Rattle.model.specs.Demand.{Event, events, Exchange, exchange, All, rowsIn}
 
 -- two lists of one length whose entries are related one by one
 abbrev pub Pairwise : {A : Type 0} → (A → A → Type 0) → List A → List A → Type 0
@@ -163,7 +163,7 @@ pub record SameAnswers (r : ℕ) (e e′ : Event) : Type 0 where
 -- in values put to r. The lists may begin alike, so the hub at which the runs part is any hub that records left.
 abbrev pub TwoRuns : Type 0
 TwoRuns =
-    (row : List Slot) (setup : Ruled) → applyRuled (blank row) setup .answer ≡ Ok
+    (row : Lent) (setup : Ruled) → applyRuled (blank row) setup .answer ≡ Ok
     → (r : ℕ) (records records′ : List Ruled) → Pairwise (Alike r) records records′
     → Pairwise (SameAnswers r) (events (applyRuled (blank row) setup .hub) records) (events (applyRuled (blank row) setup .hub) records′)
 
@@ -197,38 +197,43 @@ isOf w (Asks (Begin v c)) = eqb v w
 isOf w (Asks (Step v)) = eqb v w
 isOf w (Refuses k) = false
 
--- what worker w is answered
-unfoldable pub answersFor : ℕ → List Event → List Answer
-answersFor w [] = []
-answersFor w (e ∷ es) = cond (isOf w (decode (e .bytes))) (e .answer ∷ answersFor w es) (answersFor w es)
+-- one record of each run: both are of worker w, or neither is; if they are, w gets the same answer
+pub record SameTo (w : ℕ) (e e′ : Exchange) : Type 0 where
+  pub both : isOf w (decode (e .bytes)) ≡ isOf w (decode (e′ .bytes))
+  pub equal : isOf w (decode (e .bytes)) ≡ true → e .answer ≡ e′ .answer
 
--- In two runs that differ only in values put to register r, a worker that keeps off r in one of them gets the same answers throughout.
+-- what was sent and answered
+abbrev pub told : Hub → List Ruled → List Exchange
+told h bs = map exchange (events h bs)
+
+-- In two runs that differ only in values put to register r, a worker that keeps off r in one of them gets the same answers throughout, at
+-- the same records.
 abbrev pub SameForWorker : Type 0
 SameForWorker =
-    (row : List Slot) (setup : Ruled) → applyRuled (blank row) setup .answer ≡ Ok
+    (row : Lent) (setup : Ruled) → applyRuled (blank row) setup .answer ≡ Ok
     → (r : ℕ) (records records′ : List Ruled) → Pairwise (Alike r) records records′
     → (w : ℕ)
     → All (λ e. KeepsOff r (rowsIn (applyRuled (blank row) setup .hub)) w (decode (e .bytes)) (e .answer))
     (events (applyRuled (blank row) setup .hub) records)
-    → answersFor w (events (applyRuled (blank row) setup .hub) records) ≡ answersFor w (events (applyRuled (blank row) setup .hub) records′)
+    → Pairwise (SameTo w) (told (applyRuled (blank row) setup .hub) records) (told (applyRuled (blank row) setup .hub) records′)
 
 ------------------------------------------------------------------------
 -- A worker without the right to read register r
 
 -- the table of rights that a hub has
-abbrev pub tableIn : Hub → List Right
-tableIn (blank row) = []
+abbrev pub tableIn : Hub → List ℕ
+tableIn (blank row) = row .table
 tableIn (up s) = s .site .table
 
 -- H15.4: there is a table with rows, and none of them gives worker w the right to read register r
-abbrev pub WithoutRead : List Right → ℕ → ℕ → Type 0
+abbrev pub WithoutRead : List ℕ → ℕ → ℕ → Type 0
 WithoutRead [] w r = ⊥
 WithoutRead (row ∷ l) w r = mayOn (row ∷ l) w ToRead r ≡ false
 
 -- H15.7: in two runs that differ only in values put to register r, every worker without the right to read r gets the same answers throughout
 abbrev pub SameWithoutRead : Type 0
 SameWithoutRead =
-    (row : List Slot) (setup : Ruled) → applyRuled (blank row) setup .answer ≡ Ok
+    (row : Lent) (setup : Ruled) → applyRuled (blank row) setup .answer ≡ Ok
     → (r : ℕ) (records records′ : List Ruled) → Pairwise (Alike r) records records′
     → (w : ℕ) → WithoutRead (tableIn (applyRuled (blank row) setup .hub)) w r
-    → answersFor w (events (applyRuled (blank row) setup .hub) records) ≡ answersFor w (events (applyRuled (blank row) setup .hub) records′)
+    → Pairwise (SameTo w) (told (applyRuled (blank row) setup .hub) records) (told (applyRuled (blank row) setup .hub) records′)

@@ -1,7 +1,6 @@
 -- `make` meets its contract: each part is what the function that writes it ensures.
 use mathlib.Core.Path.{ap, _∙_}
-use mathlib.Core.List.{List}
-use Prim.Native.Nat.{ℕ, _/_}
+use Prim.Native.Nat.{_/_}
 use lib.ListN.{length}
 use native.Mathlib.Omega.{arith}
 use borrow.Author.Needs.{needs}
@@ -12,6 +11,9 @@ use Rattle.core.proofs.make.Tie as tie
 
 fill-rows-requires : tie.Need-fill-rows-requires
 fill-rows-requires c κs = search needs
+
+kept-rows-requires : tie.Need-kept-rows-requires
+kept-rows-requires c κs = search needs
 
 fresh-requires : tie.Need-fresh-requires
 fresh-requires c κs = search needs
@@ -34,9 +36,12 @@ returns c =
     let f = w .before .before in
     let n = f .before .before in
     let e = n .before .before in
-    let rows = e .before in
-    let a = rows .before .before .before .args in (
-      e .fresh .ensures ∙ ap (λ (l : List ℕ). freshHub (a .p) (a .v) (a .n) (a .clock) (length (a .list .now) / 4) l) (rows .fill-rows .ensures),
+    let kept = e .before .before in
+    let rows = kept .before .before .before in
+    let a = rows .before .before .before .args in
+    let old = a .t1 in (
+      e .fresh .ensures
+          ∙ (λ i. freshHub (a .p) (a .v) (a .n) (a .clock) (length (a .list .now) / 4) (rows .fill-rows .ensures i) (kept .kept-rows .ensures i) (old .rights)),
       (w .set-up .ensures, (n .fill-newest .ensures, f .fill-free .ensures)),
     )
 
@@ -45,6 +50,7 @@ make-spec =
     tie.close
     (tie.spec
     fill-rows-requires
+    kept-rows-requires
     fresh-requires
     fill-newest-requires
     fill-free-requires

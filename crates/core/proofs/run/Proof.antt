@@ -89,14 +89,14 @@ put-answer-requires c κs = tt
 add-k : tie.Need-add-k Inv-loop2 μ-loop2 Inv-loop μ-loop
 add-k c =
     let I₀ = c .before .before .before .before .before .before .before .before in
-    let I = I₀ .before .before .before .before .before .before .before .before .before .before .before in
+    let I = I₀ .before .before .before .before .before .before .before .before .before .before .before .before in
     let A = I .before .before .before .before .before .before .before .before .before .before .before .before .before .before .before in
     omega (arith, I .loop-test .taken, A .fits)
 
 loop-less : tie.Need-loop-less Inv-loop2 μ-loop2 Inv-loop μ-loop
 loop-less c =
     let I₀ = c .before .before .before .before .before .before .before .before in
-    let I = I₀ .before .before .before .before .before .before .before .before .before .before .before in
+    let I = I₀ .before .before .before .before .before .before .before .before .before .before .before .before in
     omega (arith, I .loop-test .taken)
 
 loop-again : tie.Need-loop-again Inv-loop2 μ-loop2 Inv-loop μ-loop
@@ -104,7 +104,7 @@ loop-again c =
     let P = c .before .before .before .before in
     let K = P .before .before .before .before in
     let G = K .before .before in
-    let G₁ = G .before .before .before .before .before in
+    let G₁ = G .before .before .before .before .before .before in
     let G₂ = G₁ .before .before .before in
     on-refuse (deciding (G₂ .before .before .loop .row) (G₂ .before .before .loop .inv)
     (G₂ .before .loop-test .taken)
@@ -124,14 +124,14 @@ put-answer-requires-2 c κs = tt
 add-k-2 : tie.Need-add-k-2 Inv-loop2 μ-loop2 Inv-loop μ-loop
 add-k-2 c =
     let J = c .before .before .before .before .before .before .before .before .before .before in
-    let I = J .before .before .before .before .before .before .before .before .before .before .before .before .before .before .before in
+    let I = J .before .before .before .before .before .before .before .before .before .before .before .before .before .before .before .before in
     let A = I .before .before .before .before .before .before .before .before .before .before .before .before .before .before .before in
     omega (arith, I .loop-test .taken, A .fits)
 
 loop-less-2 : tie.Need-loop-less-2 Inv-loop2 μ-loop2 Inv-loop μ-loop
 loop-less-2 c =
     let J = c .before .before .before .before .before .before .before .before .before .before in
-    let I = J .before .before .before .before .before .before .before .before .before .before .before .before .before .before .before in
+    let I = J .before .before .before .before .before .before .before .before .before .before .before .before .before .before .before .before in
     omega (arith, I .loop-test .taken)
 
 loop-again-2 : tie.Need-loop-again-2 Inv-loop2 μ-loop2 Inv-loop μ-loop
@@ -140,7 +140,7 @@ loop-again-2 c =
     let M = P .before .before .before .before .before in
     let K = M .before .before .before .before .before in
     let G = K .before .before in
-    let G₁ = G .before .before .before .before .before in
+    let G₁ = G .before .before .before .before .before .before in
     let G₂ = G₁ .before .before .before in
     on-make (deciding (G₂ .before .before .loop .row) (G₂ .before .before .loop .inv)
     (G₂ .before .loop-test .taken)
@@ -158,8 +158,8 @@ mul-y c = omega arith
 element-copy-out-y : tie.Need-element-copy-out-y Inv-loop2 μ-loop2 Inv-loop μ-loop
 element-copy-out-y c = omega arith
 
-mul-t113 : tie.Need-mul-t113 Inv-loop2 μ-loop2 Inv-loop μ-loop
-mul-t113 c = omega arith
+mul-t116 : tie.Need-mul-t116 Inv-loop2 μ-loop2 Inv-loop μ-loop
+mul-t116 c = omega arith
 
 element-set-from-hub : tie.Need-element-set-from-hub Inv-loop2 μ-loop2 Inv-loop μ-loop
 element-set-from-hub c = omega arith
@@ -170,14 +170,14 @@ put-answer-requires-3 c κs = tt
 add-k-3 : tie.Need-add-k-3 Inv-loop2 μ-loop2 Inv-loop μ-loop
 add-k-3 c =
     let J = c .before .before .before .before .before .before .before .before .before .before in
-    let I = J .before .before .before .before .before .before .before .before .before .before .before in
+    let I = J .before .before .before .before .before .before .before .before .before .before .before .before in
     let A = I .before .before .before .before .before .before .before .before .before .before .before .before .before .before .before in
     omega (arith, I .loop-test .taken, A .fits)
 
 loop-less-3 : tie.Need-loop-less-3 Inv-loop2 μ-loop2 Inv-loop μ-loop
 loop-less-3 c =
     let J = c .before .before .before .before .before .before .before .before .before .before in
-    let I = J .before .before .before .before .before .before .before .before .before .before .before in
+    let I = J .before .before .before .before .before .before .before .before .before .before .before .before in
     omega (arith, I .loop-test .taken)
 
 loop-again-3 : tie.Need-loop-again-3 Inv-loop2 μ-loop2 Inv-loop μ-loop
@@ -185,7 +185,7 @@ loop-again-3 c =
     let P = c .before .before .before .before in
     let K = P .before .before .before .before .before .before in
     let G = K .before .before in
-    let G₁ = G .before .before .before .before .before in
+    let G₁ = G .before .before .before .before .before .before in
     let G₂ = G₁ .before .before .before in
     on-start (deciding (G₂ .before .before .loop .row) (G₂ .before .before .loop .inv)
     (G₂ .before .loop-test .taken)
@@ -208,8 +208,8 @@ mul-y-2 c = omega arith
 element-copy-out-y-2 : tie.Need-element-copy-out-y-2 Inv-loop2 μ-loop2 Inv-loop μ-loop
 element-copy-out-y-2 c = omega arith
 
-mul-t137 : tie.Need-mul-t137 Inv-loop2 μ-loop2 Inv-loop μ-loop
-mul-t137 c = omega arith
+mul-t140 : tie.Need-mul-t140 Inv-loop2 μ-loop2 Inv-loop μ-loop
+mul-t140 c = omega arith
 
 element-set-from-hub-2 : tie.Need-element-set-from-hub-2 Inv-loop2 μ-loop2 Inv-loop μ-loop
 element-set-from-hub-2 c = omega arith
@@ -230,7 +230,7 @@ add-k-4 : tie.Need-add-k-4 Inv-loop2 μ-loop2 Inv-loop μ-loop
 add-k-4 c =
     let J = c .before .before .before .before .before .before .before .before .before .before .before .before .before .before .before in
     let I₅ = J .before .before .before .before .before .before .before .before .before .before .before .before .before in
-    let I = I₅ .before .before .before .before .before .before in
+    let I = I₅ .before .before .before .before .before .before .before in
     let A = I .before .before .before .before .before .before .before .before .before .before .before .before .before .before .before in
     omega (arith, I .loop-test .taken, A .fits)
 
@@ -238,7 +238,7 @@ loop-less-4 : tie.Need-loop-less-4 Inv-loop2 μ-loop2 Inv-loop μ-loop
 loop-less-4 c =
     let J = c .before .before .before .before .before .before .before .before .before .before .before .before .before .before .before in
     let I₅ = J .before .before .before .before .before .before .before .before .before .before .before .before .before in
-    let I = I₅ .before .before .before .before .before .before in
+    let I = I₅ .before .before .before .before .before .before .before in
     omega (arith, I .loop-test .taken)
 
 loop-again-4 : tie.Need-loop-again-4 Inv-loop2 μ-loop2 Inv-loop μ-loop
@@ -248,7 +248,7 @@ loop-again-4 c =
     let T = K .before .before .before in
     let E = T .before .before .before .before .before .before .before .before in
     let G = E .before .before in
-    let G₁ = G .before .before .before .before .before in
+    let G₁ = G .before .before .before .before .before .before in
     let G₂ = G₁ .before .before .before in
     on-taken (deciding (G₂ .before .before .loop .row) (G₂ .before .before .loop .inv)
     (G₂ .before .loop-test .taken)
@@ -278,8 +278,8 @@ put-time-requires c κs = tt
 put-time-requires-2 : tie.Need-put-time-requires-2 Inv-loop2 μ-loop2 Inv-loop μ-loop
 put-time-requires-2 c κs = tt
 
-mul-t153 : tie.Need-mul-t153 Inv-loop2 μ-loop2 Inv-loop μ-loop
-mul-t153 c = omega arith
+mul-t156 : tie.Need-mul-t156 Inv-loop2 μ-loop2 Inv-loop μ-loop
+mul-t156 c = omega arith
 
 element-set-from-hub-3 : tie.Need-element-set-from-hub-3 Inv-loop2 μ-loop2 Inv-loop μ-loop
 element-set-from-hub-3 c = omega arith
@@ -292,7 +292,7 @@ add-k-5 c =
     let J₅ = c .before .before .before .before .before .before .before .before .before .before .before .before .before in
     let J = J₅ .before .before .before in
     let I₀ = J .before .before .before .before .before .before .before .before .before .before .before .before in
-    let I = I₀ .before .before .before .before .before .before .before .before .before .before .before .before in
+    let I = I₀ .before .before .before .before .before .before .before .before .before .before .before .before .before in
     let A = I .before .before .before .before .before .before .before .before .before .before .before .before .before .before .before in
     omega (arith, I .loop-test .taken, A .fits)
 
@@ -301,7 +301,7 @@ loop-less-5 c =
     let J₅ = c .before .before .before .before .before .before .before .before .before .before .before .before .before in
     let J = J₅ .before .before .before in
     let I₀ = J .before .before .before .before .before .before .before .before .before .before .before .before in
-    let I = I₀ .before .before .before .before .before .before .before .before .before .before .before .before in
+    let I = I₀ .before .before .before .before .before .before .before .before .before .before .before .before .before in
     omega (arith, I .loop-test .taken)
 
 loop-again-5 : tie.Need-loop-again-5 Inv-loop2 μ-loop2 Inv-loop μ-loop
@@ -315,7 +315,7 @@ loop-again-5 c =
     let T = K .before .before .before in
     let E = T .before .before .before .before .before .before .before .before in
     let G = E .before .before in
-    let G₁ = G .before .before .before .before .before in
+    let G₁ = G .before .before .before .before .before .before in
     let G₂ = G₁ .before .before .before in
     on-hand-in (deciding (G₂ .before .before .loop .row) (G₂ .before .before .loop .inv)
     (G₂ .before .loop-test .taken)
@@ -333,7 +333,7 @@ flush-take-requires c κs =
     let T = c .before .before .before .before .before .before in
     let E = T .before .before .before .before .before .before .before .before in
     let G = E .before .before in
-    let G₁ = G .before .before .before .before .before in
+    let G₁ = G .before .before .before .before .before .before in
     let G₂ = G₁ .before .before .before in
     below (deciding (G₂ .before .before .loop .row) (G₂ .before .before .loop .inv)
     (G₂ .before .loop-test .taken)
@@ -347,11 +347,11 @@ mul-y-4 c = omega arith
 element-copy-out-y-4 : tie.Need-element-copy-out-y-4 Inv-loop2 μ-loop2 Inv-loop μ-loop
 element-copy-out-y-4 c = omega arith
 
-cast-t178 : tie.Need-cast-t178 Inv-loop2 μ-loop2 Inv-loop μ-loop
-cast-t178 c = omega arith
+cast-t181 : tie.Need-cast-t181 Inv-loop2 μ-loop2 Inv-loop μ-loop
+cast-t181 c = omega arith
 
-mul-t182 : tie.Need-mul-t182 Inv-loop2 μ-loop2 Inv-loop μ-loop
-mul-t182 c = omega arith
+mul-t185 : tie.Need-mul-t185 Inv-loop2 μ-loop2 Inv-loop μ-loop
+mul-t185 c = omega arith
 
 element-set-from-hub-4 : tie.Need-element-set-from-hub-4 Inv-loop2 μ-loop2 Inv-loop μ-loop
 element-set-from-hub-4 c = omega arith
@@ -363,7 +363,7 @@ add-k-6 : tie.Need-add-k-6 Inv-loop2 μ-loop2 Inv-loop μ-loop
 add-k-6 c =
     let J = c .before .before .before .before .before .before .before .before .before .before .before .before .before .before .before in
     let I₀ = J .before .before .before .before .before .before .before .before .before .before .before in
-    let I = I₀ .before .before .before .before .before .before .before .before .before .before .before in
+    let I = I₀ .before .before .before .before .before .before .before .before .before .before .before .before in
     let A = I .before .before .before .before .before .before .before .before .before .before .before .before .before .before .before in
     omega (arith, I .loop-test .taken, A .fits)
 
@@ -371,7 +371,7 @@ loop-less-6 : tie.Need-loop-less-6 Inv-loop2 μ-loop2 Inv-loop μ-loop
 loop-less-6 c =
     let J = c .before .before .before .before .before .before .before .before .before .before .before .before .before .before .before in
     let I₀ = J .before .before .before .before .before .before .before .before .before .before .before in
-    let I = I₀ .before .before .before .before .before .before .before .before .before .before .before in
+    let I = I₀ .before .before .before .before .before .before .before .before .before .before .before .before in
     omega (arith, I .loop-test .taken)
 
 loop-again-6 : tie.Need-loop-again-6 Inv-loop2 μ-loop2 Inv-loop μ-loop
@@ -382,7 +382,7 @@ loop-again-6 c =
     let T = K .before .before .before in
     let E = T .before .before .before .before .before .before .before .before in
     let G = E .before .before in
-    let G₁ = G .before .before .before .before .before in
+    let G₁ = G .before .before .before .before .before .before in
     let G₂ = G₁ .before .before .before in
     on-take (deciding (G₂ .before .before .loop .row) (G₂ .before .before .loop .inv)
     (G₂ .before .loop-test .taken)
@@ -424,13 +424,13 @@ mul-y-5 c = omega arith
 element-copy-out-y-5 : tie.Need-element-copy-out-y-5 Inv-loop2 μ-loop2 Inv-loop μ-loop
 element-copy-out-y-5 c = omega arith
 
-add-t190 : tie.Need-add-t190 Inv-loop2 μ-loop2 Inv-loop μ-loop
-add-t190 c =
+add-t193 : tie.Need-add-t193 Inv-loop2 μ-loop2 Inv-loop μ-loop
+add-t193 c =
     let K = c .before .before .before .before in
     let T = K .before .before .before in
     let E = T .before .before .before .before .before .before .before .before in
     let G = E .before .before in
-    let G₁ = G .before .before .before .before .before in
+    let G₁ = G .before .before .before .before .before .before in
     let G₂ = G₁ .before .before .before in
     let D = (deciding (G₂ .before .before .loop .row) (G₂ .before .before .loop .inv)
     (G₂ .before .loop-test .taken)
@@ -440,8 +440,8 @@ add-t190 c =
     let p = workers D _ (E .enum-told .given .1) _ _ _ (T .step .ensures) in
     omega (arith, l, p)
 
-mul-t191 : tie.Need-mul-t191 Inv-loop2 μ-loop2 Inv-loop μ-loop
-mul-t191 c = omega arith
+mul-t194 : tie.Need-mul-t194 Inv-loop2 μ-loop2 Inv-loop μ-loop
+mul-t194 c = omega arith
 
 element-set-from-hub-5 : tie.Need-element-set-from-hub-5 Inv-loop2 μ-loop2 Inv-loop μ-loop
 element-set-from-hub-5 c = omega arith
@@ -453,7 +453,7 @@ add-k-7 : tie.Need-add-k-7 Inv-loop2 μ-loop2 Inv-loop μ-loop
 add-k-7 c =
     let J = c .before .before .before .before .before .before .before .before .before .before .before .before .before .before in
     let I₅ = J .before .before .before .before .before .before .before .before .before .before .before .before .before in
-    let I = I₅ .before .before .before .before .before .before .before in
+    let I = I₅ .before .before .before .before .before .before .before .before in
     let A = I .before .before .before .before .before .before .before .before .before .before .before .before .before .before .before in
     omega (arith, I .loop-test .taken, A .fits)
 
@@ -461,7 +461,7 @@ loop-less-7 : tie.Need-loop-less-7 Inv-loop2 μ-loop2 Inv-loop μ-loop
 loop-less-7 c =
     let J = c .before .before .before .before .before .before .before .before .before .before .before .before .before .before in
     let I₅ = J .before .before .before .before .before .before .before .before .before .before .before .before .before in
-    let I = I₅ .before .before .before .before .before .before .before in
+    let I = I₅ .before .before .before .before .before .before .before .before in
     omega (arith, I .loop-test .taken)
 
 loop-again-7 : tie.Need-loop-again-7 Inv-loop2 μ-loop2 Inv-loop μ-loop
@@ -472,7 +472,7 @@ loop-again-7 c =
     let T = K .before .before .before in
     let E = T .before .before .before .before .before .before .before .before in
     let G = E .before .before in
-    let G₁ = G .before .before .before .before .before in
+    let G₁ = G .before .before .before .before .before .before in
     let G₂ = G₁ .before .before .before in
     on-read (deciding (G₂ .before .before .loop .row) (G₂ .before .before .loop .inv)
     (G₂ .before .loop-test .taken)
@@ -489,7 +489,7 @@ read-all-requires c κs =
     let T = c .before .before .before .before .before .before .before in
     let E = T .before .before .before .before .before .before .before .before in
     let G = E .before .before in
-    let G₁ = G .before .before .before .before .before in
+    let G₁ = G .before .before .before .before .before .before in
     let G₂ = G₁ .before .before .before in
     let D = (deciding (G₂ .before .before .loop .row) (G₂ .before .before .loop .inv)
     (G₂ .before .loop-test .taken)
@@ -503,12 +503,12 @@ mul-y-6 c = omega arith
 element-copy-out-y-6 : tie.Need-element-copy-out-y-6 Inv-loop2 μ-loop2 Inv-loop μ-loop
 element-copy-out-y-6 c = omega arith
 
-add-t216 : tie.Need-add-t216 Inv-loop2 μ-loop2 Inv-loop μ-loop
-add-t216 c =
+add-t219 : tie.Need-add-t219 Inv-loop2 μ-loop2 Inv-loop μ-loop
+add-t219 c =
     let T = c .before .before .before .before .before .before .before .before .before in
     let E = T .before .before .before .before .before .before .before .before in
     let G = E .before .before in
-    let G₁ = G .before .before .before .before .before in
+    let G₁ = G .before .before .before .before .before .before in
     let G₂ = G₁ .before .before .before in
     let D = (deciding (G₂ .before .before .loop .row) (G₂ .before .before .loop .inv)
     (G₂ .before .loop-test .taken)
@@ -516,11 +516,11 @@ add-t216 c =
     (named-by (G₁ .before .before .worker-byte .ensures .0) (G₂ .record-at .ensures)) (G .gate-for .ensures)) in
     omega (arith, workers D _ (E .enum-told .given .1) _ _ _ (T .step .ensures))
 
-cast-t221 : tie.Need-cast-t221 Inv-loop2 μ-loop2 Inv-loop μ-loop
-cast-t221 c = omega arith
+cast-t224 : tie.Need-cast-t224 Inv-loop2 μ-loop2 Inv-loop μ-loop
+cast-t224 c = omega arith
 
-mul-t225 : tie.Need-mul-t225 Inv-loop2 μ-loop2 Inv-loop μ-loop
-mul-t225 c = omega arith
+mul-t228 : tie.Need-mul-t228 Inv-loop2 μ-loop2 Inv-loop μ-loop
+mul-t228 c = omega arith
 
 element-set-from-hub-6 : tie.Need-element-set-from-hub-6 Inv-loop2 μ-loop2 Inv-loop μ-loop
 element-set-from-hub-6 c = omega arith
@@ -532,7 +532,7 @@ add-k-8 : tie.Need-add-k-8 Inv-loop2 μ-loop2 Inv-loop μ-loop
 add-k-8 c =
     let I₅ = c .before .before .before .before .before .before .before .before .before .before .before .before .before in
     let I₆ = I₅ .before .before .before .before .before .before .before .before .before .before .before .before .before in
-    let I = I₆ .before .before .before .before .before .before .before .before .before .before in
+    let I = I₆ .before .before .before .before .before .before .before .before .before .before .before in
     let A = I .before .before .before .before .before .before .before .before .before .before .before .before .before .before .before in
     omega (arith, I .loop-test .taken, A .fits)
 
@@ -540,7 +540,7 @@ loop-less-8 : tie.Need-loop-less-8 Inv-loop2 μ-loop2 Inv-loop μ-loop
 loop-less-8 c =
     let I₅ = c .before .before .before .before .before .before .before .before .before .before .before .before .before in
     let I₆ = I₅ .before .before .before .before .before .before .before .before .before .before .before .before .before in
-    let I = I₆ .before .before .before .before .before .before .before .before .before .before in
+    let I = I₆ .before .before .before .before .before .before .before .before .before .before .before in
     omega (arith, I .loop-test .taken)
 
 loop-again-8 : tie.Need-loop-again-8 Inv-loop2 μ-loop2 Inv-loop μ-loop
@@ -551,7 +551,7 @@ loop-again-8 c =
     let T = K .before .before .before in
     let E = T .before .before .before .before .before .before .before .before in
     let G = E .before .before in
-    let G₁ = G .before .before .before .before .before in
+    let G₁ = G .before .before .before .before .before .before in
     let G₂ = G₁ .before .before .before in
     on-read-marks (deciding (G₂ .before .before .loop .row) (G₂ .before .before .loop .inv)
     (G₂ .before .loop-test .taken)
@@ -575,8 +575,8 @@ cast-flush-split c = omega arith
 flush-split-requires : tie.Need-flush-split-requires Inv-loop2 μ-loop2 Inv-loop μ-loop
 flush-split-requires c κs = tt
 
-mul-t241 : tie.Need-mul-t241 Inv-loop2 μ-loop2 Inv-loop μ-loop
-mul-t241 c = omega arith
+mul-t244 : tie.Need-mul-t244 Inv-loop2 μ-loop2 Inv-loop μ-loop
+mul-t244 c = omega arith
 
 element-set-from-hub-7 : tie.Need-element-set-from-hub-7 Inv-loop2 μ-loop2 Inv-loop μ-loop
 element-set-from-hub-7 c = omega arith
@@ -589,7 +589,7 @@ add-k-9 c =
     let J₀ = c .before .before .before .before .before .before .before .before in
     let J = J₀ .before .before .before .before .before .before .before .before .before in
     let I₀ = J .before .before .before .before .before .before .before .before .before .before .before .before in
-    let I = I₀ .before .before .before .before .before .before .before .before .before .before .before .before .before in
+    let I = I₀ .before .before .before .before .before .before .before .before .before .before .before .before .before .before in
     let A = I .before .before .before .before .before .before .before .before .before .before .before .before .before .before .before in
     omega (arith, I .loop-test .taken, A .fits)
 
@@ -598,7 +598,7 @@ loop-less-9 c =
     let J₀ = c .before .before .before .before .before .before .before .before in
     let J = J₀ .before .before .before .before .before .before .before .before .before in
     let I₀ = J .before .before .before .before .before .before .before .before .before .before .before .before in
-    let I = I₀ .before .before .before .before .before .before .before .before .before .before .before .before .before in
+    let I = I₀ .before .before .before .before .before .before .before .before .before .before .before .before .before .before in
     omega (arith, I .loop-test .taken)
 
 loop-again-9 : tie.Need-loop-again-9 Inv-loop2 μ-loop2 Inv-loop μ-loop
@@ -609,7 +609,7 @@ loop-again-9 c =
     let T = K .before .before .before in
     let E = T .before .before .before .before .before .before .before .before in
     let G = E .before .before in
-    let G₁ = G .before .before .before .before .before in
+    let G₁ = G .before .before .before .before .before .before in
     let G₂ = G₁ .before .before .before in
     on-split (deciding (G₂ .before .before .loop .row) (G₂ .before .before .loop .inv)
     (G₂ .before .loop-test .taken)
@@ -628,7 +628,7 @@ flush-free-requires c κs =
     let T = K .before .before .before in
     let E = T .before .before .before .before .before .before .before .before in
     let G = E .before .before in
-    let G₁ = G .before .before .before .before .before in
+    let G₁ = G .before .before .before .before .before .before in
     let G₂ = G₁ .before .before .before in
     let D = (deciding (G₂ .before .before .loop .row) (G₂ .before .before .loop .inv)
     (G₂ .before .loop-test .taken)
@@ -642,13 +642,13 @@ mul-y-8 c = omega arith
 element-copy-out-y-8 : tie.Need-element-copy-out-y-8 Inv-loop2 μ-loop2 Inv-loop μ-loop
 element-copy-out-y-8 c = omega arith
 
-sub-t266 : tie.Need-sub-t266 Inv-loop2 μ-loop2 Inv-loop μ-loop
-sub-t266 c =
+sub-t269 : tie.Need-sub-t269 Inv-loop2 μ-loop2 Inv-loop μ-loop
+sub-t269 c =
     let K = c .before .before .before .before .before .before .before in
     let T = K .before .before .before in
     let E = T .before .before .before .before .before .before .before .before in
     let G = E .before .before in
-    let G₁ = G .before .before .before .before .before in
+    let G₁ = G .before .before .before .before .before .before in
     let G₂ = G₁ .before .before .before in
     let l = told
     (deciding (G₂ .before .before .loop .row) (G₂ .before .before .loop .inv)
@@ -658,8 +658,8 @@ sub-t266 c =
     _ (E .enum-told .given .1) _ _ _ (T .step .ensures) _ (K .s6 .given .1) in
     omega (arith, l)
 
-mul-t262 : tie.Need-mul-t262 Inv-loop2 μ-loop2 Inv-loop μ-loop
-mul-t262 c = omega arith
+mul-t265 : tie.Need-mul-t265 Inv-loop2 μ-loop2 Inv-loop μ-loop
+mul-t265 c = omega arith
 
 element-set-from-hub-8 : tie.Need-element-set-from-hub-8 Inv-loop2 μ-loop2 Inv-loop μ-loop
 element-set-from-hub-8 c = omega arith
@@ -668,7 +668,7 @@ loop2-holds : tie.Need-loop2-holds Inv-loop2 μ-loop2 Inv-loop μ-loop
 loop2-holds c =
     let J = c .before .before .before .before .before .before .before .before .before .before in
     let W₅ = J .before .before .before .before .before .before .before .before .before .before .before .before .before in
-    let W = W₅ .before .before .before .before in
+    let W = W₅ .before .before .before .before .before in
     let I = W .before .before .before .before in
     (omega arith, refl, length-set (I .loop .hub .workers) (W .before .worker-byte .result % 16) _ ∙ I .loop .inv .sixteen)
 
@@ -684,8 +684,8 @@ stands-on-requires c κs = tt
 off-requires : tie.Need-off-requires Inv-loop2 μ-loop2 Inv-loop μ-loop
 off-requires c κs = tt
 
-mul-t281 : tie.Need-mul-t281 Inv-loop2 μ-loop2 Inv-loop μ-loop
-mul-t281 c = omega arith
+mul-t284 : tie.Need-mul-t284 Inv-loop2 μ-loop2 Inv-loop μ-loop
+mul-t284 c = omega arith
 
 element-set-from-hub-9 : tie.Need-element-set-from-hub-9 Inv-loop2 μ-loop2 Inv-loop μ-loop
 element-set-from-hub-9 c = omega arith
@@ -734,7 +734,7 @@ add-k-10 c =
     let J₀ = c .before .before .before .before .before .before .before .before in
     let J = J₀ .before .before .before .before .before .before .before .before .before in
     let I₀ = J .before .before .before .before .before .before .before .before .before .before .before in
-    let I = I₀ .before .before .before .before .before .before .before .before .before .before .before in
+    let I = I₀ .before .before .before .before .before .before .before .before .before .before .before .before in
     let A = I .before .before .before .before .before .before .before .before .before .before .before .before .before .before .before in
     omega (arith, I .loop-test .taken, A .fits)
 
@@ -743,7 +743,7 @@ loop-less-10 c =
     let J₀ = c .before .before .before .before .before .before .before .before in
     let J = J₀ .before .before .before .before .before .before .before .before .before in
     let I₀ = J .before .before .before .before .before .before .before .before .before .before .before in
-    let I = I₀ .before .before .before .before .before .before .before .before .before .before .before in
+    let I = I₀ .before .before .before .before .before .before .before .before .before .before .before .before in
     omega (arith, I .loop-test .taken)
 
 loop-again-10 : tie.Need-loop-again-10 Inv-loop2 μ-loop2 Inv-loop μ-loop
@@ -756,7 +756,7 @@ loop-again-10 c =
     let T = K .before .before .before in
     let E = T .before .before .before .before .before .before .before .before in
     let G = E .before .before in
-    let G₁ = G .before .before .before .before .before in
+    let G₁ = G .before .before .before .before .before .before in
     let G₂ = G₁ .before .before .before in
     on-free (deciding (G₂ .before .before .loop .row) (G₂ .before .before .loop .inv)
     (G₂ .before .loop-test .taken)
@@ -785,8 +785,8 @@ mul-hub-3 c = omega arith
 element-write-hub-3 : tie.Need-element-write-hub-3 Inv-loop2 μ-loop2 Inv-loop μ-loop
 element-write-hub-3 c = omega arith
 
-mul-t290 : tie.Need-mul-t290 Inv-loop2 μ-loop2 Inv-loop μ-loop
-mul-t290 c = omega arith
+mul-t293 : tie.Need-mul-t293 Inv-loop2 μ-loop2 Inv-loop μ-loop
+mul-t293 c = omega arith
 
 element-set-from-hub-10 : tie.Need-element-set-from-hub-10 Inv-loop2 μ-loop2 Inv-loop μ-loop
 element-set-from-hub-10 c = omega arith
@@ -798,7 +798,7 @@ add-k-11 : tie.Need-add-k-11 Inv-loop2 μ-loop2 Inv-loop μ-loop
 add-k-11 c =
     let I₅ = c .before .before .before .before .before .before .before .before .before .before .before .before .before in
     let I₆ = I₅ .before .before .before .before .before .before .before .before .before .before .before .before .before in
-    let I = I₆ .before .before .before .before .before .before in
+    let I = I₆ .before .before .before .before .before .before .before in
     let A = I .before .before .before .before .before .before .before .before .before .before .before .before .before .before .before in
     omega (arith, I .loop-test .taken, A .fits)
 
@@ -806,7 +806,7 @@ loop-less-11 : tie.Need-loop-less-11 Inv-loop2 μ-loop2 Inv-loop μ-loop
 loop-less-11 c =
     let I₅ = c .before .before .before .before .before .before .before .before .before .before .before .before .before in
     let I₆ = I₅ .before .before .before .before .before .before .before .before .before .before .before .before .before in
-    let I = I₆ .before .before .before .before .before .before in
+    let I = I₆ .before .before .before .before .before .before .before in
     omega (arith, I .loop-test .taken)
 
 loop-again-11 : tie.Need-loop-again-11 Inv-loop2 μ-loop2 Inv-loop μ-loop
@@ -816,7 +816,7 @@ loop-again-11 c =
     let T = K .before .before .before in
     let E = T .before .before .before .before .before .before .before .before in
     let G = E .before .before in
-    let G₁ = G .before .before .before .before .before in
+    let G₁ = G .before .before .before .before .before .before in
     let G₂ = G₁ .before .before .before in
     on-mark (deciding (G₂ .before .before .loop .row) (G₂ .before .before .loop .inv)
     (G₂ .before .loop-test .taken)
@@ -827,23 +827,23 @@ loop-again-11 c =
 
 same-length : tie.Need-same-length Inv-loop2 μ-loop2 Inv-loop μ-loop
 same-length c =
-    let L = c .before .before .before .before .before .before in
+    let L = c .before .before .before .before .before .before .before in
     let A = L .before .before .before .before .before .before .before .before .before .before .before .before .before .before in
     words-long (L .loop .row) (A .args .row .now) (L .loop .inv .row)
 
 same-length-2 : tie.Need-same-length-2 Inv-loop2 μ-loop2 Inv-loop μ-loop
-same-length-2 c = c .before .before .before .before .before .before .loop .inv .kinds-long
+same-length-2 c = c .before .before .before .before .before .before .before .loop .inv .kinds-long
 
 same-length-3 : tie.Need-same-length-3 Inv-loop2 μ-loop2 Inv-loop μ-loop
-same-length-3 c = c .before .before .before .before .before .before .loop .inv .numbers-long
+same-length-3 c = c .before .before .before .before .before .before .before .loop .inv .numbers-long
 
 returns : tie.Need-returns Inv-loop2 μ-loop2 Inv-loop μ-loop
 returns c =
-    let L = c .before .before .before .before .before .before in
+    let L = c .before .before .before .before .before .before .before in
     let Q = L .before .before in
     let B = Q .before .before .before .before .before .before in
     let A = B .before .before .before .before .before .before in
-    finished _ _ _ _ _ _ _ _ _ (L .loop .inv) (c .before .before .before .before .before .loop-test .left)
+    finished _ _ _ _ _ _ _ _ _ (L .loop .inv) (c .before .before .before .before .before .before .loop-test .left)
     (ready-is _ (A .args .row .now) _ _ _ _ _ _ _ (B .all-linked .ensures) (Q .ready .ensures))
 
 pub run-spec : {M : Type 1} → statement M
@@ -877,7 +877,7 @@ run-spec =
     enum-known-g-3
     mul-y
     element-copy-out-y
-    mul-t113
+    mul-t116
     element-set-from-hub
     put-answer-requires-3
     add-k-3
@@ -888,7 +888,7 @@ run-spec =
     enum-known-s
     mul-y-2
     element-copy-out-y-2
-    mul-t137
+    mul-t140
     element-set-from-hub-2
     element-copy-out-old
     read-next-requires
@@ -904,7 +904,7 @@ run-spec =
     put-slot-requires
     put-time-requires
     put-time-requires-2
-    mul-t153
+    mul-t156
     element-set-from-hub-3
     put-answer-requires-5
     add-k-5
@@ -914,8 +914,8 @@ run-spec =
     flush-take-requires
     mul-y-4
     element-copy-out-y-4
-    cast-t178
-    mul-t182
+    cast-t181
+    mul-t185
     element-set-from-hub-4
     put-answer-requires-6
     add-k-6
@@ -932,8 +932,8 @@ run-spec =
     element-write-hub-2
     mul-y-5
     element-copy-out-y-5
-    add-t190
-    mul-t191
+    add-t193
+    mul-t194
     element-set-from-hub-5
     put-answer-requires-7
     add-k-7
@@ -943,9 +943,9 @@ run-spec =
     read-all-requires
     mul-y-6
     element-copy-out-y-6
-    add-t216
-    cast-t221
-    mul-t225
+    add-t219
+    cast-t224
+    mul-t228
     element-set-from-hub-6
     put-answer-requires-8
     add-k-8
@@ -956,7 +956,7 @@ run-spec =
     element-copy-out-y-7
     cast-flush-split
     flush-split-requires
-    mul-t241
+    mul-t244
     element-set-from-hub-7
     put-answer-requires-9
     add-k-9
@@ -966,15 +966,15 @@ run-spec =
     flush-free-requires
     mul-y-8
     element-copy-out-y-8
-    sub-t266
-    mul-t262
+    sub-t269
+    mul-t265
     element-set-from-hub-8
     loop2-holds
     mul-z-2
     element-copy-out-z-2
     stands-on-requires
     off-requires
-    mul-t281
+    mul-t284
     element-set-from-hub-9
     add-j
     loop2-less
@@ -992,7 +992,7 @@ run-spec =
     element-copy-out-y-9
     mul-hub-3
     element-write-hub-3
-    mul-t290
+    mul-t293
     element-set-from-hub-10
     put-answer-requires-11
     add-k-11

@@ -44,8 +44,8 @@ returns c = search needs
 vacant-requires : tie.Need-vacant-requires Inv-loop μ-loop
 vacant-requires c κs = search needs
 
-fresh-requires : tie.Need-fresh-requires Inv-loop μ-loop
-fresh-requires c κs = search needs
+empty-requires : tie.Need-empty-requires Inv-loop μ-loop
+empty-requires c κs = search needs
 
 loop-holds : tie.Need-loop-holds Inv-loop μ-loop
 loop-holds c = search needs
@@ -126,7 +126,7 @@ main-spec =
     say-requires
     returns
     vacant-requires
-    fresh-requires
+    empty-requires
     loop-holds
     sub-turns
     fill-requires

@@ -14,47 +14,54 @@ use borrow.Author.Needs.{needs}
 use Rattle.gate.proofs.begin.Statement.{statement}
 use Rattle.gate.proofs.begin.Tie as tie
 
--- the decision from what the tests gave: the worker is below p, its register and its mark are known, its group is there, its value fits, it is
--- idle, it may open, it may use its time, and the refusal that its mark meets
-abbrev decided : ℕ → Doing → Bool → Bool → Bool → Bool → Bool → Bool → Bool → ℕ → Gate
-decided w d below known there fits idle opens uses k =
+-- the decision from what the tests gave: the worker is below p, its register and its mark are known, its group is there, its value fits, it has
+-- the right, it is idle, it may open, it may use its time, and the refusal that its mark meets
+abbrev decided : ℕ → Doing → Bool → Bool → Bool → Bool → Bool → Bool → Bool → Bool → ℕ → Gate
+decided w d below known there fits may idle opens uses k =
     cond below
     (cond known
     (cond there
     (cond fits
+    (cond may
     (cond idle (cond opens (cond uses (cond (eqb k 0) (Start w d) (Refuse k)) (Refuse 13)) (Refuse 12)) (Refuse 10))
+    (Refuse 23))
     (Refuse 16))
     (Refuse 17))
     (Refuse 4))
     (Refuse 3)
 
 tests : (c : tie.After-refusal)
-    → let there = c .before .before .before .before .before in
+    → let fits = c .before .before .before .before .before in
+    let there = fits .before in
     let known = there .before .before .before in
     let x = known .before .before .terms-of .result in
     let a = known .before .before .before .args in
     beginGate (a .p) (a .v) (a .worker) (a .o) (a .d) (a .t) (take (a .n) (a .rows .now)) (a .marks .now) (take (a .p) (a .reading .now))
+    (take (a .granted) (a .rights .now))
     ≡ decided (a .worker) (x .first)
     (ltb (known .before .wide8 .result) (a .p))
     (known .named-ok .result && there .before .named-ok2 .result)
     (there .group-ok .result)
-    (c .before .before .before .before .value-ok .result)
+    (fits .value-ok .result)
+    (c .before .before .before .before .is-allowed .result)
     (c .before .before .before .about .result .idle)
     (c .before .before .open-ok .result)
     (c .before .time-ok .result)
     (c .refusal .result)
 unfolding beginGate
 tests c =
-    let there = c .before .before .before .before .before in
+    let fits = c .before .before .before .before .before in
+    let there = fits .before in
     let known = there .before .before .before in
     rw (
       ← known .before .before .terms-of .ensures,
+      ← c .before .before .before .before .is-allowed .ensures,
       ← known .before .wide8 .ensures .0,
       ← known .named-ok .ensures,
       ← there .before .before .mark-of .ensures,
       ← there .before .named-ok2 .ensures,
       ← there .group-ok .ensures,
-      ← c .before .before .before .before .value-ok .ensures,
+      ← fits .value-ok .ensures,
       ← c .before .before .before .about .ensures,
       ← c .before .before .open-ok .ensures,
       ← c .before .time-ok .ensures,
@@ -82,6 +89,9 @@ group-ok-requires c κs = search needs
 value-ok-requires : tie.Need-value-ok-requires
 value-ok-requires c κs = search needs
 
+is-allowed-requires : tie.Need-is-allowed-requires
+is-allowed-requires c κs = search needs
+
 about-requires : tie.Need-about-requires
 about-requires c κs = search needs
 
@@ -99,7 +109,8 @@ returns c =
     let uses = c .before in
     let opens = uses .before in
     let idle = opens .before in
-    let fits = idle .before in
+    let may = idle .before in
+    let fits = may .before in
     let there = fits .before in
     let known = there .before in
     let below = known .before in
@@ -109,10 +120,11 @@ returns c =
       known .if2 .taken,
       there .if3 .taken,
       fits .if4 .taken,
-      idle .if5 .taken,
-      opens .if6 .taken,
-      uses .if7 .taken,
-      eq-eqb _ _ (c .if8 .taken),
+      may .if5 .taken,
+      idle .if6 .taken,
+      opens .if7 .taken,
+      uses .if8 .taken,
+      eq-eqb _ _ (c .if9 .taken),
     )
 
 returns-2 : tie.Need-returns-2
@@ -120,7 +132,8 @@ returns-2 c =
     let uses = c .before in
     let opens = uses .before in
     let idle = opens .before in
-    let fits = idle .before in
+    let may = idle .before in
+    let fits = may .before in
     let there = fits .before in
     let known = there .before in
     let below = known .before in
@@ -130,17 +143,19 @@ returns-2 c =
       known .if2 .taken,
       there .if3 .taken,
       fits .if4 .taken,
-      idle .if5 .taken,
-      opens .if6 .taken,
-      uses .if7 .taken,
-      ne-eqb _ _ (c .if8 .left),
+      may .if5 .taken,
+      idle .if6 .taken,
+      opens .if7 .taken,
+      uses .if8 .taken,
+      ne-eqb _ _ (c .if9 .left),
     )
 
 returns-3 : tie.Need-returns-3
 returns-3 c =
     let opens = c .before in
     let idle = opens .before in
-    let fits = idle .before in
+    let may = idle .before in
+    let fits = may .before in
     let there = fits .before in
     let known = there .before in
     let below = known .before in
@@ -150,15 +165,17 @@ returns-3 c =
       known .if2 .taken,
       there .if3 .taken,
       fits .if4 .taken,
-      idle .if5 .taken,
-      opens .if6 .taken,
-      c .if7 .left,
+      may .if5 .taken,
+      idle .if6 .taken,
+      opens .if7 .taken,
+      c .if8 .left,
     )
 
 returns-4 : tie.Need-returns-4
 returns-4 c =
     let idle = c .before in
-    let fits = idle .before in
+    let may = idle .before in
+    let fits = may .before in
     let there = fits .before in
     let known = there .before in
     let below = known .before in
@@ -168,12 +185,30 @@ returns-4 c =
       known .if2 .taken,
       there .if3 .taken,
       fits .if4 .taken,
-      idle .if5 .taken,
-      c .if6 .left,
+      may .if5 .taken,
+      idle .if6 .taken,
+      c .if7 .left,
     )
 
 returns-5 : tie.Need-returns-5
 returns-5 c =
+    let may = c .before in
+    let fits = may .before in
+    let there = fits .before in
+    let known = there .before in
+    let below = known .before in
+    rw (
+      tests (below .before),
+      below .if1 .taken,
+      known .if2 .taken,
+      there .if3 .taken,
+      fits .if4 .taken,
+      may .if5 .taken,
+      c .if6 .left,
+    )
+
+returns-6 : tie.Need-returns-6
+returns-6 c =
     let fits = c .before in
     let there = fits .before in
     let known = there .before in
@@ -187,8 +222,8 @@ returns-5 c =
       c .if5 .left,
     )
 
-returns-6 : tie.Need-returns-6
-returns-6 c =
+returns-7 : tie.Need-returns-7
+returns-7 c =
     let there = c .before in
     let known = there .before in
     let below = known .before in
@@ -200,8 +235,8 @@ returns-6 c =
       c .if4 .left,
     )
 
-returns-7 : tie.Need-returns-7
-returns-7 c =
+returns-8 : tie.Need-returns-8
+returns-8 c =
     let known = c .before in
     let below = known .before in
     rw (
@@ -211,8 +246,8 @@ returns-7 c =
       c .if3 .left,
     )
 
-returns-8 : tie.Need-returns-8
-returns-8 c =
+returns-9 : tie.Need-returns-9
+returns-9 c =
     let below = c .before in
     rw (
       tests (below .before),
@@ -220,8 +255,8 @@ returns-8 c =
       c .if2 .left,
     )
 
-returns-9 : tie.Need-returns-9
-returns-9 c =
+returns-10 : tie.Need-returns-10
+returns-10 c =
     rw (
       tests (c .before),
       c .if1 .left,
@@ -238,6 +273,7 @@ begin-spec =
     named-ok-requires-2
     group-ok-requires
     value-ok-requires
+    is-allowed-requires
     about-requires
     open-ok-requires
     time-ok-requires
@@ -250,4 +286,5 @@ begin-spec =
     returns-6
     returns-7
     returns-8
-    returns-9)
+    returns-9
+    returns-10)

@@ -37,6 +37,9 @@ marks-long c = search needs
 reading-long : (c : tie.Start) → length (c .args .hub .reading) ≡ 16
 reading-long c = search needs
 
+rights-long : (c : tie.Start) → length (c .args .hub .rights) ≡ 64
+rights-long c = search needs
+
 returns : tie.Need-returns
 returns c =
     let p = c .before .before .before .before .before in
@@ -53,6 +56,7 @@ returns c =
       marks = marks-long (known .before .before);
       reading = reading-long (known .before .before);
       rows = rows-long (known .before .before);
+      rights = rights-long (known .before .before);
       newest = n .lengths-told-arg2 .given .0;
       free = f .lengths-told-arg4 .given .0;
       queue = q .lengths-told-arg6 .given .0;

@@ -8,13 +8,11 @@ use Rattle.hublog.proofs.main.Statement.{statement}
 use Rattle.hublog.proofs.main.Tie as tie
 
 abbrev Inv-loop : tie.InvT-loop
-Inv-loop block₀ text₀ kinds₀ numbers₀ newest₀ free₀ queue₀ lens₀ merged₀ list long row₀ hub₀ first₀ kept₀ turns₀ t32 t33 block
-    text kinds numbers newest free queue lens merged row hub first kept turns =
+Inv-loop block₀ text₀ kinds₀ numbers₀ newest₀ free₀ queue₀ lens₀ merged₀ list long rows row₀ hub₀ first₀ kept₀ turns₀ t42 t43 block text kinds numbers newest free queue lens merged row hub first kept turns =
     kept ≤ length block
 
 abbrev μ-loop : tie.MeasureT-loop
-μ-loop block₀ text₀ kinds₀ numbers₀ newest₀ free₀ queue₀ lens₀ merged₀ list long row₀ hub₀ first₀ kept₀ turns₀ t32 t33 block text
-    kinds numbers newest free queue lens merged row hub first kept turns =
+μ-loop block₀ text₀ kinds₀ numbers₀ newest₀ free₀ queue₀ lens₀ merged₀ list long rows row₀ hub₀ first₀ kept₀ turns₀ t42 t43 block text kinds numbers newest free queue lens merged row hub first kept turns =
     turns
 
 slice-aggregate-block : tie.Need-slice-aggregate-block Inv-loop μ-loop
@@ -44,20 +42,11 @@ say-requires c κs = search needs
 returns : tie.Need-returns Inv-loop μ-loop
 returns c = search needs
 
-slice-aggregate-row : tie.Need-slice-aggregate-row Inv-loop μ-loop
-slice-aggregate-row c = search needs
+slice-aggregate-table : tie.Need-slice-aggregate-table Inv-loop μ-loop
+slice-aggregate-table c = search needs
 
-fresh-requires : tie.Need-fresh-requires Inv-loop μ-loop
-fresh-requires c κs = search needs
-
-loop-holds : tie.Need-loop-holds Inv-loop μ-loop
-loop-holds c = search needs
-
-sub-turns : tie.Need-sub-turns Inv-loop μ-loop
-sub-turns c = search needs
-
-read-after-requires : tie.Need-read-after-requires Inv-loop μ-loop
-read-after-requires c κs = search needs
+read-named-requires-2 : tie.Need-read-named-requires-2 Inv-loop μ-loop
+read-named-requires-2 c κs = search needs
 
 slice-aggregate-say-2 : tie.Need-slice-aggregate-say-2 Inv-loop μ-loop
 slice-aggregate-say-2 c = search needs
@@ -68,11 +57,56 @@ say-requires-2 c κs = search needs
 returns-2 : tie.Need-returns-2 Inv-loop μ-loop
 returns-2 c = search needs
 
-to-log-requires : tie.Need-to-log-requires Inv-loop μ-loop
-to-log-requires c κs = search needs
+slice-aggregate-row : tie.Need-slice-aggregate-row Inv-loop μ-loop
+slice-aggregate-row c = search needs
+
+empty-requires : tie.Need-empty-requires Inv-loop μ-loop
+empty-requires c κs = search needs
+
+sub-give-table-words : tie.Need-sub-give-table-words Inv-loop μ-loop
+sub-give-table-words c = search needs
+
+part-give-table-words-start : tie.Need-part-give-table-words-start Inv-loop μ-loop
+part-give-table-words-start c = search needs
+
+part-give-table-words-end : tie.Need-part-give-table-words-end Inv-loop μ-loop
+part-give-table-words-end c = search needs
+
+give-table-words-requires : tie.Need-give-table-words-requires Inv-loop μ-loop
+give-table-words-requires c κs = search needs
+
+refused-requires : tie.Need-refused-requires Inv-loop μ-loop
+refused-requires c κs = search needs
+
+slice-aggregate-say-3 : tie.Need-slice-aggregate-say-3 Inv-loop μ-loop
+slice-aggregate-say-3 c = search needs
+
+say-requires-3 : tie.Need-say-requires-3 Inv-loop μ-loop
+say-requires-3 c κs = search needs
+
+loop-holds : tie.Need-loop-holds Inv-loop μ-loop
+loop-holds c = search needs
+
+sub-turns : tie.Need-sub-turns Inv-loop μ-loop
+sub-turns c = search needs
+
+read-after-requires : tie.Need-read-after-requires Inv-loop μ-loop
+read-after-requires c κs = search needs
+
+slice-aggregate-say-4 : tie.Need-slice-aggregate-say-4 Inv-loop μ-loop
+slice-aggregate-say-4 c = search needs
+
+say-requires-4 : tie.Need-say-requires-4 Inv-loop μ-loop
+say-requires-4 c κs = search needs
 
 returns-3 : tie.Need-returns-3 Inv-loop μ-loop
 returns-3 c = search needs
+
+to-log-requires : tie.Need-to-log-requires Inv-loop μ-loop
+to-log-requires c κs = search needs
+
+returns-4 : tie.Need-returns-4 Inv-loop μ-loop
+returns-4 c = search needs
 
 sub-log-part : tie.Need-sub-log-part Inv-loop μ-loop
 sub-log-part c = search needs
@@ -81,7 +115,11 @@ part-log-part-start : tie.Need-part-log-part-start Inv-loop μ-loop
 part-log-part-start c = search needs
 
 part-log-part-end : tie.Need-part-log-part-end Inv-loop μ-loop
-part-log-part-end c = search needs
+part-log-part-end c =
+    let l = c .before .before .before .before .before .before .before .before .before .before in
+    let t = l .before .before .before .before .before .before .before .before .before .before .before .before .before in
+    let r = t .before .before .before .before .before .before .before .before .before .before .before .before in
+    search (needs, r .read-named .ensures)
 
 sub-log-part-2 : tie.Need-sub-log-part-2 Inv-loop μ-loop
 sub-log-part-2 c = search needs
@@ -107,17 +145,17 @@ part-write-all-end c = search needs
 write-all-requires : tie.Need-write-all-requires Inv-loop μ-loop
 write-all-requires c κs = search needs
 
-slice-aggregate-say-3 : tie.Need-slice-aggregate-say-3 Inv-loop μ-loop
-slice-aggregate-say-3 c = search needs
+slice-aggregate-say-5 : tie.Need-slice-aggregate-say-5 Inv-loop μ-loop
+slice-aggregate-say-5 c = search needs
 
-say-requires-3 : tie.Need-say-requires-3 Inv-loop μ-loop
-say-requires-3 c κs = search needs
-
-returns-4 : tie.Need-returns-4 Inv-loop μ-loop
-returns-4 c = search needs
+say-requires-5 : tie.Need-say-requires-5 Inv-loop μ-loop
+say-requires-5 c κs = search needs
 
 returns-5 : tie.Need-returns-5 Inv-loop μ-loop
 returns-5 c = search needs
+
+returns-6 : tie.Need-returns-6 Inv-loop μ-loop
+returns-6 c = search needs
 
 wrapping-add-u64-requires : tie.Need-wrapping-add-u64-requires Inv-loop μ-loop
 wrapping-add-u64-requires c κs = search needs
@@ -139,8 +177,8 @@ loop-less c =
 loop-again : tie.Need-loop-again Inv-loop μ-loop
 loop-again c = search needs
 
-returns-6 : tie.Need-returns-6 Inv-loop μ-loop
-returns-6 c = search needs
+returns-7 : tie.Need-returns-7 Inv-loop μ-loop
+returns-7 c = search needs
 
 pub main-spec : {M : Type 1} → statement M
 main-spec =
@@ -157,16 +195,28 @@ main-spec =
     slice-aggregate-say
     say-requires
     returns
-    slice-aggregate-row
-    fresh-requires
-    loop-holds
-    sub-turns
-    read-after-requires
+    slice-aggregate-table
+    read-named-requires-2
     slice-aggregate-say-2
     say-requires-2
     returns-2
-    to-log-requires
+    slice-aggregate-row
+    empty-requires
+    sub-give-table-words
+    part-give-table-words-start
+    part-give-table-words-end
+    give-table-words-requires
+    refused-requires
+    slice-aggregate-say-3
+    say-requires-3
+    loop-holds
+    sub-turns
+    read-after-requires
+    slice-aggregate-say-4
+    say-requires-4
     returns-3
+    to-log-requires
+    returns-4
     sub-log-part
     part-log-part-start
     part-log-part-end
@@ -178,12 +228,12 @@ main-spec =
     part-write-all-start
     part-write-all-end
     write-all-requires
-    slice-aggregate-say-3
-    say-requires-3
-    returns-4
+    slice-aggregate-say-5
+    say-requires-5
     returns-5
+    returns-6
     wrapping-add-u64-requires
     keep-rest-requires
     loop-less
     loop-again
-    returns-6)
+    returns-7)
