@@ -1,9 +1,9 @@
 //! Long random runs with long-lived snapshots: how many old versions the hub keeps in them.
 
 use crate::census::{bound, Census, Counts};
+use crate::markdown::Table;
 use crate::marks::MARKS;
 use crate::store::MAX_SLOTS;
-use crate::table::Table;
 use crate::workload::{Records, Role, Shape, Weights};
 
 /// A random run: half of the workers, rounded up, hold each snapshot for `life` operations of

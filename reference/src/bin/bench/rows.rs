@@ -9,7 +9,7 @@ use crate::{machine, Options};
 use reference::bcd::Way;
 use reference::buffers::valid;
 use reference::generate::Random;
-use reference::table::Table;
+use reference::markdown::Table;
 use std::fs;
 use std::path::Path;
 use std::process::Command;

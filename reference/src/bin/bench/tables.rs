@@ -2,7 +2,7 @@
 
 use crate::compare::WORDS;
 use crate::measured::Measured;
-use reference::table::Table;
+use reference::markdown::Table;
 use reference::workload::Shape;
 
 fn ns(time: f64) -> String {
