@@ -22,7 +22,7 @@ pub enum Refusal {
     Buffer = 7,
     /// 8: not set up.
     NotSetUp = 8,
-    /// 9: setup when set up.
+    /// 9: setup when set up; so is a table of rights (A7).
     SetUp = 9,
     /// 10: begin on a busy worker.
     Busy = 10,
@@ -50,11 +50,15 @@ pub enum Refusal {
     MarkRead = 21,
     /// 22: a new row with another DIF or VIF, or a digit above nine (A6).
     Coding = 22,
+    /// 23: not allowed (A7).
+    Forbidden = 23,
+    /// 24: no table of rights (A7). Given for a table, never for a record.
+    Table = 24,
 }
 
 impl Refusal {
     /// All refusals, in the order of their numbers.
-    pub const ALL: [Refusal; 22] = [
+    pub const ALL: [Refusal; 24] = [
         Refusal::Operation,
         Refusal::UnusedByte,
         Refusal::Worker,
@@ -77,6 +81,8 @@ impl Refusal {
         Refusal::MarkEmpty,
         Refusal::MarkRead,
         Refusal::Coding,
+        Refusal::Forbidden,
+        Refusal::Table,
     ];
 
     /// The refusal's number.

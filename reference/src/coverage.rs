@@ -1,7 +1,8 @@
-//! Which answers, refusals, branches of the steps, sizes of hubs and lists a run reached.
+//! Which answers, refusals, branches of the steps, sizes of hubs, lists and tables a run reached.
 
 use crate::answer::{Answer, Refusal};
 use crate::list::Groups;
+use crate::rights::{Unfit, LAST_REGISTER, MAX_ROWS};
 use crate::store::Store;
 use std::fmt;
 
@@ -24,8 +25,8 @@ impl Observer for () {
 
 macro_rules! branches {
     ($($name:ident $text:literal)*) => {
-        /// A branch of the steps, or of the tests that a put above A1's limit, a total, a list or a
-        /// mark meets, or what is found where a reading is looked for.
+        /// A branch of the steps, or of the tests that a put above A1's limit, a total, a list, a
+        /// mark, a right or a table meets, or what is found where a reading is looked for.
         #[derive(Clone, Copy, Debug, PartialEq, Eq)]
         #[repr(usize)]
         pub enum Branch { $(#[doc = $text] $name,)* }
@@ -186,6 +187,36 @@ branches! {
     TotalNone "total (2) adds 0 for no reading, no put since"
     TotalNoneSince "total (2) adds 0 for no reading, a put since"
     TotalZero "total (2) adds a put of 0"
+    PutForbidden "a put gets 23"
+    ReadForbidden "a read gets 23"
+    GetForbidden "a get gets 23"
+    CollectForbidden "a collect gets 23"
+    TotalForbidden "a total gets 23"
+    MarkForbidden "a mark gets 23"
+    ReleaseForbidden "a release gets 23"
+    MarkedForbidden "a marked read gets 23"
+    ForbiddenBusy "a busy worker gets 23"
+    ForbiddenNoSnapshot "a read, total or mark gets 23 without a snapshot"
+    ForbiddenMark "a mark, release or marked read gets 23 where its mark would refuse it too"
+    ForbiddenNoRows "a worker without rows gets 23"
+    ForbiddenNoRight "a worker whose rows have no right at all gets 23"
+    ForbiddenBeside "a worker gets 23 one register beside a row that has the right"
+    LargeForbidden "a put above the limit gets 16, and has no right"
+    AboveForbidden "a register from V on gets 4, and its worker has no right there"
+    TotalLaterForbidden "a total gets 23 for a register after its first, which it may read"
+    TotalJoined "a total begins by several rows, none of which has all its registers"
+    MarksJoined "a mark or release begins by several rows, none of which has every register"
+    MarksOneForbidden "a mark or release gets 23 for one register alone"
+    CollectBeyond "a collect begins by rows of registers from V on alone"
+    RightJoined "an operation begins on a register that another row of its worker gives without the right"
+    RightAtEnd "an operation begins on the first or last register of the only row with the right"
+    TablePart "a table gets 24 for a part of a row"
+    TableRights "a table gets 24 for rights above 15"
+    TablePair "a table gets 24 for a last pair that is not zero"
+    TableWorker "a table gets 24 for a worker above 15"
+    TableLast "a table gets 24 for a last register above 255"
+    TableFalling "a table gets 24 for a first register above the last"
+    TableMany "a table gets 24 for more than 64 rows"
 }
 
 impl Branch {
@@ -251,6 +282,29 @@ impl Branch {
         Branch::from_to(Branch::GetNone, Branch::TotalZero)
     }
 
+    /// Those of 23, and of operations that several rows allow.
+    pub fn of_rights() -> impl Iterator<Item = Branch> {
+        Branch::from_to(Branch::PutForbidden, Branch::RightAtEnd)
+    }
+
+    /// Those of a table that gets 24.
+    pub fn of_tables() -> impl Iterator<Item = Branch> {
+        Branch::from_to(Branch::TablePart, Branch::TableMany)
+    }
+
+    /// That of a table that gets 24 for this reason.
+    pub(crate) fn of_table(unfit: Unfit) -> Branch {
+        match unfit {
+            Unfit::Part => Branch::TablePart,
+            Unfit::Rights => Branch::TableRights,
+            Unfit::Pair => Branch::TablePair,
+            Unfit::Worker => Branch::TableWorker,
+            Unfit::Last => Branch::TableLast,
+            Unfit::Falling => Branch::TableFalling,
+            Unfit::Many => Branch::TableMany,
+        }
+    }
+
     /// Those from one to another, both included.
     fn from_to(first: Branch, last: Branch) -> impl Iterator<Item = Branch> {
         let all = Branch::ALL.iter().map(|&(branch, _)| branch);
@@ -292,6 +346,29 @@ const LISTS: [Lists; 7] = [
     ("the longest list", |groups| groups.all().len() == 1024),
 ];
 
+/// Tables that stood at a setup: what they are called, and which are meant.
+type Tables = (&'static str, fn(&Store) -> bool);
+
+const TABLES: [Tables; 9] = [
+    ("no table", |store| store.rights.rows().is_empty()),
+    ("a table", |store| !store.rights.rows().is_empty()),
+    ("a table of one row", |store| store.rights.rows().len() == 1),
+    ("a table of 64 rows", |store| store.rights.rows().len() == MAX_ROWS),
+    ("a row of no right", |store| store.rights.rows().iter().any(|row| row.rights == 0)),
+    ("a row of a worker from P on", |store| {
+        store.rights.rows().iter().any(|row| usize::from(row.worker) >= store.workers.len())
+    }),
+    ("a row of registers from V on", |store| {
+        store.rights.rows().iter().any(|row| usize::from(row.first) >= store.newest.len())
+    }),
+    ("a row of all registers", |store| {
+        store.rights.rows().iter().any(|row| (row.first, row.last) == (0, LAST_REGISTER))
+    }),
+    ("a table with a list", |store| {
+        !store.rights.rows().is_empty() && !store.groups.all().is_empty()
+    }),
+];
+
 /// Counts of everything a run reached.
 #[derive(Clone, Debug)]
 pub struct Coverage {
@@ -305,6 +382,8 @@ pub struct Coverage {
     pub sizes: [u64; SIZES.len()],
     /// By lists, as in `LISTS`: setups that were accepted.
     pub lists: [u64; LISTS.len()],
+    /// By tables, as in `TABLES`: setups that were accepted.
+    pub tables: [u64; TABLES.len()],
 }
 
 impl Default for Coverage {
@@ -315,6 +394,7 @@ impl Default for Coverage {
             branches: [0; Branch::ALL.len()],
             sizes: [0; SIZES.len()],
             lists: [0; LISTS.len()],
+            tables: [0; TABLES.len()],
         }
     }
 }
@@ -331,6 +411,9 @@ impl Observer for Coverage {
         }
         for (count, (_, meant)) in self.lists.iter_mut().zip(LISTS) {
             *count += u64::from(meant(&store.groups));
+        }
+        for (count, (_, meant)) in self.tables.iter_mut().zip(TABLES) {
+            *count += u64::from(meant(store));
         }
     }
 }
@@ -374,14 +457,15 @@ impl Coverage {
         each(&mut self.branches, &other.branches);
         each(&mut self.sizes, &other.sizes);
         each(&mut self.lists, &other.lists);
+        each(&mut self.tables, &other.tables);
     }
 
-    /// Every count with its name. Refusals 7 and 22 are of rows and have no part in a log.
+    /// Every count with its name. Refusals 7, 22 and 24 are of rows and tables: no log has them.
     pub fn counts(&self) -> Vec<(String, u64)> {
         let answers = Self::ANSWERS.iter().zip(self.answers);
         let answers = answers.map(|(name, n)| (format!("answer {name}"), n));
-        let of_rows = [Refusal::Buffer, Refusal::Coding];
-        let refusals = Refusal::ALL.iter().filter(|refusal| !of_rows.contains(refusal));
+        let in_no_log = [Refusal::Buffer, Refusal::Coding, Refusal::Table];
+        let refusals = Refusal::ALL.iter().filter(|refusal| !in_no_log.contains(refusal));
         let refusals = refusals.map(|r| {
             let number = r.number();
             (format!("no {number}"), self.refusals[usize::from(number)])
@@ -390,7 +474,9 @@ impl Coverage {
         let branches = branches.map(|((_, text), n)| (text.to_string(), n));
         let sizes = SIZES.iter().zip(self.sizes).map(|((name, _), n)| (name.to_string(), n));
         let lists = LISTS.iter().zip(self.lists).map(|((name, _), n)| (name.to_string(), n));
-        answers.chain(refusals).chain(branches).chain(sizes).chain(lists).collect()
+        let tables = TABLES.iter().zip(self.tables).map(|((name, _), n)| (name.to_string(), n));
+        let at_setup = sizes.chain(lists).chain(tables);
+        answers.chain(refusals).chain(branches).chain(at_setup).collect()
     }
 
     /// What was never reached.

@@ -17,8 +17,8 @@ use crate::store::{Doing, Store};
 use std::collections::HashSet;
 use std::hash::{BuildHasherDefault, Hasher};
 
-/// The hub to explore: its setup with a list, the values of puts, and how many marks are used. In
-/// each state every record is taken with each of `max_values` as the largest value that a put may
+/// The hub to explore: its setup with a list and a table, the values of puts, and how many marks are
+/// used. In each state every record is taken with each of `max_values` as the largest value that a put may
 /// bring.
 #[derive(Clone, Copy, Debug)]
 pub struct Size {
@@ -27,6 +27,7 @@ pub struct Size {
     pub slots: u16,
     pub clock: u32,
     pub list: &'static [u8],
+    pub table: &'static [u8],
     pub values: &'static [u64],
     pub max_values: &'static [u64],
     pub marks: u8,
@@ -43,6 +44,7 @@ pub struct Explored {
 /// fault breaks the invariant soon; without `invariants` only demand 3 and the refusals count.
 pub fn explore<F: Fault + Clone>(size: Size, invariants: bool) -> Result<Explored, String> {
     let mut hub = Hub::<F>::with_row(usize::from(size.slots));
+    hub.give_table(size.table).map_err(|refusal| format!("the table gets {refusal:?}"))?;
     let Size { workers, registers, slots, clock, .. } = size;
     let setup = Record::Setup { workers, registers, slots, clock };
     if hub.take_record(setup, size.list) != Answer::Ok {

@@ -180,6 +180,53 @@ faults! {
     DigitTen DIGIT_TEN
     /// A6: judges the first eight bytes: refuses a row whose two bytes after the register are not zero.
     FirstBytesJudged FIRST_BYTES_JUDGED
+
+    /// A7: of a worker's rows the last alone counts.
+    LastRowOnly LAST_ROW_ONLY
+    /// A7: on each register the last of a worker's rows that has it counts alone.
+    RowReplaces ROW_REPLACES
+    /// A7: joins the rights of a worker's rows whatever their registers, and gives them on all of these.
+    RightsSpread RIGHTS_SPREAD
+    /// A7: leaves the first register of a row out.
+    FirstExcluded FIRST_EXCLUDED
+    /// A7: leaves the last register of a row out.
+    LastExcluded LAST_EXCLUDED
+    /// A7: allows a total by read on its first register.
+    TotalFirstOnly TOTAL_FIRST_ONLY
+    /// A7: allows a mark or release by marks on one register.
+    MarksOneRegister MARKS_ONE_REGISTER
+    /// A7: allows a mark or release by one row with marks on every register, and by no two.
+    MarksOneRow MARKS_ONE_ROW
+    /// A7: a collect needs its right on every register below V.
+    CollectEverywhere COLLECT_EVERYWHERE
+    /// A7: a get needs no right.
+    GetFree GET_FREE
+    /// A7: a marked read needs marks in place of read.
+    MarkedByMarks MARKED_BY_MARKS
+    /// A7: tests 23 before 4.
+    ForbiddenBeforeRegister FORBIDDEN_BEFORE_REGISTER
+    /// A7: tests 23 before 16.
+    ForbiddenBeforeValue FORBIDDEN_BEFORE_VALUE
+    /// A7: tests 23 after 10.
+    ForbiddenAfterBusy FORBIDDEN_AFTER_BUSY
+    /// A7: an empty table forbids all.
+    EmptyForbids EMPTY_FORBIDS
+    /// A7: allows a worker without rows everything.
+    NoRowsAllowed NO_ROWS_ALLOWED
+    /// A7: a refused table clears the earlier one.
+    RefusedClears REFUSED_CLEARS
+    /// A7: adds a table's rows to the earlier one's.
+    TablesJoined TABLES_JOINED
+    /// A7: tests 24 before 9.
+    TableFirst TABLE_FIRST
+    /// A7: a new call keeps the table.
+    TableKept TABLE_KEPT
+    /// A7: accepts 65 rows.
+    Row65 ROW_65
+    /// A7: does not test a row's last two bytes.
+    PairUntested PAIR_UNTESTED
+    /// A7: accepts a row whose first register is above its last.
+    OrderUntested ORDER_UNTESTED
 }
 
 /// The largest value that a put may bring, or what a fault takes for it.

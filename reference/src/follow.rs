@@ -7,15 +7,19 @@ use crate::fault::Right;
 use crate::list::{Groups, Row};
 use crate::order::{Action, Claim, Held, Operation, Order, Outcome, Step, Violation};
 use crate::record::{Record, LENGTH};
+use crate::rights::{self, permits, Need};
 use std::fmt;
 
 /// The order as far as the records can be followed, and why no further.
 pub(crate) fn follow(
     file: &[u8],
     list: &[u8],
+    table: &[u8],
     answers: &[Answer],
 ) -> (Order, Result<(), Violation>) {
-    let mut follower = Follower { list, ..Follower::default() };
+    // A table that is refused leaves all allowed.
+    let table = rights::read::<Right>(table).unwrap_or_default();
+    let mut follower = Follower { list, table, ..Follower::default() };
     let followed = follower.follow(file, answers);
     (follower.order, followed)
 }
@@ -51,6 +55,7 @@ struct Worker {
 #[derive(Default)]
 struct Follower<'a> {
     list: &'a [u8],
+    table: Vec<rights::Row>,
     order: Order,
     record: usize,
     clock: u32,
@@ -198,6 +203,11 @@ impl Follower<'_> {
             if self.order.groups.rows(group).is_empty() {
                 return self.unfit(format!("group {group} has no rows"));
             }
+        }
+        let Order { registers, groups, .. } = &self.order;
+        if !permits(&self.table, worker, need(action), *registers, groups) {
+            let sentence = format!("worker {worker} has no right to its {action}, and begins it");
+            return self.unfit(sentence);
         }
         let operation = Some(self.order.operations.len());
         let begun = Worker { operation, steps: 0, rows: 0, standing: None, ..*state };
@@ -464,6 +474,19 @@ impl Follower<'_> {
         self.free.push(slot);
         self.order.freed += 1;
         Ok(())
+    }
+}
+
+/// What an operation needs a right for.
+fn need(action: Action) -> Need {
+    match action {
+        Action::Put { register, .. } => Need::Put(register),
+        Action::Read { register } | Action::Get { register } => Need::Read(register),
+        Action::Marked { register, .. } => Need::Read(register),
+        Action::Total { group } => Need::Total(group),
+        Action::Collect => Need::Collect,
+        Action::Mark { .. } | Action::Release { .. } => Need::Marks,
+        Action::Open | Action::Close => Need::Nothing,
     }
 }
 

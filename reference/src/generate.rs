@@ -1,14 +1,16 @@
-//! Seeded random scripts with their lists. A kind says what a script has much of; the hub runs
+//! Seeded random scripts with their lists and tables. A kind says what a script has much of; the hub runs
 //! alongside, so that most records are accepted and the rest are refused on purpose.
 
 use crate::answer::Answer;
-use crate::fault::Right;
+use crate::coverage::Observer;
+use crate::fault::{Fault, Right};
 use crate::hub::Hub;
 use crate::list::{Groups, GROUPS};
 use crate::log;
 use crate::marks::MARKS;
 use crate::profile::{Marking, Profile, Weights};
 use crate::record::{Record, LAST_OPERATION, LENGTH};
+use crate::rights::Need;
 use crate::store::{Doing, Store, MAX_REGISTERS, MAX_SLOTS, MAX_VALUE, MAX_WORKERS};
 
 /// A small random number generator (splitmix64).
@@ -108,10 +110,12 @@ pub enum Kind {
     Held,
     /// Few puts, so that many registers have no reading yet, and first ones meet those who read.
     Empty,
+    /// Tables of rights, three in ten of them unfit, and records that they forbid.
+    Rights,
 }
 
 impl Kind {
-    pub const ALL: [(Kind, &'static str); 21] = [
+    pub const ALL: [(Kind, &'static str); 22] = [
         (Kind::Uniform, "uniform"),
         (Kind::Mixed, "mixed"),
         (Kind::Slots, "slots"),
@@ -133,6 +137,7 @@ impl Kind {
         (Kind::Marks, "marks"),
         (Kind::Held, "held"),
         (Kind::Empty, "empty"),
+        (Kind::Rights, "rights"),
     ];
 
     /// The kind with this name.
@@ -142,24 +147,36 @@ impl Kind {
     }
 }
 
-/// The records of a script, and the list that is lent with each of them; empty where it is missing.
-#[derive(Clone, Debug, PartialEq, Eq)]
+/// The records of a script, the list that is lent with each of them, and the table that is given
+/// before the first; empty where they are missing.
+#[derive(Clone, Debug, Default, PartialEq, Eq)]
 pub struct Script {
     pub records: Vec<u8>,
     pub list: Vec<u8>,
+    pub table: Vec<u8>,
 }
 
 impl Script {
-    /// These records without a list.
+    /// These records without a list and without a table.
     pub fn plain(records: Vec<u8>) -> Script {
-        Script { records, list: Vec::new() }
+        Script { records, ..Script::default() }
+    }
+
+    /// Gives the table to a hub. Where it is refused, the one before stays.
+    pub fn give<F: Fault, O: Observer>(&self, hub: &mut Hub<F, O>) {
+        let _ = hub.give_table(&self.table);
     }
 
     /// The hub's answers.
     pub fn answers(&self) -> Vec<Answer> {
-        log::answers(&mut Hub::new(), &self.records, &self.list)
+        let mut hub = Hub::new();
+        self.give(&mut hub);
+        log::answers(&mut hub, &self.records, &self.list)
     }
 }
+
+/// Tables are drawn from numbers of their own: a script without one is as if there were none.
+const TABLES: u64 = 0x00a7_0000_0000_0000;
 
 /// A script of `count` records, the last one maybe short.
 pub fn script(kind: Kind, seed: u64, count: usize) -> Script {
@@ -170,14 +187,16 @@ pub fn script(kind: Kind, seed: u64, count: usize) -> Script {
 /// `max_value` and the others with A1's accepts most of both.
 pub fn script_across(kind: Kind, seed: u64, count: usize, before: usize) -> Script {
     let mut random = Random::new(seed ^ (kind as u64) << 56);
+    let mut rights = Random::new(seed ^ (kind as u64) << 56 ^ TABLES);
     let mut file = Vec::with_capacity(count * LENGTH);
-    let list = if kind == Kind::Uniform {
+    let any = |random: &mut Random| (0..random.below(40)).map(|_| random.bits() as u8).collect();
+    let (list, table) = if kind == Kind::Uniform {
         file.extend((0..count * LENGTH).map(|_| random.bits() as u8));
-        (0..random.below(40)).map(|_| random.bits() as u8).collect()
+        (any(&mut random), any(&mut rights))
     } else {
-        let mut writer = Writer::new(kind, &mut random);
+        let mut writer = Writer::new(kind, &mut random, &mut rights);
         writer.write(&mut file, count, before, &mut random);
-        writer.list
+        (writer.list, writer.table)
     };
     let tail = match kind {
         Kind::Tails => true,
@@ -187,7 +206,7 @@ pub fn script_across(kind: Kind, seed: u64, count: usize, before: usize) -> Scri
     if tail && !file.is_empty() {
         file.truncate(file.len() - random.between(1, LENGTH as u64 - 1) as usize);
     }
-    Script { records: file, list }
+    Script { records: file, list, table }
 }
 
 /// Writes one script, with the hub beside it.
@@ -198,6 +217,7 @@ struct Writer {
     registers: u64,
     setup: Record,
     list: Vec<u8>,
+    table: Vec<u8>,
     /// The groups that have rows.
     groups: Vec<u16>,
     /// The marks that are used are below this.
@@ -207,7 +227,7 @@ struct Writer {
 }
 
 impl Writer {
-    fn new(kind: Kind, random: &mut Random) -> Writer {
+    fn new(kind: Kind, random: &mut Random, rights: &mut Random) -> Writer {
         let profile = Profile::of(kind);
         let mut from = |(low, high)| random.between(low, high);
         let (workers, registers) = (from(profile.workers), from(profile.registers));
@@ -216,9 +236,13 @@ impl Writer {
         let list = profile.list.list(registers as u16, random);
         let rows = Groups::read::<Right>(&list, registers as u16).unwrap_or_default();
         let marks = random.between(profile.marking.marks.0, profile.marking.marks.1);
+        let table = profile.table.table(workers as u8, registers as u16, rights);
+        let mut hub = Hub::new();
+        // Where it is refused, all is allowed.
+        let _ = hub.give_table(&table);
         Writer {
             profile,
-            hub: Hub::new(),
+            hub,
             workers,
             registers,
             setup: Record::Setup {
@@ -228,6 +252,7 @@ impl Writer {
                 clock: clock as u32,
             },
             list,
+            table,
             groups: (0..GROUPS as u16).filter(|&group| !rows.rows(group).is_empty()).collect(),
             marks,
             still: [0; MAX_WORKERS],
@@ -301,8 +326,21 @@ impl Writer {
         falls
     }
 
-    /// A record that the worker's state allows.
+    /// A record that the worker's state allows, and mostly its rights too.
     fn accepted(&mut self, worker: u8, random: &mut Random) -> Record {
+        let mut record = self.of_state(worker, random);
+        for _ in 0..8 {
+            let allowed = self.store().rights.allow(worker, Need::of(record));
+            if allowed || random.chance(100) {
+                break;
+            }
+            record = self.of_state(worker, random);
+        }
+        record
+    }
+
+    /// A record that the worker's state allows.
+    fn of_state(&mut self, worker: u8, random: &mut Random) -> Record {
         let record = &self.store().workers[usize::from(worker)];
         if record.doing != Doing::Idle {
             return Record::Step { worker };

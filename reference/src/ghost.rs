@@ -6,6 +6,7 @@ use crate::invariant::{ensure, holds, list, slot};
 use crate::list::Row;
 use crate::marks::MARKS;
 use crate::record::Record;
+use crate::rights::{permits, Need};
 use crate::store::{Doing, Slot, Store, LAST_CLOCK, MAX_VALUE};
 
 /// The plain registers and copies, kept up by watching the store before and after each record. A
@@ -268,12 +269,16 @@ impl Ghost {
             _ => None,
         };
         let no_mark = marking.is_some_and(|(mark, _)| usize::from(mark) >= MARKS);
+        let (rows, registers) = (before.rights.rows(), before.newest.len() as u16);
+        let permitted = permits(rows, worker, Need::of(record), registers, &before.groups);
         let expected = if no_mark {
             Answer::No(Refusal::Register)
         } else if too_large {
             Answer::No(Refusal::Value)
         } else if no_rows {
             Answer::No(Refusal::Group)
+        } else if !permitted {
+            Answer::No(Refusal::Forbidden)
         } else if state.doing != Doing::Idle {
             Answer::No(Refusal::Busy)
         } else if open && state.announced.is_some() {

@@ -1,10 +1,11 @@
 //! The hub: a store once it is set up, and the answer to each record.
 
 use crate::answer::{Answer, Refusal};
-use crate::coverage::Observer;
+use crate::coverage::{Branch, Observer};
 use crate::fault::{Fault, Right};
 use crate::list::Groups;
 use crate::record::Record;
+use crate::rights::{self, Rights, Row};
 use crate::store::{Store, MAX_SLOTS, MAX_VALUE};
 use std::marker::PhantomData;
 
@@ -13,6 +14,8 @@ use std::marker::PhantomData;
 pub struct Hub<F: Fault = Right, O: Observer = ()> {
     pub(crate) row_length: usize,
     pub(crate) store: Option<Store>,
+    /// The rows of the table that stands (A7); none allow all.
+    table: Vec<Row>,
     /// The largest value that a put may bring: `MAX_VALUE`. Before A1 it was `u64::MAX`; a hub that
     /// starts with that keeps, when this changes, the store that the records so far have left.
     pub max_value: u64,
@@ -37,7 +40,8 @@ impl<F: Fault, O: Observer + Default> Hub<F, O> {
     /// A hub that is not set up, with a row of so many slots.
     pub fn with_row(row_length: usize) -> Hub<F, O> {
         let (store, observer) = (None, O::default());
-        Hub { row_length, store, max_value: MAX_VALUE, observer, fault: PhantomData }
+        let table = Vec::new();
+        Hub { row_length, store, table, max_value: MAX_VALUE, observer, fault: PhantomData }
     }
 }
 
@@ -47,8 +51,36 @@ impl<F: Fault, O: Observer> Hub<F, O> {
         self.store.as_ref()
     }
 
+    /// Takes a table of rights in place of the earlier one: 9, then 24, with which that stays.
+    pub fn give_table(&mut self, table: &[u8]) -> Result<(), Refusal> {
+        let read = rights::read::<F>(table);
+        if self.store.is_some() && !(F::TABLE_FIRST && read.is_err()) {
+            return Err(Refusal::SetUp);
+        }
+        match read {
+            Ok(mut rows) if F::TABLES_JOINED => self.table.append(&mut rows),
+            Ok(rows) => self.table = rows,
+            Err(unfit) => {
+                self.observer.branch(Branch::of_table(unfit));
+                if F::REFUSED_CLEARS {
+                    self.table.clear();
+                }
+                return Err(Refusal::Table);
+            }
+        }
+        Ok(())
+    }
+
+    /// Empties the hub of its setup and of all tables; a table and a setup may be given anew.
+    pub fn empty(&mut self) {
+        self.store = None;
+        if !F::TABLE_KEPT {
+            self.table.clear();
+        }
+    }
+
     /// Takes one record's bytes, with the list that is lent with them. Refusals on reading come in the
-    /// order 6, 1, 2, 8 or 9, 5, 3, 4 or 17, 16, then 10 or 11, then 12 or 13, then 19, 20 or 21.
+    /// order 6, 1, 2, 8 or 9, 5, 3, 4 or 17, 16, 23, then 10 or 11, then 12 or 13, then 19, 20 or 21.
     #[inline]
     pub fn take(&mut self, bytes: &[u8], list: &[u8]) -> Answer {
         match Record::decode(bytes) {
@@ -74,7 +106,10 @@ impl<F: Fault, O: Observer> Hub<F, O> {
                 let store = groups.and_then(|groups| {
                     Store::set_up(self.row_length, workers, registers, slots, clock, groups)
                 });
-                store.map(|store| {
+                store.map(|mut store| {
+                    let workers = store.workers.len();
+                    let rights = Rights::new::<F>(&self.table, workers, registers, &store.groups);
+                    store.rights = rights;
                     self.observer.set_up(&store);
                     self.store = Some(store);
                     Answer::Ok

@@ -1,5 +1,5 @@
 //! An independent reading of document 01 and of the requests of document 02 that have landed (A1 to
-//! A3, A5 and A6): the hub's snapshot store, its log, its rows, and the tools that check them.
+//! A3 and A5 to A7): the hub's snapshot store, its log, its rows, and the tools that check them.
 //!
 //! Each module has one topic. `hub` answers records over the `store`; `steps`, `flush` and `marks`
 //! are what its workers do. `order` is the checker of demand 3 and shares no code with them;
@@ -30,10 +30,13 @@ pub mod plot;
 pub mod pool;
 mod profile;
 pub mod record;
+pub mod rights;
+mod rights_asked;
 pub mod row;
 pub mod space;
 mod steps;
 pub mod store;
+pub mod tables;
 pub mod text;
 pub mod timeline;
 pub mod workload;

@@ -4,6 +4,7 @@ use crate::answer::{Answer, Refusal};
 use crate::coverage::{Branch, Observer};
 use crate::fault::Fault;
 use crate::observe::observe_reading;
+use crate::rights::Need;
 use crate::store::{Doing, Store};
 
 /// Marks are below this.
@@ -22,11 +23,11 @@ impl Store {
         }
     }
 
-    /// Begins a mark: 3, 4, 10, 13, then 19.
+    /// Begins a mark: 3, 4, 23, 10, 13, then 19.
     pub(crate) fn begin_mark<F: Fault>(&mut self, worker: u8, mark: u16) -> Result<(), Refusal> {
         let mark = self.mark_for::<F>(worker, mark)?;
         let used = self.holds(mark);
-        let state = self.idle_for(worker, 0)?;
+        let state = self.idle_for::<F>(worker, 0, Need::Marks)?;
         if F::USED_BEFORE_SNAPSHOT && used {
             return Err(Refusal::MarkUsed);
         }
@@ -40,16 +41,16 @@ impl Store {
         Ok(())
     }
 
-    /// Begins a release: 3, 4, 10, 20, then 21.
+    /// Begins a release: 3, 4, 23, 10, 20, then 21.
     pub(crate) fn begin_release<F: Fault>(&mut self, worker: u8, mark: u16) -> Result<(), Refusal> {
         let mark = self.mark_for::<F>(worker, mark)?;
-        self.idle_for(worker, 0)?;
+        self.idle_for::<F>(worker, 0, Need::Marks)?;
         self.test_release::<F>(mark)?;
         self.workers[usize::from(worker)].doing = Doing::Release { mark };
         Ok(())
     }
 
-    /// Begins a marked read: 3, 4 for its register or its mark, 10, then 20.
+    /// Begins a marked read: 3, 4 for its register or its mark, 23, 10, then 20.
     pub(crate) fn begin_marked<F: Fault>(
         &mut self,
         worker: u8,
@@ -59,7 +60,8 @@ impl Store {
         self.worker_for(worker, register)?;
         let mark = self.mark_for::<F>(worker, u16::from(mark))?;
         let empty = !self.holds(mark);
-        let state = self.idle_for(worker, register)?;
+        let need = if F::MARKED_BY_MARKS { Need::Marks } else { Need::Read(register) };
+        let state = self.idle_for::<F>(worker, register, need)?;
         if empty {
             return Err(Refusal::MarkEmpty);
         }

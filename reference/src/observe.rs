@@ -1,5 +1,5 @@
 //! What an observer is told of the tests that a record meets on reading: of puts above A1's limit,
-//! totals, lists and marks; and of what is found where a reading is looked for.
+//! totals, lists, marks and, in `rights_asked`, rights; and of what is found where a reading is looked for.
 
 use crate::answer::{Answer, Refusal};
 use crate::coverage::{Branch, Observer};
@@ -8,6 +8,7 @@ use crate::hub::Hub;
 use crate::list::{Groups, Row, Unfit, GROUPS, MAX_LENGTH, MAX_ROWS};
 use crate::marks::MARKS;
 use crate::record::Record;
+use crate::rights_asked::Asked;
 use crate::store::{Doing, Slot, Store};
 
 /// Tells what a get, a read, a marked read or a total finds at a version, by these branches: no
@@ -29,6 +30,7 @@ pub(crate) fn observe_reading<O: Observer>(
 impl<F: Fault, O: Observer> Hub<F, O> {
     /// Tells the observer of a record that was taken.
     pub(crate) fn observe(&mut self, record: Record, list: &[u8], result: Result<Answer, Refusal>) {
+        self.observe_right(record, result);
         match record {
             Record::Put { worker, value, .. } => self.observe_put(worker, value, result),
             Record::Total { worker, group } => self.observe_total(worker, group, result),
@@ -37,6 +39,13 @@ impl<F: Fault, O: Observer> Hub<F, O> {
             Record::Release { worker, mark } => self.observe_release(worker, mark, result),
             Record::Marked { worker, mark, .. } => self.observe_marked(worker, mark, result),
             _ => {}
+        }
+    }
+
+    /// Which rows a record meets where there is a table.
+    fn observe_right(&mut self, record: Record, result: Result<Answer, Refusal>) {
+        if let Some(store) = self.store.as_ref().filter(|store| !store.rights.rows().is_empty()) {
+            Asked::new(store, record).observe(result, &mut self.observer);
         }
     }
 

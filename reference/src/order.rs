@@ -1,4 +1,4 @@
-//! The checker of demand 3. It sees only the records, the list and the answers.
+//! The checker of demand 3. It sees only the records, the list, the table and the answers.
 //!
 //! It follows the operations from the setup through the records, places each at its effect, feeds
 //! the plain registers in that order, and compares. It shares no code with the hub's steps.
@@ -222,18 +222,29 @@ impl fmt::Display for Violation {
 
 impl std::error::Error for Violation {}
 
-/// Checks demand 3 for a file of records, the list that is lent with each, and the answers to them. The
-/// violation given is the one with the lowest record number.
-pub fn check(file: &[u8], list: &[u8], answers: &[Answer]) -> Result<Order, Violation> {
-    match examine(file, list, answers) {
+/// Checks demand 3 for a file of records, the list that is lent with each, the table that was given
+/// before the first, and the answers to them. The violation given is the one with the lowest record
+/// number.
+pub fn check(
+    file: &[u8],
+    list: &[u8],
+    table: &[u8],
+    answers: &[Answer],
+) -> Result<Order, Violation> {
+    match examine(file, list, table, answers) {
         (_, Some(violation)) => Err(violation),
         (order, None) => Ok(order),
     }
 }
 
 /// The order as far as the records can be followed, and what `check` finds wrong with it.
-pub fn examine(file: &[u8], list: &[u8], answers: &[Answer]) -> (Order, Option<Violation>) {
-    let (mut order, followed) = follow(file, list, answers);
+pub fn examine(
+    file: &[u8],
+    list: &[u8],
+    table: &[u8],
+    answers: &[Answer],
+) -> (Order, Option<Violation>) {
+    let (mut order, followed) = follow(file, list, table, answers);
     replay(&mut order);
     let found = followed.err().into_iter().chain(order.violation());
     let violation = found.min_by_key(|found| found.record);

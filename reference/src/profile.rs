@@ -3,6 +3,7 @@
 use crate::generate::Kind;
 use crate::lists::Habit;
 use crate::store::{LAST_CLOCK, MAX_REGISTERS, MAX_SLOTS};
+use crate::tables;
 
 /// Weights of the operations that an idle worker may begin.
 #[derive(Clone, Copy, Debug)]
@@ -33,6 +34,7 @@ pub struct Profile {
     pub spare: (u64, u64),
     pub clock: (u64, u64),
     pub list: Habit,
+    pub table: tables::Habit,
     pub weights: Weights,
     /// The weight of a total beside them.
     pub total: u64,
@@ -59,6 +61,7 @@ const MIXED: Profile = Profile {
     spare: (0, 60),
     clock: (1, 1000),
     list: Habit { missing: 250, unfit: 20, groups: (1, 4), rows: (1, 5) },
+    table: tables::Habit { missing: 700, unfit: 200 },
     weights: Weights { put: 40, open: 12, read: 20, close: 8, get: 10, collect: 6 },
     total: 8,
     marking: Marking { mark: 6, release: 3, marked: 8, marks: (1, 12) },
@@ -226,6 +229,17 @@ impl Profile {
                 burst: 2,
                 stall: 200,
                 stillness: 60,
+                ..MIXED
+            },
+            Kind::Rights => Profile {
+                workers: (2, 6),
+                registers: (1, 12),
+                spare: (4, 40),
+                list: Habit { missing: 100, unfit: 10, groups: (1, 6), rows: (1, 4) },
+                table: tables::Habit { missing: 20, unfit: 300 },
+                total: 20,
+                marking: Marking { mark: 16, release: 8, marked: 16, marks: (1, 4) },
+                invalid: 150,
                 ..MIXED
             },
         }

@@ -2,12 +2,13 @@
 
 use crate::answer::{Answer, Refusal};
 use crate::coverage::{Branch, Observer};
-use crate::fault::{self, Fault};
+use crate::fault::{self, Fault, Right};
 use crate::flush;
 use crate::list::{Groups, Place};
 use crate::marks::MARKS;
 use crate::pool::{batch_size, Queue, Range, MAX_BATCH};
 use crate::record::Record;
+use crate::rights::{Need, Rights};
 
 /// Most workers.
 pub const MAX_WORKERS: usize = 16;
@@ -153,6 +154,8 @@ pub struct Store {
     pub clock: u32,
     /// The rows of the list that came with the setup.
     pub groups: Groups,
+    /// What each worker may do.
+    pub rights: Rights,
     /// One record for each of the P workers.
     pub workers: Vec<Worker>,
     /// The time that each mark holds; none where it is empty.
@@ -169,7 +172,7 @@ pub struct Store {
 }
 
 impl Store {
-    /// The store at setup, or 5.
+    /// The store at setup, or 5. Every worker may do all.
     pub fn set_up(
         row_length: usize,
         workers: u8,
@@ -192,6 +195,7 @@ impl Store {
         Ok(Store {
             batch: batch_size(usize::from(workers)),
             clock,
+            rights: Rights::new::<Right>(&[], usize::from(workers), registers, &groups),
             groups,
             workers: (0..workers).map(|_| Worker::start()).collect(),
             marks: [None; MARKS],
@@ -219,13 +223,17 @@ impl Store {
             Record::Put { worker, register, value } => {
                 self.begin_put::<F>(worker, register, value, max_value)
             }
-            Record::Open { worker } => self.begin(worker, 0, Doing::OpenAnnounce),
-            Record::Read { worker, register } => {
-                self.begin(worker, register, Doing::ReadStart { register })
+            Record::Open { worker } => {
+                self.begin::<F>(worker, 0, Need::Nothing, Doing::OpenAnnounce)
             }
-            Record::Close { worker } => self.begin(worker, 0, Doing::Close),
+            Record::Read { worker, register } => {
+                let need = Need::Read(register);
+                self.begin::<F>(worker, register, need, Doing::ReadStart { register })
+            }
+            Record::Close { worker } => self.begin::<F>(worker, 0, Need::Nothing, Doing::Close),
             Record::Get { worker, register } => {
-                self.begin(worker, register, Doing::Get { register })
+                let need = if F::GET_FREE { Need::Nothing } else { Need::Read(register) };
+                self.begin::<F>(worker, register, need, Doing::Get { register })
             }
             Record::Total { worker, group } => self.begin_total::<F>(worker, group),
             Record::Mark { worker, mark } => self.begin_mark::<F>(worker, mark),
@@ -234,7 +242,7 @@ impl Store {
                 self.begin_marked::<F>(worker, register, mark)
             }
             Record::Collect { worker } => {
-                self.begin(worker, 0, flush::start::<F>())?;
+                self.begin::<F>(worker, 0, Need::Collect, flush::start::<F>())?;
                 if O::ON {
                     let pool = &self.workers[usize::from(worker)].local;
                     let empty = pool.is_empty();
@@ -255,16 +263,30 @@ impl Store {
         Ok(worker)
     }
 
-    /// 3, 4 and 10, else the worker, which may begin.
-    pub(crate) fn idle_for(&mut self, worker: u8, register: u16) -> Result<&mut Worker, Refusal> {
+    /// 3, 4, 23 and 10, else the worker, which may begin.
+    pub(crate) fn idle_for<F: Fault>(
+        &mut self,
+        worker: u8,
+        register: u16,
+        need: Need,
+    ) -> Result<&mut Worker, Refusal> {
+        let allowed = self.rights.allow(worker, need);
+        if F::FORBIDDEN_BEFORE_REGISTER && !allowed {
+            self.worker_for(worker, 0)?;
+            return Err(Refusal::Forbidden);
+        }
         let worker = self.worker_for(worker, register)?;
-        if worker.doing != Doing::Idle {
+        let busy = worker.doing != Doing::Idle;
+        if !allowed && !(F::FORBIDDEN_AFTER_BUSY && busy) {
+            return Err(Refusal::Forbidden);
+        }
+        if busy {
             return Err(Refusal::Busy);
         }
         Ok(worker)
     }
 
-    /// Begins a put: 16 stands between 4 and 10.
+    /// Begins a put: 16 stands between 4 and 23.
     fn begin_put<F: Fault>(
         &mut self,
         worker: u8,
@@ -277,14 +299,16 @@ impl Store {
         if F::VALUE_BEFORE_REGISTER && too_large && self.worker_for(worker, 0).is_ok() {
             return Err(Refusal::Value);
         }
+        let need = Need::Put(register);
+        let allowed = self.rights.allow(worker, need) || !F::FORBIDDEN_BEFORE_VALUE;
         let state = self.worker_for(worker, register)?;
-        if too_large && !(F::VALUE_AFTER_BUSY && state.doing != Doing::Idle) {
+        if too_large && allowed && !(F::VALUE_AFTER_BUSY && state.doing != Doing::Idle) {
             if F::VALUE_IDLES {
                 state.doing = Doing::Idle;
             }
             return Err(Refusal::Value);
         }
-        self.begin(worker, register, Doing::PutPublish { register, value })
+        self.begin::<F>(worker, register, need, Doing::PutPublish { register, value })
     }
 
     /// Begins a total: 17 stands where 4 does.
@@ -300,7 +324,7 @@ impl Store {
                 _ => Refusal::Group,
             });
         };
-        self.begin(worker, 0, Doing::TotalStart { place, sum: 0 })?;
+        self.begin::<F>(worker, 0, Need::Total(group), Doing::TotalStart { place, sum: 0 })?;
         if F::LARGE_AT_BEGIN && self.sums_above(group, MAX_VALUE) {
             self.workers[usize::from(worker)].doing = Doing::Idle;
             return Err(Refusal::Summand);
@@ -314,9 +338,15 @@ impl Store {
         self.groups.rows(group).iter().any(|row| newest(row.register).reading > Some(value))
     }
 
-    /// Begins an operation: 3, 4, 10, then 12 or 13, else the worker is busy with it.
-    fn begin(&mut self, worker: u8, register: u16, doing: Doing) -> Result<(), Refusal> {
-        let worker = self.idle_for(worker, register)?;
+    /// Begins an operation: 3, 4, 23, 10, then 12 or 13, else the worker is busy with it.
+    fn begin<F: Fault>(
+        &mut self,
+        worker: u8,
+        register: u16,
+        need: Need,
+        doing: Doing,
+    ) -> Result<(), Refusal> {
+        let worker = self.idle_for::<F>(worker, register, need)?;
         match (doing, worker.announced) {
             (Doing::OpenAnnounce, Some(_)) => return Err(Refusal::Announced),
             (Doing::ReadStart { .. } | Doing::Close | Doing::TotalStart { .. }, None) => {

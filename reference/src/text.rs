@@ -1,4 +1,4 @@
-//! Readable text for record files and for lists, and back: any file unpacks and packs to the same
+//! Readable text for record files, lists and tables, and back: any file unpacks and packs to the same
 //! bytes.
 //!
 //! One command a line; `#` begins a comment, blank lines are skipped:
@@ -33,11 +33,23 @@
 //!
 //! `bytes` gives a row by its bytes, fewer than four only as the last row. Unpacking writes it for a
 //! row whose length or sign is none, and says in a comment why a row makes a setup get 5.
+//!
+//! A table of rights has one row a line too:
+//!
+//! ```text
+//! worker WORKER RIGHT... registers FIRST to LAST
+//! bytes HEX...
+//! ```
+//!
+//! The rights are `put`, `read`, `collect` and `marks`, each at most once, or `nothing`. `bytes` gives a
+//! row by its bytes, fewer than eight only as the last row. Unpacking writes it for a row whose length,
+//! rights or last two bytes are none, and says in a comment why a row makes the table get 24.
 
 use crate::answer::Refusal;
 use crate::fault::Right;
 use crate::list::{self, Row, Tests, Unfit};
 use crate::record::{Record, LENGTH};
+use crate::rights;
 use crate::store::MAX_REGISTERS;
 use std::fmt::{self, Write};
 
@@ -68,6 +80,11 @@ pub fn pack(text: &[u8]) -> Result<Vec<u8>, PackError> {
 /// Turns text into a list.
 pub fn pack_list(text: &[u8]) -> Result<Vec<u8>, PackError> {
     pack_lines(text, list::LENGTH, "rows", append_row)
+}
+
+/// Turns text into a table of rights.
+pub fn pack_table(text: &[u8]) -> Result<Vec<u8>, PackError> {
+    pack_lines(text, rights::LENGTH, "rows", append_right)
 }
 
 /// Appends each line's bytes, which are so many but for the last line that has any.
@@ -174,6 +191,56 @@ fn append_row(list: &mut Vec<u8>, words: &[&str]) -> Result<(), String> {
         _ => return Err("not of the form: GROUP + REGISTER or GROUP - REGISTER".to_string()),
     }
     Ok(())
+}
+
+/// Appends one row of a table.
+fn append_right(table: &mut Vec<u8>, words: &[&str]) -> Result<(), String> {
+    match *words {
+        ["worker", worker, ref rights @ .., "registers", first, "to", last] => {
+            let row = rights::Row {
+                worker: number(worker, "worker")?,
+                rights: right_bits(rights)?,
+                first: number(first, "register")?,
+                last: number(last, "register")?,
+            };
+            table.extend(row.encode());
+        }
+        ["bytes", ref hex @ ..] => table.extend(hex_bytes(hex, rights::LENGTH, "row")?),
+        _ => {
+            let form = "not of the form: worker WORKER RIGHT... registers FIRST to LAST";
+            return Err(form.to_string());
+        }
+    }
+    Ok(())
+}
+
+/// The rights with their words, in the order in which they are written.
+const RIGHTS: [(u8, &str); 4] = [
+    (rights::PUT, "put"),
+    (rights::READ, "read"),
+    (rights::COLLECT, "collect"),
+    (rights::MARKS, "marks"),
+];
+
+/// The sum of these rights.
+fn right_bits(words: &[&str]) -> Result<u8, String> {
+    if words == ["nothing"] {
+        return Ok(0);
+    }
+    if words.is_empty() {
+        return Err("no right, where `nothing` gives none".to_string());
+    }
+    let mut bits = 0;
+    for word in words {
+        let Some(&(bit, _)) = RIGHTS.iter().find(|(_, name)| name == word) else {
+            return Err(format!("{word:?} is not one of put, read, collect, marks"));
+        };
+        if bits & bit != 0 {
+            return Err(format!("{word} twice"));
+        }
+        bits |= bit;
+    }
+    Ok(bits)
 }
 
 /// A field that does not fit its bytes cannot be written.
@@ -331,6 +398,39 @@ fn write_row(
     }
     match unfit {
         Some(reason) => writeln!(text, "  # refused with 5: {reason}"),
+        None => writeln!(text),
+    }
+}
+
+/// Turns a table into text. What makes it none stands in comments.
+pub fn unpack_table(table: &[u8]) -> String {
+    let mut text = String::new();
+    for (before, bytes) in table.chunks(rights::LENGTH).enumerate() {
+        let row = rights::Row::decode::<Right>(bytes);
+        let fits = row.and_then(|row| row.test::<Right>(before));
+        write_right(&mut text, bytes, row.ok(), fits.err()).expect("writing to a string");
+    }
+    text
+}
+
+fn write_right(
+    text: &mut String,
+    bytes: &[u8],
+    row: Option<rights::Row>,
+    unfit: Option<rights::Unfit>,
+) -> fmt::Result {
+    match row {
+        Some(rights::Row { worker, rights, first, last }) => {
+            write!(text, "worker {worker}")?;
+            let given = RIGHTS.iter().filter(|(bit, _)| rights & bit != 0);
+            given.into_iter().try_for_each(|(_, word)| write!(text, " {word}"))?;
+            let nothing = if rights == 0 { " nothing" } else { "" };
+            write!(text, "{nothing} registers {first} to {last}")?;
+        }
+        None => write_hex(text, bytes)?,
+    }
+    match unfit {
+        Some(reason) => writeln!(text, "  # refused with 24: {reason}"),
         None => writeln!(text),
     }
 }

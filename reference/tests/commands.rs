@@ -287,7 +287,7 @@ fn records_names_file_line_and_reason() {
         let error = format!("records: {name}: line 2: not of the form: open WORKER\n");
         assert_eq!(text(&output.stderr), error);
     }
-    for command in ["pack", "unpack", "pack-list", "unpack-list"] {
+    for command in ["pack", "unpack", "pack-list", "unpack-list", "pack-table", "unpack-table"] {
         let output = run(RECORDS, &[command, "no/such/file"], &[]);
         assert_eq!(output.status.code(), Some(1));
         assert!(text(&output.stderr).starts_with("records: no/such/file: "));
@@ -295,8 +295,9 @@ fn records_names_file_line_and_reason() {
     for arguments in [&[][..], &["press"], &["pack", path, path]] {
         let output = run(RECORDS, arguments, &[]);
         assert_eq!(output.status.code(), Some(1));
-        let usage = "records: usage: records pack|unpack|pack-list|unpack-list [FILE]\n";
-        assert_eq!(text(&output.stderr), usage);
+        let usage =
+            "usage: records pack|unpack|pack-list|unpack-list|pack-table|unpack-table [FILE]";
+        assert_eq!(text(&output.stderr), format!("records: {usage}\n"));
     }
 }
 
@@ -319,7 +320,7 @@ fn generate_is_the_same_for_the_same_seed() {
     assert!(!list.is_empty() && list.len() % 4 == 0, "{list:?}");
     let log = run(HUBLOG, &[rows.to_str().unwrap()], &script.stdout).stdout;
     assert!(!text(&log).contains(" no 5\n") && text(&log).contains(" value -"));
-    assert_eq!(run(GENERATE, &["totals", "5", "4", "x", "y"], &[]).status.code(), Some(1));
+    assert_eq!(run(GENERATE, &["totals", "5", "4", "x", "y", "z"], &[]).status.code(), Some(1));
     assert_eq!(run(GENERATE, &["totals", "5", "4", "no/such/d"], &[]).status.code(), Some(1));
 }
 

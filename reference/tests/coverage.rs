@@ -1,11 +1,14 @@
 //! The seeded random suite reaches every answer, every refusal of a log, every branch, hubs of all
-//! sizes and lists of all kinds.
+//! sizes, lists and tables of all kinds.
 
 mod common;
 
 use reference::coverage::{Branch, Coverage};
 use reference::fault::Right;
 use reference::generate::{script, script_across, Kind};
+use reference::list::Groups;
+use reference::rights;
+use reference::store::MAX_REGISTERS;
 
 #[test]
 fn the_random_suite_reaches_everything() {
@@ -46,10 +49,37 @@ fn the_random_suite_reaches_everything() {
     let met = |branch: Branch| total.branches[branch as usize];
     use Branch::{GetFirstPut, GetNone, GetZero, MarkedNone, MarkedNoneSince, MarkedZero};
     use Branch::{ReadNone, ReadNoneSince, ReadZero, TotalNone, TotalNoneSince, TotalZero};
-    assert!(met(GetNone) > 9000 && met(GetZero) > 1500 && met(GetFirstPut) > 100);
+    assert!(met(GetNone) > 9000 && met(GetZero) > 1500 && met(GetFirstPut) > 80);
     assert!(met(ReadNone) > 8000 && met(ReadNoneSince) > 2500 && met(ReadZero) > 2000);
     assert!(met(MarkedNone) > 7000 && met(MarkedNoneSince) > 4000 && met(MarkedZero) > 1500);
     assert!(met(TotalNone) > 30_000 && met(TotalNoneSince) > 8000 && met(TotalZero) > 4000);
+    // What a table forbids, to each operation, and what its rows allow together; tables that are none.
+    least(&Branch::of_rights().collect::<Vec<_>>(), 200);
+    least(&Branch::of_tables().collect::<Vec<_>>(), 15);
+    assert!(refusals(23) > 50_000 && refusals(24) == 0, "{} and {}", refusals(23), refusals(24));
+    assert!(total.tables.iter().all(|&met| met > 30), "{:?}", total.tables);
+}
+
+/// About three scripts in ten have a table, some of them one that is refused.
+#[test]
+fn scripts_have_tables_and_lists_in_every_mix() {
+    let mut met = [[0; 3]; 3];
+    for (kind, _) in Kind::ALL {
+        for seed in 0..100 {
+            let script = script(kind, seed, 0);
+            let of = |bytes: &[u8], fits: bool| match bytes {
+                [] => 0,
+                _ => 1 + usize::from(!fits),
+            };
+            let list = Groups::read::<Right>(&script.list, MAX_REGISTERS).is_ok();
+            let table = rights::read::<Right>(&script.table).is_ok();
+            met[of(&script.list, list)][of(&script.table, table)] += 1;
+        }
+    }
+    // Missing, fit and damaged lists, and beside each of them such tables.
+    assert!(met.as_flattened().iter().all(|&count| count >= 10), "{met:?}");
+    let with_table: usize = met.iter().map(|tables| tables[1] + tables[2]).sum();
+    assert!((600..900).contains(&with_table), "{with_table} of 2200 scripts have a table");
 }
 
 /// Hubs of middle sizes are used, not only set up: their slots run out, and are freed and taken again.
@@ -74,7 +104,7 @@ fn counts_have_a_name_each() {
     names.sort();
     names.dedup();
     assert_eq!(names.len(), counts.len());
-    // Seven answers, refusals 1 to 21 but 7, the branches, the sizes and the lists.
+    // Eight answers, refusals 1 to 23 but 7 and 22, the branches, the sizes, the lists and the tables.
     assert!(names.contains(&&"no 6".to_string()) && !names.contains(&&"no 7".to_string()));
     assert_eq!(Coverage::default().missing().len(), counts.len());
 }

@@ -119,11 +119,11 @@ fn the_last_clock_is_not_announced() {
 fn there_are_as_many_answers_as_records() {
     let file = records("setup 1 1 2 1\n get 0 0\n step 0\n bytes 07");
     let mut answers = log::answers(&mut Hub::new(), &file, &[]);
-    assert!(order::check(&file, &[], &answers).is_ok());
-    let missing = order::check(&file, &[], &answers[..3]).unwrap_err();
+    assert!(order::check(&file, &[], &[], &answers).is_ok());
+    let missing = order::check(&file, &[], &[], &answers[..3]).unwrap_err();
     assert_eq!((missing.record, missing.claim), (3, Claim::Fit));
     answers.push(answers[3]);
-    let extra = order::check(&file, &[], &answers).unwrap_err();
+    let extra = order::check(&file, &[], &[], &answers).unwrap_err();
     assert_eq!((extra.record, extra.claim), (4, Claim::Fit));
 }
 
@@ -399,7 +399,7 @@ fn all_outcomes() -> Order {
     let file = records(
         "setup 2 1 2 1\n put 0 0 7\n step 0 x3\n get 1 0\n step 1\n put 0 0 8\n step 0\n open 0",
     );
-    order::check(&file, &[], &log::answers(&mut Hub::new(), &file, &[])).expect("in order")
+    order::check(&file, &[], &[], &log::answers(&mut Hub::new(), &file, &[])).expect("in order")
 }
 
 /// What breaks an order with another sequence.

@@ -10,7 +10,8 @@ use reference::store::MAX_VALUE;
 /// A hub whose clock is set up so many below its last value.
 fn size(workers: u8, registers: u16, slots: u16, below: u32, values: &'static [u64]) -> Size {
     let clock = u32::MAX - below;
-    Size { workers, registers, slots, clock, list: &[], values, max_values: &[MAX_VALUE], marks: 0 }
+    let (list, table, max_values, marks): (_, _, &[u64], _) = (&[], &[], &[MAX_VALUE], 0);
+    Size { workers, registers, slots, clock, list, table, values, max_values, marks }
 }
 
 fn states(size: Size) -> usize {

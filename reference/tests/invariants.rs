@@ -13,7 +13,9 @@ use reference::{Hub, Record};
 fn run(kind: Kind, seed: u64, count: usize, before: usize) -> Result<(), String> {
     let mut hub = Hub::new();
     let mut ghost = None;
-    let Script { records, list } = script_across(kind, seed, count, before);
+    let script = script_across(kind, seed, count, before);
+    script.give(&mut hub);
+    let Script { records, list, .. } = script;
     for (number, bytes) in records.chunks(LENGTH).enumerate() {
         common::set_rule(&mut hub, number, before);
         let earlier = hub.store().cloned();

@@ -68,7 +68,7 @@ fn words_across(before: &str, after: &str) -> Vec<String> {
     let number = before.len() / LENGTH;
     let script = Script::plain([before, after].concat());
     let answers = across::<Right>(&script, number);
-    order::check(&script.records, &[], &answers).expect("in order");
+    order::check(&script.records, &[], &[], &answers).expect("in order");
     words(&answers[number..])
 }
 
@@ -191,6 +191,7 @@ impl Met {
     /// Takes a script whose first `before` records come before A1.
     fn follow(&mut self, script: &Script, before: usize) -> Vec<Answer> {
         let mut hub = Hub::new();
+        script.give(&mut hub);
         let take = |(number, bytes)| {
             set_rule(&mut hub, number, before);
             let store = hub.store().filter(|_| number >= before).cloned();
@@ -211,7 +212,9 @@ fn random_scripts_come_over_from_before() {
         for seed in 0..60 {
             let script = script_across(kind, 7000 + seed, 600, 300);
             let answers = met.follow(&script, 300);
-            if let Err(violation) = order::check(&script.records, &script.list, &answers) {
+            if let Err(violation) =
+                order::check(&script.records, &script.list, &script.table, &answers)
+            {
                 panic!("{name} {seed}: {violation}");
             }
         }

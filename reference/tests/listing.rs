@@ -153,9 +153,10 @@ fn a_total_refused_with_18_is_listed() {
     let before = records("setup 1 1 4 1\n put 0 0 1000000000000\n step 0 x8\n open 0\n step 0 x2");
     let number = before.len() / 16;
     let records = [before, records("total 0 0\n step 0 x2")].concat();
-    let script = Script { records, list: list("0 + 0") };
+    let script = Script { records, list: list("0 + 0"), ..Script::default() };
     let answers = across::<Right>(&script, number);
-    let order = order::check(&script.records, &script.list, &answers).expect("in order");
+    let order =
+        order::check(&script.records, &script.list, &script.table, &answers).expect("in order");
     let listing = Listing::new(&order, None).to_string();
     let why =
         "total of group 0 0 13 15 refused with 18: a value to be summed is above 999999999999";

@@ -54,7 +54,9 @@ fn pieces_of_any_size_give_one_log() {
         let script = script(Kind::Tails, seed, 12_000);
         let mut output = Vec::new();
         let mut pieces = Pieces(&script.records, Random::new(seed));
-        log::run(&mut Hub::new(), &script.list, &mut pieces, &mut output, |_, _| {}).unwrap();
+        let mut hub = Hub::new();
+        script.give(&mut hub);
+        log::run(&mut hub, &script.list, &mut pieces, &mut output, |_, _| {}).unwrap();
         assert_eq!(output, log::log_text(&script.answers()));
     }
 }
@@ -132,7 +134,7 @@ fn what_is_no_log() {
         "0 ok \n",
         "0 freed\n",
         "0 freed 01\n",
-        "0 no 23\n",
+        "0 no 25\n",
         "0 none 0\n",
         "0 None\n",
         "0 value\n",

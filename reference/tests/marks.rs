@@ -21,7 +21,7 @@ fn hub(script: &str) -> Hub {
 fn after(script: &str) -> Vec<String> {
     let file = records(&format!("{SNAPSHOT}\n {script}"));
     let answers = log::answers(&mut Hub::new(), &file, &[]);
-    order::check(&file, &[], &answers).expect("in order");
+    order::check(&file, &[], &[], &answers).expect("in order");
     words(&answers[records(SNAPSHOT).len() / 16..])
 }
 
@@ -327,7 +327,8 @@ fn random_marked_reads_show_what_the_snapshot_saw() {
     for kind in [Kind::Marks, Kind::Held, Kind::Mixed, Kind::Large] {
         for seed in 0..60 {
             let script = script(kind, 2000 + seed, 1500);
-            let order = order::check(&script.records, &script.list, &script.answers());
+            let order =
+                order::check(&script.records, &script.list, &script.table, &script.answers());
             let order = order.unwrap_or_else(|violation| panic!("{kind:?} {seed}: {violation}"));
             for operation in &order.operations {
                 match (operation.action, operation.outcome) {

@@ -44,7 +44,7 @@ fn caught_in<F: Fault>(
     for script in scripts {
         let log = across::<F>(&script, before);
         differing += usize::from(log != across::<Right>(&script, before));
-        let found = order::check(&script.records, &script.list, &log).err();
+        let found = order::check(&script.records, &script.list, &script.table, &log).err();
         claims.extend(found.map(|violation| violation.claim));
     }
     (differing, claims)
@@ -115,7 +115,7 @@ fn told<F: Fault>(before: &str, after: &str) -> [String; 2] {
 fn told_with<F: Fault>(list: Vec<u8>, before: &str, after: &str) -> [String; 2] {
     let (before, after) = (records(before), records(after));
     let number = before.len() / LENGTH;
-    let script = Script { records: [before, after].concat(), list };
+    let script = Script { records: [before, after].concat(), list, ..Script::default() };
     let last = |answers: &[_]| words(answers).pop().expect("a record");
     [last(&across::<Right>(&script, number)), last(&across::<F>(&script, number))]
 }
@@ -256,7 +256,7 @@ fn caught_by_totals<F: Fault>() -> (usize, Vec<Claim>) {
     const TOTAL_KINDS: [Kind; 4] = [Kind::Mixed, Kind::Invalid, Kind::Totals, Kind::Lists];
     let scripts = |before| {
         let seeded =
-            move |kind| (0..30).map(move |seed| script_across(kind, 6000 + seed, 800, before));
+            move |kind| (0..40).map(move |seed| script_across(kind, 6000 + seed, 800, before));
         TOTAL_KINDS.into_iter().flat_map(seeded)
     };
     let (throughout, mut claims) = caught_in::<F>(scripts(0), 0);
@@ -393,7 +393,7 @@ fn a_short_script_for_each_near_miss_of_19_20_and_21() {
 fn caught_by_marks<F: Fault>() -> (usize, Vec<Claim>) {
     const MARK_KINDS: [Kind; 5] =
         [Kind::Mixed, Kind::Invalid, Kind::Collects, Kind::Marks, Kind::Held];
-    let seeded = |kind| (0..40).map(move |seed| script(kind, 8000 + seed, 1200));
+    let seeded = |kind| (0..50).map(move |seed| script(kind, 8000 + seed, 1200));
     caught_in::<F>(MARK_KINDS.into_iter().flat_map(seeded), 0)
 }
 

@@ -222,7 +222,8 @@ fn random_scripts_answer_none_exactly_where_no_value_is_shown() {
     for kind in [Kind::Empty, Kind::Mixed, Kind::Marks, Kind::Large] {
         for seed in 0..60 {
             let script = script(kind, 1500 + seed, 1200);
-            let order = order::check(&script.records, &script.list, &script.answers());
+            let order =
+                order::check(&script.records, &script.list, &script.table, &script.answers());
             let order = order.unwrap_or_else(|violation| panic!("{kind:?} {seed}: {violation}"));
             for operation in &order.operations {
                 let Outcome::Finished { answer, .. } = operation.outcome else { continue };

@@ -12,7 +12,7 @@ use reference::{Answer, Hub};
 fn check(script: &str) -> order::Order {
     let file = records(script);
     let answers = log::answers(&mut Hub::new(), &file, &[]);
-    order::check(&file, &[], &answers).expect("in order")
+    order::check(&file, &[], &[], &answers).expect("in order")
 }
 
 /// Checks a script with some of the hub's answers replaced.
@@ -26,7 +26,7 @@ fn random_scripts_of_all_kinds_are_in_order() {
     for (kind, name) in Kind::ALL {
         for seed in 0..220 {
             let script = script(kind, seed, if kind == Kind::Large { 6000 } else { 1200 });
-            match order::check(&script.records, &script.list, &script.answers()) {
+            match order::check(&script.records, &script.list, &script.table, &script.answers()) {
                 Ok(order) => operations += order.sequence.len(),
                 Err(violation) => panic!("{name} {seed}: {violation}"),
             }
@@ -242,8 +242,8 @@ fn answers_that_fit_no_record_are_found() {
     }
     let file = records(script);
     let answers = log::answers(&mut Hub::new(), &file, &[]);
-    assert_eq!(order::check(&file, &[], &answers[1..]).unwrap_err().claim, Claim::Fit);
-    assert_eq!(order::check(&file[16..], &[], &answers).unwrap_err().claim, Claim::Fit);
+    assert_eq!(order::check(&file, &[], &[], &answers[1..]).unwrap_err().claim, Claim::Fit);
+    assert_eq!(order::check(&file[16..], &[], &[], &answers).unwrap_err().claim, Claim::Fit);
     // A second setup that is accepted, a step of an idle worker, a begin on a busy one.
     let script = "setup 1 1 2 1\n setup 1 1 2 1\n step 0\n get 0 0\n get 0 0";
     for (record, words) in [(1, "ok"), (2, "going"), (4, "ok")] {
@@ -258,7 +258,8 @@ fn random_logs_never_make_the_checker_fail_otherwise() {
         let kind = [Kind::Mixed, Kind::Totals, Kind::Marks][seed as usize % 3];
         let (script, other) = (script(kind, seed, 300), script(Kind::Batches, seed + 1, 300));
         let answers = other.answers();
-        let check = |answers: &[_]| order::check(&script.records, &script.list, answers);
+        let check =
+            |answers: &[_]| order::check(&script.records, &script.list, &script.table, answers);
         let _ = check(&answers);
         let mut mixed = script.answers();
         for (place, answer) in mixed.iter_mut().enumerate().filter(|(place, _)| place % 37 == 36) {

@@ -59,6 +59,8 @@ struct Plain {
     queue: VecDeque<Vec<Range>>,
     /// By group: sign and register.
     groups: Vec<Vec<(i128, usize)>>,
+    /// Rows of eight bytes.
+    table: Vec<Vec<u8>>,
 }
 
 fn number(bytes: &[u8]) -> u64 {
@@ -81,6 +83,20 @@ fn groups(list: &[u8], v: usize) -> Option<Vec<Vec<(i128, usize)>>> {
     groups.iter().all(|rows| rows.len() <= 32).then_some(groups)
 }
 
+/// The rows of a table, none where any row or the length is not of the form.
+fn rows(table: &[u8]) -> Option<Vec<Vec<u8>>> {
+    let fits = |row: &[u8]| {
+        row.len() == 8
+            && row[0] < 16
+            && row[1] < 16
+            && number(&row[2..4]) <= number(&row[4..6])
+            && number(&row[4..6]) < 256
+            && row[6..] == [0, 0]
+    };
+    let rows: Vec<Vec<u8>> = table.chunks(8).map(<[u8]>::to_vec).collect();
+    (rows.len() <= 64 && rows.iter().all(|row| fits(row))).then_some(rows)
+}
+
 fn merge(first: &[Range], second: &[Range]) -> Vec<Range> {
     let mut all = [first, second].concat();
     all.sort_by_key(|&(_, _, high)| high);
@@ -88,6 +104,28 @@ fn merge(first: &[Range], second: &[Range]) -> Vec<Range> {
 }
 
 impl Plain {
+    /// Has the worker this right on the register?
+    fn may(&self, worker: usize, right: u8, register: usize) -> bool {
+        let mut own = self.table.iter().filter(|row| usize::from(row[0]) == worker);
+        own.any(|row| {
+            let (first, last) = (number(&row[2..4]) as usize, number(&row[4..6]) as usize);
+            row[1] & right != 0 && first <= register && register <= last
+        })
+    }
+
+    fn allowed(&self, operation: u8, worker: usize, register: usize) -> bool {
+        let mut own = self.table.iter().filter(|row| usize::from(row[0]) == worker);
+        match operation {
+            _ if self.table.is_empty() => true,
+            1 => self.may(worker, 1, register),
+            3 | 5 | 11 => self.may(worker, 2, register),
+            6 => own.any(|row| row[1] & 4 != 0),
+            8 => self.groups[register].iter().all(|&(_, register)| self.may(worker, 2, register)),
+            9 | 10 => (0..self.lists.len()).all(|register| self.may(worker, 8, register)),
+            _ => true,
+        }
+    }
+
     fn take(&mut self, bytes: &[u8], list: &[u8]) -> String {
         self.answer(bytes, list).unwrap_or_else(|refusal| format!("no {refusal}"))
     }
@@ -130,6 +168,9 @@ impl Plain {
         let value = if operation == 11 { u64::from(bytes[4]) } else { number(&bytes[8..]) };
         if operation == 1 && value > 999999999999 && !self.before_a1 {
             return Err(16);
+        }
+        if !self.allowed(operation, w, register) {
+            return Err(23);
         }
         let worker = &mut self.workers[w];
         if operation == 7 {
@@ -406,7 +447,8 @@ fn both_hubs_give_one_log() {
             // Every third of them comes over from before A1.
             let before = if seed % 3 == 2 { count / 3 } else { 0 };
             let script = script_across(kind, 9000 + seed, count, before);
-            let mut plain = Plain::default();
+            let table = rows(&script.table).unwrap_or_default();
+            let mut plain = Plain { table, ..Plain::default() };
             let take = |(number, bytes)| {
                 plain.before_a1 = number < before;
                 plain.take(bytes, &script.list)

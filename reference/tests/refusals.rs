@@ -9,9 +9,9 @@ use reference::store::{Doing, Store};
 use reference::{Answer, Hub, Record, Refusal};
 use std::collections::HashMap;
 
-/// The order of the refusals on reading: document 01's, with 17 in the place of 4, 16 after 4 and
-/// before 10, and 19 to 21 after 13.
-const ORDER: [u8; 17] = [6, 1, 2, 8, 9, 5, 3, 4, 17, 16, 10, 11, 12, 13, 19, 20, 21];
+/// The order of the refusals on reading: document 01's, with 17 in the place of 4, 16 after 4, 23
+/// after that and just before 10, and 19 to 21 after 13.
+const ORDER: [u8; 18] = [6, 1, 2, 8, 9, 5, 3, 4, 17, 16, 23, 10, 11, 12, 13, 19, 20, 21];
 
 /// The bytes that operations 0 to 11 use.
 const USED: [&[usize]; 12] = [
@@ -40,8 +40,37 @@ fn is_list(list: &[u8], registers: u64) -> bool {
         && (0..32).all(|number| rows.iter().filter(|row| group(row) == number).count() <= 32)
 }
 
+/// Is this a table of rights? The sentences of A7, one by one.
+fn is_table(table: &[u8]) -> bool {
+    let rows: Vec<&[u8]> = table.chunks(8).collect();
+    let two = |row: &[u8], place: usize| u64::from(row[place]) + 256 * u64::from(row[place + 1]);
+    table.len() % 8 == 0
+        && rows.len() <= 64
+        && rows.iter().all(|row| row[0] <= 15 && row[1] <= 15 && two(row, 4) <= 255)
+        && rows.iter().all(|row| two(row, 2) <= two(row, 4) && two(row, 6) == 0)
+}
+
+/// Is a record's operation allowed by a table, on this store? Straight from A7.
+fn is_allowed(bytes: &[u8], table: &[u8], store: &Store) -> bool {
+    let rows = || table.chunks(8).filter(|row| row[0] == bytes[1]);
+    let has = |right: u8, register: u16| {
+        let from_to = |row: &[u8]| u16::from(row[2])..=u16::from(row[4]);
+        rows().any(|row| row[1] & right != 0 && from_to(row).contains(&register))
+    };
+    let register = u16::from(bytes[2]) + 256 * u16::from(bytes[3]);
+    match bytes[0] {
+        _ if table.is_empty() || !is_table(table) => true,
+        1 => has(1, register),
+        3 | 5 | 11 => has(2, register),
+        6 => rows().any(|row| row[1] & 4 != 0),
+        8 => store.groups.rows(register).iter().all(|row| has(2, row.register)),
+        9 | 10 => (0..store.newest.len() as u16).all(|register| has(8, register)),
+        _ => true,
+    }
+}
+
 /// Every refusal that a record deserves by itself, straight from the tables.
-fn deserved(bytes: &[u8], list: &[u8], store: Option<&Store>) -> Vec<u8> {
+fn deserved(bytes: &[u8], list: &[u8], table: &[u8], store: Option<&Store>) -> Vec<u8> {
     let mut numbers = Vec::new();
     if bytes.len() < LENGTH {
         return vec![6];
@@ -80,6 +109,9 @@ fn deserved(bytes: &[u8], list: &[u8], store: Option<&Store>) -> Vec<u8> {
         numbers.push(8);
         return numbers;
     };
+    if !is_allowed(bytes, table, store) {
+        numbers.push(23);
+    }
     let register_used = matches!(operation, 1 | 3 | 5 | 11);
     let mark = if operation == 11 { u64::from(bytes[4]) } else { two(2) };
     let of_mark = matches!(operation, 9..=11);
@@ -129,9 +161,11 @@ fn the_first_deserved_refusal_in_the_order() {
     for (kind, _) in Kind::ALL {
         for seed in 0..60 {
             let mut hub = Hub::new();
-            let Script { records, list } = script(kind, 1000 + seed, 400);
+            let script = script(kind, 1000 + seed, 400);
+            script.give(&mut hub);
+            let Script { records, list, table } = script;
             for bytes in records.chunks(LENGTH) {
-                let numbers = deserved(bytes, &list, hub.store());
+                let numbers = deserved(bytes, &list, &table, hub.store());
                 let before = if numbers.is_empty() { None } else { hub.store().cloned() };
                 let answer = hub.take(bytes, &list);
                 let place = |number: &u8| ORDER.iter().position(|other| other == number);
@@ -199,6 +233,16 @@ fn the_first_deserved_refusal_in_the_order() {
         ((19, 19), 20),
         ((20, 20), 400),
         ((21, 21), 50),
+        ((2, 23), 100),
+        ((3, 23), 100),
+        ((4, 23), 100),
+        ((16, 23), 50),
+        ((23, 10), 300),
+        ((23, 13), 100),
+        ((23, 19), 5),
+        ((23, 20), 50),
+        ((23, 21), 1),
+        ((23, 23), 2000),
     ] {
         let met = pairs.get(&pair).copied().unwrap_or(0);
         assert!(met >= least, "{pair:?} met {met} times");
@@ -335,7 +379,7 @@ fn the_tables_numbers() {
         assert_eq!(Refusal::from_number(place as u64 + 1), Some(*refusal));
     }
     assert_eq!(Refusal::from_number(0), None);
-    assert_eq!(Refusal::from_number(23), None);
+    assert_eq!(Refusal::from_number(25), None);
     assert_eq!(words(&[no(15), no(18), no(19), no(21)]), ["no 15", "no 18", "no 19", "no 21"]);
 }
 

@@ -45,7 +45,9 @@ fn the_census_counts_what_the_sentences_say() {
             let mut hub = Hub::new();
             let mut census = None;
             let mut highs = Vec::new();
-            let Script { records, list } = script(kind, seed, 2_000);
+            let script = script(kind, seed, 2_000);
+            script.give(&mut hub);
+            let Script { records, list, .. } = script;
             for bytes in records.chunks(16) {
                 let before: Vec<Slot> = hub.store().map_or(Vec::new(), |store| store.slots.clone());
                 hub.take(bytes, &list);

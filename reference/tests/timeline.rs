@@ -77,7 +77,9 @@ fn everything_is_drawn_once() {
     for (kind, name) in Kind::ALL {
         for seed in 0..10 {
             let script = script(kind, seed, 400);
-            let order = order::check(&script.records, &script.list, &script.answers()).unwrap();
+            let order =
+                order::check(&script.records, &script.list, &script.table, &script.answers())
+                    .unwrap();
             let svg = Timeline::new(&order, None).to_string();
             assert!(well_formed(&svg), "{name} {seed}");
             let drawn = |class| count(&svg, class) - count(&legend, class);
@@ -149,7 +151,8 @@ fn nothing_runs_past_its_lane() {
     let mut svgs = vec![timeline(unfinished, &[]), timeline(&sample("order.txt"), &[])];
     for (kind, _) in Kind::ALL {
         let script = script(kind, 3, 150);
-        let order = order::check(&script.records, &script.list, &script.answers()).unwrap();
+        let order =
+            order::check(&script.records, &script.list, &script.table, &script.answers()).unwrap();
         svgs.push(Timeline::new(&order, None).to_string());
     }
     let mut bars = 0;
@@ -249,7 +252,8 @@ fn any_answers_can_be_drawn() {
         for (place, answer) in answers.iter_mut().enumerate().skip(100).step_by(31) {
             *answer = others[(place + 7 * seed as usize) % others.len()];
         }
-        let (order, violation) = order::examine(&script.records, &script.list, &answers);
+        let (order, violation) =
+            order::examine(&script.records, &script.list, &script.table, &answers);
         assert!(well_formed(&Timeline::new(&order, violation.as_ref()).to_string()), "{seed}");
     }
 }

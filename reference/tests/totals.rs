@@ -316,9 +316,10 @@ fn where_17_stands() {
 fn over(rows: &str, before: &str, after: &str) -> Vec<String> {
     let (before, after) = (records(before), records(after));
     let number = before.len() / LENGTH;
-    let script = Script { records: [before, after].concat(), list: list(rows) };
+    let records = [before, after].concat();
+    let script = Script { records, list: list(rows), ..Script::default() };
     let answers = across::<Right>(&script, number);
-    order::check(&script.records, &script.list, &answers).expect("in order");
+    order::check(&script.records, &script.list, &script.table, &answers).expect("in order");
     words(&answers[number..])
 }
 
@@ -398,7 +399,7 @@ fn random_totals_show_the_sum_over_the_copy() {
             let before = if seed % 2 == 0 { 0 } else { 400 };
             let script = script_across(kind, 3000 + seed, 1200, before);
             let answers = across::<Right>(&script, before);
-            let order = order::check(&script.records, &script.list, &answers);
+            let order = order::check(&script.records, &script.list, &script.table, &answers);
             let order = order.unwrap_or_else(|violation| panic!("{kind:?} {seed}: {violation}"));
             for operation in &order.operations {
                 if let order::Action::Total { .. } = operation.action {

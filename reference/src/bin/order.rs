@@ -1,5 +1,5 @@
-//! Prints the order that demand 3 promises for a record file, its log and the list that came with it,
-//! as a listing or, with `--svg`, as a timeline.
+//! Prints the order that demand 3 promises for a record file, its log, the list that came with it and
+//! the table given before, as a listing or, with `--svg`, as a timeline.
 
 use reference::listing::Listing;
 use reference::order::Claim;
@@ -25,17 +25,17 @@ fn run() -> Result<(), Box<dyn Error>> {
         [option, files @ ..] if option == "--svg" => (true, files),
         files => (false, files),
     };
-    let (records, log_file, list) = match files {
-        [records, log_file] => (records, log_file, None),
-        [records, log_file, list] => (records, log_file, Some(list)),
-        _ => return Err("usage: order [--svg] RECORDS LOG [LIST]".into()),
+    let (records, log_file, lent) = match files {
+        [records, log_file, lent @ ..] if lent.len() <= 2 => (records, log_file, lent),
+        _ => return Err("usage: order [--svg] RECORDS LOG [LIST [TABLE]]".into()),
     };
     let read = |name: &String| std::fs::read(name).map_err(|error| format!("{name}: {error}"));
     let file = read(records)?;
-    let list = list.map_or(Ok(Vec::new()), read)?;
+    let list = lent.first().map_or(Ok(Vec::new()), read)?;
+    let table = lent.get(1).map_or(Ok(Vec::new()), read)?;
     let text = std::fs::read_to_string(log_file).map_err(|error| format!("{log_file}: {error}"))?;
     let answers = log::parse_log(&text).map_err(|error| format!("{log_file}: {error}"))?;
-    let (order, violation) = order::examine(&file, &list, &answers);
+    let (order, violation) = order::examine(&file, &list, &table, &answers);
     let violation = violation.as_ref();
     if let Some(unfit) = violation.filter(|violation| violation.claim == Claim::Fit) {
         // A record's answer is the log line with its number.

@@ -1,9 +1,12 @@
-//! Turns readable text into a record file or a list, and back; see the module `text` for the forms.
+//! Turns readable text into a record file, a list or a table, and back; see the module `text` for the forms.
 
 use reference::text;
 use std::error::Error;
 use std::io::{self, ErrorKind, Read, Write};
 use std::process::ExitCode;
+
+const USAGE: &str =
+    "usage: records pack|unpack|pack-list|unpack-list|pack-table|unpack-table [FILE]";
 
 fn main() -> ExitCode {
     match run() {
@@ -29,7 +32,9 @@ fn run() -> Result<(), Box<dyn Error>> {
         "unpack" => text::unpack(&input()?).into_bytes(),
         "pack-list" => text::pack_list(&input()?).map_err(|error| format!("{name}: {error}"))?,
         "unpack-list" => text::unpack_list(&input()?).into_bytes(),
-        _ => return Err("usage: records pack|unpack|pack-list|unpack-list [FILE]".into()),
+        "pack-table" => text::pack_table(&input()?).map_err(|error| format!("{name}: {error}"))?,
+        "unpack-table" => text::unpack_table(&input()?).into_bytes(),
+        _ => return Err(USAGE.into()),
     };
     let mut out = io::stdout().lock();
     match out.write_all(&output).and_then(|()| out.flush()) {

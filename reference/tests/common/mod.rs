@@ -1,4 +1,5 @@
-//! What the tests share: short names for records, scripts and lists from text, runs to log lines.
+//! What the tests share: short names for records, scripts, lists and tables from text, runs to log
+//! lines.
 #![allow(dead_code)]
 
 use reference::coverage::{Coverage, Observer};
@@ -17,6 +18,11 @@ pub fn records(script: &str) -> Vec<u8> {
 /// The list of a readable text.
 pub fn list(text: &str) -> Vec<u8> {
     text::pack_list(text.as_bytes()).expect("a well-formed list")
+}
+
+/// The table of a readable text.
+pub fn table(text: &str) -> Vec<u8> {
+    text::pack_table(text.as_bytes()).expect("a well-formed table")
 }
 
 /// The answers to a readable text, as words.
@@ -44,6 +50,7 @@ fn taken_across<F: Fault, O: Observer>(
     script: &Script,
     before: usize,
 ) -> Vec<Answer> {
+    script.give(hub);
     let records = script.records.chunks(LENGTH).enumerate();
     let answer = |(number, bytes)| {
         set_rule(hub, number, before);
@@ -119,7 +126,7 @@ pub fn examined_with(
     for &(record, words) in replaced {
         answers[record] = log::parse_answer(words).expect("an answer");
     }
-    order::examine(&file, &list, &answers)
+    order::examine(&file, &list, &[], &answers)
 }
 
 /// A file of the samples.
