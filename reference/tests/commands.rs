@@ -2,7 +2,7 @@
 
 mod common;
 
-use common::{list, records, sample};
+use common::{list, records, sample, table};
 use std::fs;
 use std::io::{Read, Write};
 use std::path::PathBuf;
@@ -157,6 +157,107 @@ fn the_sample_of_an_empty_flat_has_its_log() {
     assert_eq!(text(&listing.stdout).matches("none        no value\n").count(), 3);
 }
 
+/// A display sees its tenant's registers and total, and gets 23 for all else.
+#[test]
+fn the_sample_of_a_display_has_its_log() {
+    let script = records(&sample("display.txt"));
+    let rows = run(RECORDS, &["pack-list"], sample("display.list").as_bytes()).stdout;
+    let rights = run(RECORDS, &["pack-table"], sample("display.table").as_bytes());
+    assert!(rights.status.success(), "{}", text(&rights.stderr));
+    let (rows, rights) = (file("display-rows", &rows), file("display-table", &rights.stdout));
+    let [rows, rights] = [&rows, &rights].map(|path| path.to_str().unwrap());
+    let log = run(HUBLOG, &[rows, rights], &script);
+    assert_eq!((text(&log.stdout), text(&log.stderr)), (&*sample("display.log"), ""));
+    let log = log.stdout;
+    let counted = [" value 1200\n", " value 300\n", " value 900\n", " value 800\n", " no 23\n"];
+    let counts = counted.map(|words| text(&log).matches(words).count());
+    assert_eq!(counts, [2, 1, 1, 1, 9]);
+    assert!(text(&log).contains(" no 13\n") && text(&log).contains(" no 4\n"));
+    let (script, log) = (file("display-records", &script), file("display-log", &log));
+    let [script, log] = [&script, &log].map(|path| path.to_str().unwrap());
+    let listing = run(ORDER, &[script, log, rows, rights], &[]);
+    assert!(listing.status.success(), "{}", text(&listing.stderr));
+    assert!(run(CHECK_ORDER, &[script, log, rows, rights], &[]).status.success());
+}
+
+#[test]
+fn records_packs_and_unpacks_tables() {
+    let rows = "worker 3 read registers 0 to 7\nworker 0 put collect registers 2 to 255\n";
+    let packed = run(RECORDS, &["pack-table"], format!("# a table\n\n{rows}").as_bytes());
+    assert!(packed.status.success());
+    assert_eq!(packed.stdout, [3, 2, 0, 0, 7, 0, 0, 0, 0, 5, 2, 0, 255, 0, 0, 0]);
+    assert_eq!(text(&run(RECORDS, &["unpack-table"], &packed.stdout).stdout), rows);
+    let output = run(RECORDS, &["pack-table"], b"worker 3 write registers 0 to 7\n");
+    assert_eq!((output.status.code(), &output.stdout[..]), (Some(1), &b""[..]));
+    let error =
+        "records: standard input: line 1: \"write\" is not one of put, read, collect, marks\n";
+    assert_eq!(text(&output.stderr), error);
+}
+
+/// What is logged, and said, for gets of two registers with these arguments.
+fn asked(arguments: &[&str]) -> (String, String) {
+    let script = records("setup 1 2 4 1\n get 0 0\n get 0 1\n step 0\n get 0 1");
+    let output = run(HUBLOG, arguments, &script);
+    assert!(output.status.success());
+    (text(&output.stdout).replace('\n', " "), text(&output.stderr).to_string())
+}
+
+#[test]
+fn hublog_takes_the_table_from_the_file_of_its_second_argument() {
+    let named = |name: &str, contents: &[u8]| file(name, contents).to_str().unwrap().to_string();
+    let told = |log: &str, said: &str| (log.to_string(), said.to_string());
+    let all = told("0 ok 1 ok 2 no 10 3 none 4 ok ", "");
+    let one = named("one-right", &table("worker 0 read registers 0 to 0"));
+    for list in ["no/such/file", "", &named("no-rows", b"")] {
+        assert_eq!(asked(&[list, &one]), told("0 ok 1 ok 2 no 23 3 none 4 no 23 ", ""));
+        // Later arguments are not looked at.
+        assert_eq!(asked(&[list, &one, "/"]), told("0 ok 1 ok 2 no 23 3 none 4 no 23 ", ""));
+        for table in ["no/such/file", "", &named("no-rights", b"")] {
+            assert_eq!(asked(&[list, table]), all);
+        }
+    }
+    // Refused: said, and all stays allowed. No more is read than is needed.
+    let refused = (all.0.clone(), "reference-hublog: the table is refused: 24\n".to_string());
+    let row = table("worker 0 read registers 0 to 0");
+    for (number, length) in [1, 7, 9, 511, 513, 520, 5_000_000].into_iter().enumerate() {
+        let bytes: Vec<u8> = row.iter().cycle().take(length).copied().collect();
+        let name = named(&format!("refused-{number}"), &bytes);
+        assert_eq!(asked(&["", &name]), refused, "{length} bytes");
+    }
+    assert_eq!(asked(&["", "/dev/urandom"]), refused);
+    assert_eq!(asked(&["", &named("longest-table", &row.repeat(64))]).1, "");
+    let coverage = run(HUBLOG, &["--coverage", "", &one], &records("setup 1 2 4 1\n get 0 1"));
+    assert!(text(&coverage.stdout).ends_with("1 no 23\n"));
+    assert!(text(&coverage.stderr).contains("           1  a get gets 23\n"));
+}
+
+#[test]
+fn hublog_says_where_it_cannot_read_the_table() {
+    let directory = env!("CARGO_TARGET_TMPDIR");
+    let output = run(HUBLOG, &["", directory], &records("setup 1 1 1 1"));
+    assert_eq!((output.status.code(), &output.stdout[..]), (Some(1), &b""[..]));
+    let error = text(&output.stderr);
+    assert!(error.starts_with(&format!("reference-hublog: cannot read {directory}: ")), "{error}");
+}
+
+/// Without its table, a log may have an answer that does not fit: here a put that is allowed by none.
+#[test]
+fn order_takes_the_table() {
+    let script = file("right-records", &records("setup 1 1 2 1\n put 0 0 7\n step 0"));
+    let log = file("right-log", b"0 ok\n1 ok\n2 going\n");
+    let rights = file("right-table", &table("worker 0 read registers 0 to 0"));
+    let [script, log, rights] = [&script, &log, &rights].map(|path| path.to_str().unwrap());
+    for program in [ORDER, CHECK_ORDER] {
+        assert!(run(program, &[script, log], &[]).status.success());
+        let output = run(program, &[script, log, "/dev/null", rights], &[]);
+        assert_eq!(output.status.code(), Some(1));
+        let sentence = "worker 0 has no right to its put of 7 to register 0, and begins it";
+        assert!(text(&output.stderr).contains(sentence), "{}", text(&output.stderr));
+        let output = run(program, &[script, log, "/dev/null", rights, rights], &[]);
+        assert!(text(&output.stderr).contains("RECORDS LOG [LIST [TABLE]]"));
+    }
+}
+
 #[test]
 fn records_packs_and_unpacks_lists() {
     let rows = "0 + 3\n0 - 4\n31 + 0\n";
@@ -193,8 +294,8 @@ fn hublog_takes_the_list_from_the_file_of_its_first_argument() {
     let told = |setup: &str, last: &str| (setup.to_string(), last.to_string());
     let one = named("one-row", &list("0 - 0"));
     assert_eq!(summed(&[&one]), told("0 ok", "15 value -7"));
-    // Later arguments are not looked at.
-    assert_eq!(summed(&[&one, "no/such/file"]), told("0 ok", "15 value -7"));
+    // Arguments after the second are not looked at.
+    assert_eq!(summed(&[&one, "no/such/file", "/"]), told("0 ok", "15 value -7"));
     // No argument, no such file, an empty file: no list.
     let empty = named("empty", b"");
     for arguments in [&[][..], &["no/such/file"], &["--other"], &[""], &[&empty]] {
@@ -320,6 +421,12 @@ fn generate_is_the_same_for_the_same_seed() {
     assert!(!list.is_empty() && list.len() % 4 == 0, "{list:?}");
     let log = run(HUBLOG, &[rows.to_str().unwrap()], &script.stdout).stdout;
     assert!(!text(&log).contains(" no 5\n") && text(&log).contains(" value -"));
+    // Its table goes to another.
+    let rights = file("generated-table", b"");
+    let arguments = ["rights", "8", "400", rows.to_str().unwrap(), rights.to_str().unwrap()];
+    assert_eq!(run(GENERATE, &arguments, &[]).stdout, run(GENERATE, &arguments[..3], &[]).stdout);
+    let table = fs::read(&rights).unwrap();
+    assert!(!table.is_empty() && table.len() % 8 == 0, "{table:?}");
     assert_eq!(run(GENERATE, &["totals", "5", "4", "x", "y", "z"], &[]).status.code(), Some(1));
     assert_eq!(run(GENERATE, &["totals", "5", "4", "no/such/d"], &[]).status.code(), Some(1));
 }

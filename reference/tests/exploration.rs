@@ -265,3 +265,62 @@ fn near_misses_of_a5_are_found() {
     assert_eq!(found::<TotalNone>(summed), "a total: None, not Value(0)");
     assert_eq!(found::<TotalRefusesNone>(summed), "a total: No(Summand), not Value(0)");
 }
+
+/// With a table, each record's right too.
+fn with_table(size: Size, table: &'static [u8]) -> Size {
+    Size { table, ..size }
+}
+
+/// Worker 0 may do all, in one row or in one for each of two registers.
+const OWNER: &[u8] = &[0, 15, 0, 0, 255, 0, 0, 0];
+const BY_TWO: &[u8] = &[0, 15, 0, 0, 0, 0, 0, 0, 0, 15, 1, 0, 1, 0, 0, 0];
+/// Worker 0 may do all on register 0 alone, and collect.
+const LOWER: &[u8] = &[0, 11, 0, 0, 0, 0, 0, 0, 0, 4, 9, 0, 9, 0, 0, 0];
+/// Worker 0 may do all, worker 1 may read.
+const READER: &[u8] = &[0, 15, 0, 0, 255, 0, 0, 0, 1, 2, 0, 0, 0, 0, 0, 0];
+
+/// A table that allows all leads to the states of none; one that forbids, to fewer.
+#[test]
+fn tables_of_one_worker() {
+    let two = with_marks(with_list(size(1, 2, 3, 1, &[1]), TWO), 1);
+    let all = states(two);
+    assert_eq!(states(with_table(two, OWNER)), all);
+    assert_eq!(states(with_table(two, BY_TWO)), all);
+    assert_eq!((all, states(with_table(two, LOWER))), (6171, 353));
+}
+
+/// A worker that may only read changes nothing but what a read stamps.
+#[test]
+fn tables_of_two_workers() {
+    assert_eq!(states(with_table(size(2, 1, 2, 2, &[1, 2]), READER)), 64_895);
+    assert_eq!(states(with_table(with_marks(size(2, 1, 2, 1, &[1]), 1), READER)), 11_983);
+}
+
+#[test]
+fn near_misses_of_a7_are_found() {
+    fn found<F: Fault + Clone>(size: Size) -> String {
+        let reason = explore::<F>(size, false).unwrap_err();
+        reason.lines().next().unwrap_or_default().to_string()
+    }
+    let two = with_marks(with_list(size(1, 2, 3, 1, &[1]), TWO), 1);
+    let (by_two, lower) = (with_table(two, BY_TWO), with_table(two, LOWER));
+    for reason in [
+        found::<LastRowOnly>(by_two),
+        found::<FirstExcluded>(by_two),
+        found::<LastExcluded>(by_two),
+        found::<MarksOneRow>(by_two),
+        found::<CollectEverywhere>(lower),
+        found::<EmptyForbids>(two),
+    ] {
+        assert!(reason.contains("No(Forbidden), not "), "{reason}");
+    }
+    for reason in [
+        found::<TotalFirstOnly>(lower),
+        found::<MarksOneRegister>(lower),
+        found::<GetFree>(lower),
+        found::<ForbiddenAfterBusy>(lower),
+        found::<NoRowsAllowed>(with_table(size(2, 1, 2, 1, &[1]), OWNER)),
+    ] {
+        assert!(reason.ends_with("not No(Forbidden)"), "{reason}");
+    }
+}

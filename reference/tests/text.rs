@@ -1,12 +1,12 @@
-//! The text tool: round trips for any bytes, the form of each command and of a list's rows, errors with
-//! their lines.
+//! The text tool: round trips for any bytes, the form of each command and of the rows of lists and tables,
+//! errors with their lines.
 
 mod common;
 
-use common::{list, records};
+use common::{list, records, table};
 use reference::generate::{script, Kind, Random};
 use reference::record::LENGTH;
-use reference::text::{pack, pack_list, unpack, unpack_list, MAX_REPEAT};
+use reference::text::{pack, pack_list, pack_table, unpack, unpack_list, unpack_table, MAX_REPEAT};
 use reference::{Record, Refusal};
 
 fn round_trip(file: &[u8]) {
@@ -276,4 +276,90 @@ fn errors_in_a_list_say_line_and_reason() {
         assert_eq!((error.line, error.reason.as_str()), (line, reason), "{text:?}");
     }
     assert_eq!(pack_list(b"0 + 0\n\xff").unwrap_err().to_string(), "line 2: not UTF-8 text");
+}
+
+fn table_round_trip(table: &[u8]) {
+    let text = unpack_table(table);
+    assert_eq!(pack_table(text.as_bytes()).as_deref(), Ok(table), "{text}");
+}
+
+#[test]
+fn any_table_comes_back() {
+    let mut random = Random::new(10);
+    for length in 0..200 {
+        let bytes: Vec<u8> = (0..length).map(|_| random.bits() as u8).collect();
+        table_round_trip(&bytes);
+        // Many of these are rows.
+        let bytes: Vec<u8> = (0..length).map(|_| random.below(2) as u8).collect();
+        table_round_trip(&bytes);
+    }
+    (0..300).for_each(|seed| table_round_trip(&script(Kind::Rights, seed, 0).table));
+    for rights in 0..=255 {
+        table_round_trip(&[3, rights, 0, 0, 7, 0, 0, 0]);
+    }
+}
+
+#[test]
+fn the_text_of_a_table_comes_back_too() {
+    let text = "worker 3 read registers 0 to 7
+worker 2 put read collect marks registers 0 to 255
+worker 15 nothing registers 9 to 9
+worker 16 put registers 0 to 0  # refused with 24: worker above 15
+worker 0 collect registers 5 to 4  # refused with 24: first register above the last
+worker 0 marks registers 0 to 256  # refused with 24: last register above 255
+bytes 00 10 00 00 00 00 00 00  # refused with 24: rights above 15
+bytes 00 01 00 00 00 00 00 01  # refused with 24: last two bytes not zero
+bytes 00 01 02  # refused with 24: fewer than 8 bytes
+";
+    assert_eq!(unpack_table(&pack_table(text.as_bytes()).unwrap()), text);
+    let full = "worker 0 put registers 0 to 0\n".repeat(64);
+    let more =
+        format!("{full}worker 0 put registers 0 to 0  # refused with 24: more than 64 rows\n");
+    assert_eq!(unpack_table(&table(&more)), more);
+}
+
+#[test]
+fn rows_of_a_table_and_their_bytes() {
+    let cases: [(&str, &[u8]); 6] = [
+        ("", &[]),
+        ("worker 3 read registers 0 to 7", &[3, 2, 0, 0, 7, 0, 0, 0]),
+        ("worker 2 marks put registers 258 to 772", &[2, 9, 2, 1, 4, 3, 0, 0]),
+        ("  worker 0   nothing registers 1 to 2 # none\r", &[0, 0, 1, 0, 2, 0, 0, 0]),
+        ("# a display\n\nbytes 0001020304050607", &[0, 1, 2, 3, 4, 5, 6, 7]),
+        ("worker 0 put registers 0 to 0\nbytes 01 02", &[0, 1, 0, 0, 0, 0, 0, 0, 1, 2]),
+    ];
+    for (text, bytes) in cases {
+        assert_eq!(table(text), bytes, "{text:?}");
+    }
+}
+
+#[test]
+fn errors_in_a_table_say_line_and_reason() {
+    const FORM: &str = "not of the form: worker WORKER RIGHT... registers FIRST to LAST";
+    let cases = [
+        ("\nworker 0 put registers 0", 2, FORM),
+        ("worker 0 put 0 to 3", 1, FORM),
+        ("0 put registers 0 to 3", 1, FORM),
+        ("worker 0 registers 0 to 3", 1, "no right, where `nothing` gives none"),
+        ("worker 0 get registers 0 to 3", 1, "\"get\" is not one of put, read, collect, marks"),
+        ("worker 0 put put registers 0 to 3", 1, "put twice"),
+        (
+            "worker 0 put nothing registers 0 to 3",
+            1,
+            "\"nothing\" is not one of put, read, collect, marks",
+        ),
+        ("worker 256 put registers 0 to 3", 1, "worker \"256\" is not a number from 0 to 255"),
+        (
+            "worker 0 put registers 0 to 65536",
+            1,
+            "register \"65536\" is not a number from 0 to 65535",
+        ),
+        ("bytes", 1, "0 bytes where a row has 1 to 8"),
+        ("bytes 001122334455667788", 1, "9 bytes where a row has 1 to 8"),
+        ("bytes 00\nbytes 00", 1, "fewer than 8 bytes, but more rows follow"),
+    ];
+    for (text, line, reason) in cases {
+        let error = pack_table(text.as_bytes()).unwrap_err();
+        assert_eq!((error.line, error.reason.as_str()), (line, reason), "{text:?}");
+    }
 }
