@@ -5,7 +5,7 @@ use reference::coverage::Coverage;
 use reference::fault::Right;
 use reference::generate::Script;
 use reference::store::MAX_SLOTS;
-use reference::{log, order, Hub};
+use reference::{log, order, rights, Hub, Refusal};
 use std::ffi::OsString;
 use std::io::{Read, Write};
 use std::path::{Path, PathBuf};
@@ -68,47 +68,66 @@ impl Drop for Named {
     }
 }
 
-/// The file that lends a list, to be named by an argument. An empty list is lent in turn by no
-/// argument, by a name that no file has, and by an empty file.
-fn lent(list: &[u8]) -> Option<Named> {
+/// The files that lend a list and a table, to be named by arguments. What is empty is lent in turn by no
+/// argument, where none follows, by a name that no file has, and by an empty file.
+fn lent(list: &[u8], table: &[u8]) -> Vec<Named> {
     static TURN: AtomicUsize = AtomicUsize::new(0);
-    let turn = if list.is_empty() { TURN.fetch_add(1, Ordering::Relaxed) % 3 } else { 2 };
-    match turn {
-        0 => None,
-        1 => Some(Named::nothing()),
-        _ => Some(Named::file(list)),
+    let mut files: Vec<Named> = Vec::new();
+    // The table first: what is before an argument cannot be left out.
+    for bytes in [table, list] {
+        let turn = if bytes.is_empty() { TURN.fetch_add(1, Ordering::Relaxed) % 3 } else { 2 };
+        match turn {
+            0 if files.is_empty() => {}
+            0 | 1 => files.insert(0, Named::nothing()),
+            _ => files.insert(0, Named::file(bytes)),
+        }
+    }
+    files
+}
+
+/// What is said on standard error for a table: one line where it is refused.
+pub fn said(name: &str, table: &[u8]) -> String {
+    match rights::read::<Right>(table) {
+        Ok(_) => String::new(),
+        Err(_) => format!("{name}: the table is refused: {}\n", Refusal::Table.number()),
     }
 }
 
-/// What it prints for a file, with this list, that is written to it in pieces of these sizes, the last
-/// one repeated.
+/// What it prints for a file, with this list and without a table, that is written to it in pieces of
+/// these sizes, the last one repeated.
 pub fn printed(file: &[u8], list: &[u8], pieces: &[usize]) -> Vec<u8> {
-    let lent = lent(list);
-    printed_by(started(hublog().args(lent.iter().map(Named::as_ref))), file, pieces)
+    printed_with(file, list, &[], pieces)
 }
 
-/// What `eachlog`, the environment's `EACHLOG`, prints for a file with a row of so many slots, of
-/// another number from a record on, and this list. Its arguments are these three numbers, all of them
-/// where a list follows, and then the list's file.
-pub fn each_printed(
-    file: &[u8],
-    list: &[u8],
-    slots: usize,
-    change: Option<(usize, usize)>,
-) -> Vec<u8> {
+/// The same with a table. What it says of the table is tested.
+pub fn printed_with(file: &[u8], list: &[u8], table: &[u8], pieces: &[usize]) -> Vec<u8> {
+    let lent = lent(list, table);
+    let mut command = hublog();
+    let child = started(command.args(lent.iter().map(Named::as_ref)).stderr(Stdio::piped()));
+    let (text, told) = printed_by(child, file, pieces);
+    assert_eq!(told, said("hublog", table), "{table:?}");
+    text
+}
+
+/// What `eachlog`, the environment's `EACHLOG`, prints for a script with a row of so many slots, and of
+/// another number from a record on. Its arguments are these three numbers, all of them where a list
+/// or a table follows, and then the files of these.
+pub fn each_printed(script: &Script, slots: usize, change: Option<(usize, usize)>) -> Vec<u8> {
     let mut command = Command::new(program("EACHLOG"));
-    command.stdin(Stdio::piped()).stdout(Stdio::piped());
-    let lent = lent(list);
-    match (change, &lent) {
-        (None, None) if slots == usize::from(MAX_SLOTS) => {}
-        (None, None) => drop(command.arg(slots.to_string())),
+    command.stdin(Stdio::piped()).stdout(Stdio::piped()).stderr(Stdio::piped());
+    let lent = lent(&script.list, &script.table);
+    match (change, &lent[..]) {
+        (None, []) if slots == usize::from(MAX_SLOTS) => {}
+        (None, []) => drop(command.arg(slots.to_string())),
         _ => {
             let (record, later) = change.unwrap_or((0, slots));
             command.args([slots, record, later].map(|number| number.to_string()));
         }
     }
     command.args(lent.iter().map(Named::as_ref));
-    printed_by(started(&mut command), file, &[])
+    let (text, told) = printed_by(started(&mut command), &script.records, &[]);
+    assert_eq!(told, said("eachlog", &script.table), "{:?}", script.table);
+    text
 }
 
 /// What `rows`, the environment's `ROWS`, does with an input; it need not read it to its end.
@@ -123,10 +142,12 @@ pub fn moved(arguments: &[&str], input: &[u8]) -> Output {
     })
 }
 
-fn printed_by(mut child: Child, file: &[u8], pieces: &[usize]) -> Vec<u8> {
+/// What a program prints and what it says, for a file in pieces of these sizes.
+fn printed_by(mut child: Child, file: &[u8], pieces: &[usize]) -> (Vec<u8>, String) {
     let mut input = child.stdin.take().expect("piped");
     let mut output = child.stdout.take().expect("piped");
-    let mut text = Vec::new();
+    let mut errors = child.stderr.take().expect("piped");
+    let (mut text, mut told) = (Vec::new(), String::new());
     thread::scope(|scope| {
         scope.spawn(move || {
             let mut rest = file;
@@ -141,19 +162,22 @@ fn printed_by(mut child: Child, file: &[u8], pieces: &[usize]) -> Vec<u8> {
         });
         output.read_to_end(&mut text).expect("hublog's log");
     });
+    // A line at most, so that it waits for nobody.
+    errors.read_to_string(&mut told).expect("plain text");
     assert!(child.wait().expect("hublog ends").success());
-    text
+    (text, told)
 }
 
 /// Holds `hublog` against the second program on one script, and its own log against demand 3; gives
 /// what the script reached.
 pub fn agree(name: &str, script: &Script) -> Coverage {
-    let Script { records, list } = script;
+    let Script { records, list, table } = script;
     let mut hub = Hub::<Right, Coverage>::with_row(usize::from(MAX_SLOTS));
+    script.give(&mut hub);
     let answers = log::answers(&mut hub, records, list);
     answers.iter().for_each(|&answer| hub.observer.answered(answer));
     let expected = log::log_text(&answers);
-    let text = printed(records, list, &[]);
+    let text = printed_with(records, list, table, &[]);
     if text != expected {
         let lines = |text: &[u8]| -> Vec<String> {
             String::from_utf8_lossy(text).lines().map(String::from).collect()
@@ -168,7 +192,7 @@ pub fn agree(name: &str, script: &Script) -> Coverage {
     }
     let text = String::from_utf8(text).expect("plain text");
     let own = log::parse_log(&text).unwrap_or_else(|error| panic!("{name}: {error}"));
-    if let Err(violation) = order::check(records, list, &own) {
+    if let Err(violation) = order::check(records, list, table, &own) {
         panic!("{name}: {violation}");
     }
     hub.observer

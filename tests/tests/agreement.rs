@@ -173,12 +173,15 @@ fn random_scripts_of_all_kinds() {
     least(&Branch::OF_LIST, 500);
     least(&Branch::of_marks().collect::<Vec<_>>(), 20);
     least(&Branch::of_readings().collect::<Vec<_>>(), 40);
+    least(&Branch::of_rights().collect::<Vec<_>>(), 100);
+    least(&Branch::of_tables().collect::<Vec<_>>(), 15);
     // Both of what a get, a read or a marked read may answer.
     assert!(
         total.answered_with("none") > 20_000 && total.answered_with("value") > 60_000,
         "{total}"
     );
     assert!(total.lists.iter().all(|&met| met >= 30), "{:?}", total.lists);
+    assert!(total.tables.iter().all(|&met| met >= 30), "{:?}", total.tables);
 }
 
 #[test]
@@ -202,6 +205,17 @@ fn long_scripts_of_marks() {
 fn long_scripts_of_empty_flats() {
     let total = together((3000..3006).map(|seed| (Kind::Empty, "empty", seed, 40_000)).collect());
     for branch in Branch::of_readings() {
+        let met = total.branches[branch as usize];
+        assert!(met > 3, "{branch:?} met {met} times");
+    }
+}
+
+/// Tables of rights, three in ten of them refused.
+#[test]
+fn long_scripts_of_rights() {
+    let seeds = 4000..4010;
+    let total = together(seeds.map(|seed| (Kind::Rights, "rights", seed, 20_000)).collect());
+    for branch in Branch::of_rights() {
         let met = total.branches[branch as usize];
         assert!(met > 3, "{branch:?} met {met} times");
     }

@@ -8,7 +8,7 @@ use reference::text;
 fn holds(rows: &str, script: &str, words: &[&str]) {
     let records = text::pack(script.as_bytes()).expect("a well-formed script");
     let list = text::pack_list(rows.as_bytes()).expect("a well-formed list");
-    let both = Script { records, list };
+    let both = Script { records, list, ..Script::default() };
     agree(script, &both);
     let text = String::from_utf8(printed(&both.records, &both.list, &[])).expect("plain text");
     let told: Vec<&str> = text.lines().filter_map(|line| Some(line.split_once(' ')?.1)).collect();

@@ -1,7 +1,7 @@
 //! Input in pieces of any size, files that end at or just after a block, input and output that fail or are
 //! closed, and a reader of the log that goes away.
 
-use hublog_tests::{hublog, printed};
+use hublog_tests::{hublog, printed, printed_with};
 use reference::generate::{script, Kind};
 use reference::{log, Hub};
 use std::fs::File;
@@ -17,14 +17,18 @@ fn pieces_of_any_size() {
     let expected = log::log_text(&script.answers());
     for pieces in [&[1][..], &[7], &[16], &[15, 2, 31], &[4095], &[262_143, 1, 262_145], &[262_144]]
     {
-        assert!(printed(&script.records, &script.list, pieces) == expected, "{pieces:?}");
+        assert!(
+            printed_with(&script.records, &script.list, &script.table, pieces) == expected,
+            "{pieces:?}"
+        );
     }
 }
 
 #[test]
 fn lines_across_many_chunks() {
     let script = script(Kind::Mixed, 8, 200_000);
-    assert!(printed(&script.records, &script.list, &[]) == log::log_text(&script.answers()));
+    let text = printed_with(&script.records, &script.list, &script.table, &[]);
+    assert!(text == log::log_text(&script.answers()));
 }
 
 /// Whole blocks, and a rest of 1 to 15 bytes just after one, from a file, so that a read brings a block.

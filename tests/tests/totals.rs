@@ -17,7 +17,7 @@ fn list(rows: &str) -> Vec<u8> {
 
 /// Holds both programs to a script with a list, and its log to these words.
 fn holds(list: Vec<u8>, script: &str, words: &[&str]) {
-    let both = Script { records: records(script), list };
+    let both = Script { records: records(script), list, ..Script::default() };
     agree(script, &both);
     let expected: String =
         words.iter().enumerate().map(|(i, word)| format!("{i} {word}\n")).collect();
@@ -68,7 +68,8 @@ fn a_total_moves_off_a_freed_version() {
         "setup 2 2 5 1\n put 0 0 5\n step 0 x3\n open 1\n step 1 x2\n put 0 0 6\n step 0 x9
         total 1 0\n step 1\n put 0 0 7\n step 0 x3\n collect 0\n step 0 x7\n collect 0\n step 0 x7
         put 0 1 1000\n step 0 x3\n step 1";
-    let both = Script { records: records(script), list: list("0 + 0") };
+    let (records, list) = (records(script), list("0 + 0"));
+    let both = Script { records, list, ..Script::default() };
     agree("a freed version", &both);
     let text = String::from_utf8(printed(&both.records, &both.list, &[])).unwrap();
     assert!(text.contains(" freed 3\n") && text.ends_with(" value 5\n"), "{text}");
@@ -83,7 +84,7 @@ fn sums_at_the_extremes() {
         ("3 + 0\n".repeat(16) + &"3 - 0\n".repeat(16), "0"),
         ("3 - 0\n".repeat(16) + &"3 + 0\n".repeat(15), "-999999999999"),
     ] {
-        let both = Script { records: records(script), list: list(&rows) };
+        let both = Script { records: records(script), list: list(&rows), ..Script::default() };
         agree(&rows, &both);
         let text = String::from_utf8(printed(&both.records, &both.list, &[])).unwrap();
         assert!(text.contains(&format!(" value {sum}\n")), "{sum}: {text}");
