@@ -212,9 +212,9 @@ fn long_scripts_of_empty_flats() {
 
 /// Tables of rights, three in ten of them refused.
 #[test]
-fn long_scripts_of_rights() {
-    let seeds = 4000..4010;
-    let total = together(seeds.map(|seed| (Kind::Rights, "rights", seed, 20_000)).collect());
+fn longer_scripts_of_rights() {
+    let seeds = 4000..4060;
+    let total = together(seeds.map(|seed| (Kind::Rights, "rights", seed, 5000)).collect());
     for branch in Branch::of_rights() {
         let met = total.branches[branch as usize];
         assert!(met > 3, "{branch:?} met {met} times");

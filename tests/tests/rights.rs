@@ -126,7 +126,7 @@ fn expected(table: &[u8]) -> (String, String) {
     let answers =
         Script { records: records(GETS), list: Vec::new(), table: table.to_vec() }.answers();
     let text = String::from_utf8(log::log_text(&answers)).expect("plain text");
-    (text.replace('\n', " "), said("hublog", table))
+    (text.replace('\n', " "), said(table))
 }
 
 /// Register 0 alone.
