@@ -277,7 +277,7 @@ impl Store {
         }
         let worker = self.worker_for(worker, register)?;
         let busy = worker.doing != Doing::Idle;
-        if !allowed && !(F::FORBIDDEN_AFTER_BUSY && busy) {
+        if !(allowed || F::FORBIDDEN_AFTER_BUSY && busy) {
             return Err(Refusal::Forbidden);
         }
         if busy {

@@ -77,13 +77,14 @@ impl Site {
         }
     }
 
-    /// The rows of a worker: none, one for all, some that together have all or all but one register, or
-    /// a few of any kind.
+    /// The rows of a worker: none, one without a right, one for all, two that together have all or all but
+    /// one register, or a few of any kind.
     fn rows_of(self, worker: u8, random: &mut Random) -> Vec<Row> {
         let row = |rights, first, last| Row { worker, rights, first, last };
         let end = self.registers - 1;
         match random.below(8) {
-            0 => Vec::new(),
+            0 if random.chance(500) => Vec::new(),
+            0 => vec![row(0, 0, end)],
             1 | 2 => vec![row(ALL, 0, random.pick(&[end, LAST_REGISTER]))],
             3 | 4 => {
                 let cut = random.below(u64::from(end) + 1) as u16;

@@ -149,7 +149,7 @@ fn together(scripts: Vec<(Kind, &'static str, u64, usize)>) -> Coverage {
 #[test]
 fn random_scripts_of_all_kinds() {
     let mut scripts = Vec::new();
-    for seed in 0..125 {
+    for seed in 0..140 {
         for (kind, name) in Kind::ALL {
             scripts.push((kind, name, seed, 1000));
         }
