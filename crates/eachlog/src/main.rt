@@ -1,6 +1,6 @@
 // The log of the records on standard input, as `hublog` writes it, with one call of `hub::apply` for each record. The arguments say how many
-// slots the lent row has (2048 without one), and from which record on it has another number of them: eachlog [SLOTS [RECORD SLOTS [LIST]]]. LIST
-// names the file with the list of totals.
+// slots the lent row has (2048 without one), and from which record on it has another number of them: eachlog [SLOTS [RECORD SLOTS [LIST [TABLE]]]].
+// LIST names the file with the list of totals, TABLE that with the table of rights.
 ghost use Prim.Native.Nat.{_≤_};
 ghost use lib.ListN.{length};
 use state::Hub;
@@ -44,6 +44,14 @@ fn argument(i: usize, other: usize) -> usize {
     number(buf, n)
 }
 
+// Whether the table is refused. On memory that is not set up no other number than 24 is given.
+fn is_refusal(y: Answer) -> bool {
+    match y {
+        Answer::No(_) => true,
+        _ => false,
+    }
+}
+
 // Writes the line of record k with this answer to standard output; answers whether it was written.
 fn write_answer(k: u64, answer: Answer) -> bool {
     let mut kind_space = [0u8; 1];
@@ -79,10 +87,37 @@ fn main() {
         return;
     }
     let end = listed.n;
+    // The table of rights: one byte more than the longest that is accepted.
+    let mut table_space = [0u8; 513];
+    let table: &mut [u8] = &mut table_space;
+    let tabled = input::read_named(5, table);
+    if tabled.failed {
+        input::say(b"eachlog: cannot read the table of rights\n");
+        return;
+    }
+    let rows = tabled.n;
+    let shared = &table[..];
     let none = slots::vacant();
     let mut slots = [none; 2048];
-    // No worker, no register, no slot: memory that counts as not set up.
+    // No worker, no register, no slot, no table: memory that counts as not set up.
     let mut hub = Hub::empty();
+    let given = hub::give_table_row(
+        slots,
+        long,
+        hub,
+        &shared[0..rows],
+        &newest,
+        &free,
+        &queue,
+        &lens,
+        &merged,
+    );
+    let fresh = given.hub;
+    hub = fresh;
+    let answer = given.answer;
+    if is_refusal(answer) {
+        input::say(b"eachlog: the table is refused: 24\n");
+    }
     let mut k: u64 = 0;
     let mut lent = long;
     // Nothing says that the input ends, so the turns are counted, from a number that no run uses up.

@@ -10,7 +10,7 @@ use contract.Lifetimes.{Within}
 use types.Kit.{Given}
 use denote.RattleType.{RattleType}
 use denote.Builtin.{u8, u16, u32, u64}
-use denote.Signature.{Slot, plain, mutRefTo, mutSliceOf, shrRefTo, shrSliceOf}
+use denote.Signature.{Slot, plain, mutRefTo, mutSliceOf, shrSliceOf}
 use denote.Signature.Array.{arrayOf}
 use denote.Triple.End.{all}
 use denote.Triple.Walked.{Stay, Stays, gave-ref, gave-slice, stay-dropped, Goes, AllGo, goes-gave-ref, goes-gave-slice, goes-dropped}
@@ -30,17 +30,11 @@ module _ {n : ℕ} (a : At n) where
   abbrev array : RattleType → ℕ → Slot n
   array R k = mutRefTo (a .0 ∷ []) (a .1) (arrayOf (plain (λ _. R)) k)
 
-  abbrev shown : RattleType → ℕ → Slot n
-  shown R k = shrRefTo (a .0 ∷ []) (a .1) (arrayOf (plain (λ _. R)) k)
-
   abbrev gave-row : (R : RattleType) → Stay (row R) yes
   gave-row R = gave-slice (a .0 ∷ []) (a .1) (plain (λ _. R))
 
   abbrev gave : (R : RattleType) (k : ℕ) → Stay (array R k) yes
   gave R k = gave-ref (a .0 ∷ []) (a .1) (arrayOf (plain (λ _. R)) k)
-
-  abbrev left : (R : RattleType) (k : ℕ) → Stay (shown R k) yes
-  left R k = stay-dropped (shown R k) yes
 
 module _ {M : Type 1} (𝓤 : URA M) (H : Heap 𝓤) (A : Atoms 𝓤) (W : Given 𝓤 H A) (n : ℕ) (a : At n) where
   go-row : (R : RattleType) → Goes 𝓤 H A W n (row a R) yes (gave-row a R)
@@ -48,9 +42,6 @@ module _ {M : Type 1} (𝓤 : URA M) (H : Heap 𝓤) (A : Atoms 𝓤) (W : Given
 
   go : (R : RattleType) (k : ℕ) → Goes 𝓤 H A W n (array a R k) yes (gave a R k)
   go R k = goes-gave-ref 𝓤 H A W n (a .0) (a .1) (arrayOf (plain (λ _. R)) k)
-
-  go-shown : (R : RattleType) (k : ℕ) → Goes 𝓤 H A W n (shown a R k) yes (left a R k)
-  go-shown R k = goes-dropped 𝓤 H A W n (shown a R k) yes (λ κs x f. refl)
 
 -- ---- the five arrays
 module _ (n : ℕ) (a b c d e : At n) where
@@ -90,16 +81,3 @@ module _ (n : ℕ) (l r s t a b c d e : At n) where
   buffer-go 𝓤 H A W =
       let z : (i : At n) → Goes 𝓤 H A W n (bytes i) yes (stay-dropped (bytes i) yes) = λ i. goes-dropped 𝓤 H A W n (bytes i) yes (λ κs x f. refl) in
       (z l, (z r, (go-row 𝓤 H A W n s u8, (go-row 𝓤 H A W n t u64, arrays-go n a b c d e 𝓤 H A W))))
-
--- ---- a table: its bytes and the arrays, all of them shared for one lifetime
-module _ (n : ℕ) (a : At n) where
-  abbrev table : List (Slot n)
-  table = bytes a ∷ shown a u16 256 ∷ shown a u16 2048 ∷ shown a u32 12288 ∷ shown a u32 4096 ∷ shown a u32 12288 ∷ []
-
-  abbrev pub table-gave : Stays table (all yes table)
-  table-gave = (stay-dropped (bytes a) yes, (left a u16 256, (left a u16 2048, (left a u32 12288, (left a u32 4096, (left a u32 12288, tt))))))
-
-  pub table-go : {M : Type 1} (𝓤 : URA M) (H : Heap 𝓤) (A : Atoms 𝓤) (W : Given 𝓤 H A) → AllGo 𝓤 H A W n table (all yes table) table-gave
-  table-go 𝓤 H A W =
-      let g : (R : RattleType) (k : ℕ) → Goes 𝓤 H A W n (shown a R k) yes (left a R k) = go-shown 𝓤 H A W n a in
-      (goes-dropped 𝓤 H A W n (bytes a) yes (λ κs x f. refl), (g u16 256, (g u16 2048, (g u32 12288, (g u32 4096, (g u32 12288, tt))))))

@@ -16,3 +16,5 @@ pub mod SlotArray
 pub mod Tables
 pub mod Values
 pub mod Words
+pub mod Shared
+pub mod Giving

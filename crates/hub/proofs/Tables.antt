@@ -1,5 +1,4 @@
--- What a table is given with beside the slots: its bytes and the five arrays, all of them shared for one lifetime. What is owned of it, what the call
--- does to memory, and a call of `runs::give_table` as one step of a walk: the row of words is lent on, everything else is handed over.
+-- A call of `runs::give_table` as one step of a walk: the row of words is lent on, everything else is handed over.
 use mathlib.Core.Path.{_≡_, refl}
 use Prim.Native.Nat.{ℕ, _<_, _≤_, _^_}
 use mathlib.Core.List.{List, [], _∷_}
@@ -43,54 +42,22 @@ use Rattle.runs.specs.declared.Applied.{Applied}
 use Rattle.runs.proofs.Applied as P
 use Rattle.runs.proofs.Applied.Laws as P′
 use Rattle.hub.proofs.Lends.{call-shown}
-use Rattle.hub.proofs.Passed.{Newest, Free, Queue, Lens, Merged, Arrays, Each, array-vals, array-list, found}
+use Rattle.hub.proofs.Passed.{found}
+use Rattle.hub.proofs.Shared.{Tabled, tabled-vals, tabled-list, tabled-own, TableGives}
 use Rattle.hub.proofs.Values.{hub-vals, applied-vals}
 use Rattle.hub.proofs.Words.{Words, Row, RowShared}
 use Rattle.runs.proofs.give_table as give-table
 use Rattle.runs.proofs.give_table.Symbol.{name as #runs·give-table}
 
-abbrev pub Table : Type 0
-Table = RefT (List ℕ) × Arrays
-
-abbrev pub table-types : Lft → List RattleType
-table-types κ =
-    ShrSlice (named 0) κ u8 ∷ ShrRef (named 0) κ Newest ∷ ShrRef (named 0) κ Free ∷ ShrRef (named 0) κ Queue ∷ ShrRef (named 0) κ Lens
-    ∷ ShrRef (named 0) κ Merged ∷ []
-
-abbrev pub table-vals : Table → List Val × Each
-table-vals x = (slice-vals (x .0), array-vals (x .1))
-
-abbrev pub table-spells : (κ : Lft) → Spells (table-types κ)
-table-spells κ = (slice-vals, (ptr-vals, (ptr-vals, (ptr-vals, (ptr-vals, (ptr-vals, tt))))))
-
-pub table-tells : (κ : Lft) → Tellss (table-types κ) (Ises (table-types κ)) (table-spells κ)
-table-tells κ = (
-  shr-slice-tells (named 0) κ u8,
-  (
-    shr-tells (named 0) κ Newest,
-    (shr-tells (named 0) κ Free, (shr-tells (named 0) κ Queue, (shr-tells (named 0) κ Lens, (shr-tells (named 0) κ Merged, tt)))),
-  ),
-)
-
-abbrev pub table-list : Table → List Val
-table-list x = only (slice-vals (x .0)) ∷ array-list (x .1)
-
-abbrev pub table-own : Lft → Table → Fml
-table-own κ x = owns (table-types κ) x (table-vals x)
-
--- what the call did: nothing but the hub by value is changed
-abbrev pub TableGives : Hub → List Slot → Table → Hub → Answer → Type 0
-TableGives h s x h′ y = Gives (found h s (x .1)) (x .0 .now) y (found h′ s (x .1))
-
 -- what it did on the first 2048 slots it does on all of them
-pub gives-whole : (h : Hub) (s : List Slot) (x : Table) (h′ : Hub) (y : Answer) → TableGives h (take 2048 s) x h′ y → TableGives h s x h′ y
+pub gives-whole : (h : Hub) (s : List Slot) (x : Tabled) (h′ : Hub) (y : Answer) → TableGives h (take 2048 s) x h′ y → TableGives h s x h′ y
 gives-whole h s x h′ y = given-cut (found h s (x .1)) h′ (x .0 .now) y
 
 abbrev pub GiveTable : {M : Type 1} (𝓤 : URA M) (H : Heap 𝓤) (A : Atoms 𝓤) (mem : Memory → SProp 𝓤) (run : Routine → Fun 𝓤) → Contract 𝓤
 GiveTable 𝓤 H A mem run = tripleOf 𝓤 H A give-table.signature (give-table.spec 𝓤 H A mem run)
 
 module _ {M : Type 1} (𝓤 : URA M) (H : Heap 𝓤) (A : Atoms 𝓤) (W : Given 𝓤 H A) (mem : Memory → SProp 𝓤) (run : Routine → Fun 𝓤) (n b o : ℕ)
-    (ws : List (List ℕ)) (k : ℕ) (h : Hub) (κ : Lft) (q : Share) (x : Table) where
+    (ws : List (List ℕ)) (k : ℕ) (h : Hub) (κ : Lft) (q : Share) (x : Tabled) where
   -- what the callee's contract binds outside, and that the caller has what it asks
   abbrev to-give : Lft → GName → GiveTable 𝓤 H A mem run .Ghost
   to-give ν δ = (
@@ -99,16 +66,16 @@ module _ {M : Type 1} (𝓤 : URA M) (H : Heap 𝓤) (A : Atoms 𝓤) (W : Given
       (fullShare, (q, tt)),
       tt,
       (slice b o δ ws, (k, (h, x))),
-      (sliceVal (b, o) n ∷ [], (vint w64 k ∷ [], (hub-vals h, table-vals x))),
+      (sliceVal (b, o) n ∷ [], (vint w64 k ∷ [], (hub-vals h, tabled-vals x))),
     ),
     tt,
   )
 
   goes-give : k < 2 ^ 64 → Is B.the-row h (hub-vals h) → k ≤ length ws → (ν : Lft) (δ : GName)
-      → ent 𝓤 (sep 𝓤 (A .lft ν fullShare) (sep 𝓤 (sem 𝓤 H A (RowShared ν n b o δ ws)) (sep 𝓤 (A .lft κ q) (sem 𝓤 H A (table-own κ x)))))
+      → ent 𝓤 (sep 𝓤 (A .lft ν fullShare) (sep 𝓤 (sem 𝓤 H A (RowShared ν n b o δ ws)) (sep 𝓤 (A .lft κ q) (sem 𝓤 H A (tabled-own κ x)))))
       (GiveTable 𝓤 H A mem run .pre (to-give ν δ))
   goes-give gk gh within ν δ =
-      qed W (‵ (flft ν fullShare) ∷ ‵ (RowShared ν n b o δ ws) ∷ ‵ (flft κ q) ∷ ‵ (table-own κ x) ∷ []) ∵ says ! within $ move ! (3 ∷ []) $
+      qed W (‵ (flft ν fullShare) ∷ ‵ (RowShared ν n b o δ ws) ∷ ‵ (flft κ q) ∷ ‵ (tabled-own κ x) ∷ []) ∵ says ! within $ move ! (3 ∷ []) $
       owned ! B.the-row (Is B.the-row) (LL.makes B.the-type B′.the-plain 𝓤 H A) h (hub-vals h) gh $ fjoin ! $
       owned ! usize (Is usize) (uint-makes 𝓤 H A W w64) k _ (refl, gk) $ fjoin ! $ move ! (2 ∷ 0 ∷ []) $ fjoin ! $ nothing ! $
       move ! (3 ∷ 0 ∷ []) $ join ! $ move ! (2 ∷ 0 ∷ []) $ join ! $ frame ! $
@@ -136,17 +103,17 @@ module _ {M : Type 1} {𝓤 : URA M} {H : Heap 𝓤} {A : Atoms 𝓤} {K : Type 
     {q : Post 𝓤 H} {dst : Place} {rest : Body} {xs : List Operand} {κ κ₁ : Lft} {p p₁ : Share} {γ : GName} where
   pub call-give-table : (t : K) (mem : Memory → SProp 𝓤) (run : Routine → Fun 𝓤) → FmC 𝓤 H (W .laws) C
       → Triple 𝓤 (C #runs·give-table) (GiveTable 𝓤 H A mem run)
-      → (n b o : ℕ) (ws : List (List ℕ)) → length ws ≡ n → Room Words n → (k : ℕ) (h : Hub) (x : Table) → k < 2 ^ 64
+      → (n b o : ℕ) (ws : List (List ℕ)) → length ws ≡ n → Room Words n → (k : ℕ) (h : Hub) (x : Tabled) → k < 2 ^ 64
       → Is B.the-row h (hub-vals h) → k ≤ length ws
-      → ((i j : Item 𝓤) → Opds K W (i ∷ j ∷ Γ) E xs (sliceVal (b, o) n ∷ vint w64 k ∷ only (hub-vals h) ∷ table-list x))
+      → ((i j : Item 𝓤) → Opds K W (i ∷ j ∷ Γ) E xs (sliceVal (b, o) n ∷ vint w64 k ∷ only (hub-vals h) ∷ tabled-list x))
       → ((r : Applied) → TableGives h (take k (rowOf ws)) x (r .hub) (r .answer) → Is P.the-row r (applied-vals r)
       → Seq K W (‵ (Row κ n b o γ ws) ∷ ‵ (flft κ p) ∷ ‵ (flft κ₁ p₁) ∷ Γ) (lands C Λ E dst (only (applied-vals r)) rest q))
-      → Seq K W (‵ (Row κ n b o γ ws) ∷ ‵ (flft κ p) ∷ ‵ (flft κ₁ p₁) ∷ ‵ (table-own κ₁ x) ∷ Γ)
+      → Seq K W (‵ (Row κ n b o γ ws) ∷ ‵ (flft κ p) ∷ ‵ (flft κ₁ p₁) ∷ ‵ (tabled-own κ₁ x) ∷ Γ)
       (runs C Λ E (seq (call #runs·give-table xs dst) rest) q)
   call-give-table t mem run fm known n b o ws len room k h x gk gh within os next =
       move t (2 ∷ 3 ∷ []) $ join t $ move t (1 ∷ 2 ∷ 0 ∷ []) $
       call-shown t fm (GiveTable 𝓤 H A mem run) known P.the-row applied-vals (LL.tells P.the-type P′.the-laws) Words n b o ws len room
       (to-give 𝓤 H A W mem run n b o ws k h κ₁ p₁ x) (tokens 𝓤 H A W mem run n b o ws k h κ₁ p₁ x)
-      (Said 𝓤 H A W mem run n b o ws k h κ₁ p₁ x) (‵ (flft κ₁ p₁) ⊛ ‵ (table-own κ₁ x)) (‵ (flft κ₁ p₁)) (Says 𝓤 H A W mem run n b o ws k h κ₁ p₁ x)
+      (Said 𝓤 H A W mem run n b o ws k h κ₁ p₁ x) (‵ (flft κ₁ p₁) ⊛ ‵ (tabled-own κ₁ x)) (‵ (flft κ₁ p₁)) (Says 𝓤 H A W mem run n b o ws k h κ₁ p₁ x)
       (its-tokens 𝓤 H A W mem run n b o ws k h κ₁ p₁ x) (goes-give 𝓤 H A W mem run n b o ws k h κ₁ p₁ x gk gh within) (λ ν δ w. id⊢ 𝓤 _)
       (said 𝓤 H A W mem run n b o ws k h κ₁ p₁ x) (λ ν δ. os) next

@@ -432,3 +432,42 @@ pub fn apply_row(
     );
     Answered { applied, slots }
 }
+
+// A table of rights, given to the first `long` slots of a row that the caller owns. More than 2048 count as 2048.
+pub fn give_table_row<'a>(
+    row: [Slot; 2048],
+    long: usize,
+    hub: Hub,
+    table: &'a [u8],
+    newest: &'a [u16; 256],
+    free: &'a [u16; 2048],
+    queue: &'a [u32; 12288],
+    lens: &'a [u32; 4096],
+    merged: &'a [u32; 12288],
+) -> Applied
+    ensures { λ r. ⌜
+        Gives
+        (record {
+          hub = hub;
+          slots = take (min long 2048) row;
+          newest = now (newest .entry);
+          free = now (free .entry);
+          queue = now (queue .entry);
+          lens = now (lens .entry);
+          merged = now (merged .entry);
+        })
+        (now (table .entry)) (r .answer)
+        (record {
+          hub = r .hub;
+          slots = take (min long 2048) row;
+          newest = now (newest .entry);
+          free = now (free .entry);
+          queue = now (queue .entry);
+          lens = now (lens .entry);
+          merged = now (merged .entry);
+        })
+        ⌝ }
+{
+    let n = runs::at_most(long, 2048);
+    give_table(&row[0..n], hub, table, newest, free, queue, lens, merged)
+}

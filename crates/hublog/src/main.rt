@@ -5,7 +5,7 @@ use state::Hub;
 use values::Answer;
 
 // Whether the table is refused. On memory that is not set up no other number than 24 is given.
-fn refused(y: Answer) -> bool {
+fn is_refusal(y: Answer) -> bool {
     match y {
         Answer::No(_) => true,
         _ => false,
@@ -64,7 +64,7 @@ fn main() {
     let fresh = given.hub;
     hub = fresh;
     let answer = given.answer;
-    if refused(answer) {
+    if is_refusal(answer) {
         input::say(b"hublog: the table is refused: 24\n");
     }
     // The number of the next record, and how many of its bytes stand at the start of the block.

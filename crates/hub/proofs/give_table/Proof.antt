@@ -51,8 +51,8 @@ use Rattle.hub.proofs.Lends.{big-lit}
 use Rattle.hub.proofs.Local.{lends-local, takes-back}
 use Rattle.hub.proofs.Words.{Words}
 use Rattle.hub.proofs.Values.{hub-vals, applied-vals, typed-hub, typed-applied}
-use Rattle.hub.proofs.Handed.{table-gave, table-go}
-use Rattle.hub.proofs.Tables.{Table, table-types, table-vals, table-spells, table-tells, table-list, TableGives, gives-whole, GiveTable}
+use Rattle.hub.proofs.Shared.{Tabled, tabled-types, tabled-vals, tabled-spells, tabled-tells, tabled-list, TableGives, tabled-dropped, tabled-go}
+use Rattle.hub.proofs.Tables.{gives-whole, GiveTable}
 use Rattle.hub.proofs.Tables.{call-give-table}
 use Rattle.hub.proofs.Moves.{word-vals, word-tells, word-makes, roomy, typed-row, Zeros, AtMost, LoadRow, call-zeros, call-at-most}
 use Rattle.hub.proofs.Moves.{call-read-row}
@@ -74,10 +74,10 @@ use Rattle.hub.proofs.give_table.Statement as stated
 use Rattle.hub.proofs.give_table.Code as code
 
 abbrev stayed : Stays (f.ended .signature .params) (f.ended .kept)
-stayed = (stay-dropped (shrSliceOf (0 ∷ []) tt (plain (λ _. T.the-row))) yes, (stay-dropped (plain (λ _. B.the-row)) yes, table-gave 1 (0, tt)))
+stayed = (stay-dropped (shrSliceOf (0 ∷ []) tt (plain (λ _. T.the-row))) yes, (stay-dropped (plain (λ _. B.the-row)) yes, tabled-dropped))
 
 module _ {M : Type 1} (𝓤 : URA M) (H : Heap 𝓤) (A : Atoms 𝓤) (W : Given 𝓤 H A) (mem : Memory → SProp 𝓤) (run : Routine → Fun 𝓤)
-    (κ : Lft) (q : Share) (b o : ℕ) (γ : GName) (ys : List Slot) (hub : Hub) (x : Table)
+    (κ : Lft) (q : Share) (b o : ℕ) (γ : GName) (ys : List Slot) (hub : Hub) (x : Tabled)
     (room : Room T.the-row (length ys)) (gh : Is B.the-row hub (hub-vals hub)) (room₀ : Room u8 (length (x .0 .now)))
     (ws : List (List ℕ)) (is-zeros : replicate 2048 (replicate 6 0) ≡ ws) (k : ℕ) (is-k : min (length ys) 2048 ≡ k) where
   abbrev n : ℕ
@@ -87,7 +87,7 @@ module _ {M : Type 1} (𝓤 : URA M) (H : Heap 𝓤) (A : Atoms 𝓤) (W : Given
   s = sliceVal (b, o) n
 
   abbrev at : Vals f.signature (κ, tt)
-  at = (s ∷ [], (hub-vals hub, table-vals x))
+  at = (s ∷ [], (hub-vals hub, tabled-vals x))
 
   abbrev Fin : Val → SProp 𝓤
   Fin = walkOf 𝓤 H A f.ended stayed (f.clauses 𝓤 H A mem run) .post (((κ, tt), (q, tt), tt, (slice b o γ ys, (hub, x)), at), tt)
@@ -110,11 +110,11 @@ module _ {M : Type 1} (𝓤 : URA M) (H : Heap 𝓤) (A : Atoms 𝓤) (W : Given
     fm = fmOf 𝓤 H (W .laws) 𝓣
 
     walk : ent 𝓤 (onEntry 𝓤 H A f.signature (κ, tt) (q, tt) (slice b o γ ys, (hub, x)) at)
-        (WpFn 𝓤 H (𝓣 .C) (𝓣 .Λ) code.function (s ∷ only (hub-vals hub) ∷ table-list x) Fin)
+        (WpFn 𝓤 H (𝓣 .C) (𝓣 .Λ) code.function (s ∷ only (hub-vals hub) ∷ tabled-list x) Fin)
     walk =
         qed W ((‵ (flft κ q) ⊛ ‵ ftrue) ∷
-        ‵ (owns (ShrSlice (named 0) κ T.the-row ∷ B.the-row ∷ table-types κ) (slice b o γ ys, (hub, x)) at) ∷ []) ∵
-        enter ! (𝓣 .C) (𝓣 .Λ) code.function (s ∷ only (hub-vals hub) ∷ table-list x) _ $
+        ‵ (owns (ShrSlice (named 0) κ T.the-row ∷ B.the-row ∷ tabled-types κ) (slice b o γ ys, (hub, x)) at) ∷ []) ∵
+        enter ! (𝓣 .C) (𝓣 .Λ) code.function (s ∷ only (hub-vals hub) ∷ tabled-list x) _ $
         alloc1 ! (λ l0. alloc1 ! (λ l1. alloc1 ! (λ l2. alloc1 ! (λ l3. alloc1 ! (λ l4. alloc1 ! (λ l5. alloc1 ! (λ l6. alloc1 ! (λ l7.
         alloc1 ! (λ l8. alloc1 ! (λ l9. alloc1 ! (λ l10. alloc1 ! (λ l11. alloc1 ! (λ l12. alloc1 ! (λ l13. alloc1 ! (λ l14.
         alloc1 ! (λ l15. alloc1 ! (λ l16. alloc1 ! (λ l17. alloc0 ! $ params1 ! $
@@ -174,8 +174,8 @@ module _ {M : Type 1} (𝓤 : URA M) (H : Heap 𝓤) (A : Atoms 𝓤) (W : Given
   give-table-walks : Walks 𝓤 H A f.ended stayed (WpFn 𝓤 H (𝓣 .C) (𝓣 .Λ) code.function) (f.clauses 𝓤 H A mem run)
   give-table-walks =
       walked 𝓤 H A f.ended stayed (f.clauses 𝓤 H A mem run) (WpFn 𝓤 H (𝓣 .C) (𝓣 .Λ) code.function)
-      (λ κs. (slice-vals, (hub-vals, table-spells (κs .0))))
-      (λ κs. (shr-slice-tells (named 0) (κs .0) T.the-row, (LL.tells B.the-type B′.the-laws, table-tells (κs .0))))
+      (λ κs. (slice-vals, (hub-vals, tabled-spells (κs .0))))
+      (λ κs. (shr-slice-tells (named 0) (κs .0) T.the-row, (LL.tells B.the-type B′.the-laws, tabled-tells (κs .0))))
       (λ κs qs bounds a g are. via 𝓤 _ (fst∗ 𝓤 _ (emp 𝓤))
       (walk 𝓤 H A W mem run (κs .0) (qs .0) (a .0 .ptr .0) (a .0 .ptr .1) (a .0 .name) (a .0 .now) (a .1 .0) (a .1 .1) (are .0 .0 .1)
       (are .1 .0) (are .1 .1 .0 .0 .1)
@@ -185,7 +185,7 @@ module _ {M : Type 1} (𝓤 : URA M) (H : Heap 𝓤) (A : Atoms 𝓤) (W : Given
   give-table-meets =
       walk-meets 𝓤 H A f.ended stayed W (
         goes-dropped 𝓤 H A W 1 (shrSliceOf (0 ∷ []) tt (plain (λ _. T.the-row))) yes (λ κs x f. refl),
-        (goes-dropped 𝓤 H A W 1 (plain (λ _. B.the-row)) yes (λ κs x f. refl), table-go 1 (0, tt) 𝓤 H A W),
+        (goes-dropped 𝓤 H A W 1 (plain (λ _. B.the-row)) yes (λ κs x f. refl), tabled-go 𝓤 H A W),
       )
       (f.clauses 𝓤 H A mem run) (WpFn 𝓤 H (𝓣 .C) (𝓣 .Λ) code.function) (WpFn-mono 𝓤 H (W .laws) 𝓣 code.function) give-table-walks
 
