@@ -44,14 +44,6 @@ fn argument(i: usize, other: usize) -> usize {
     number(buf, n)
 }
 
-// Whether the table is refused. On memory that is not set up no other number than 24 is given.
-fn is_refusal(y: Answer) -> bool {
-    match y {
-        Answer::No(_) => true,
-        _ => false,
-    }
-}
-
 // Writes the line of record k with this answer to standard output; answers whether it was written.
 fn write_answer(k: u64, answer: Answer) -> bool {
     let mut kind_space = [0u8; 1];
@@ -115,7 +107,8 @@ fn main() {
     let fresh = given.hub;
     hub = fresh;
     let answer = given.answer;
-    if is_refusal(answer) {
+    // All but `Ok` is a refusal, and on memory that is not set up none but 24 is given.
+    if answers::kind(answer) != 0 {
         input::say(b"eachlog: the table is refused: 24\n");
     }
     let mut k: u64 = 0;

@@ -2,15 +2,6 @@
 // next read. The first argument names the file with the list of totals, the second that with the table of rights (H10.7, H15.11). This crate owns
 // the memory of the hub.
 use state::Hub;
-use values::Answer;
-
-// Whether the table is refused. On memory that is not set up no other number than 24 is given.
-fn is_refusal(y: Answer) -> bool {
-    match y {
-        Answer::No(_) => true,
-        _ => false,
-    }
-}
 
 fn main() {
     // A read brings at most 16384 records; the text has room for as many lines of 49 bytes, the longest.
@@ -64,7 +55,8 @@ fn main() {
     let fresh = given.hub;
     hub = fresh;
     let answer = given.answer;
-    if is_refusal(answer) {
+    // All but `Ok` is a refusal, and on memory that is not set up none but 24 is given.
+    if answers::kind(answer) != 0 {
         input::say(b"hublog: the table is refused: 24\n");
     }
     // The number of the next record, and how many of its bytes stand at the start of the block.

@@ -353,10 +353,45 @@ fn marks() {
     show_all(m, sizes_of(m, 1, 1, 1, 4));
 }
 
+// A hub with so many rows of rights, of which row i is this number. The table does not allow a get where it has rows and none for worker 0, so `no 23`
+// says that the memory counts as set up, too.
+fn show_rights(m: Memory, granted: usize, i: usize, name: &[u8], row: u64) {
+    let mut hub = m.hub;
+    hub.granted = granted;
+    hub.rights[i % 64] = row;
+    write(b"rows of rights = ");
+    write_number(granted);
+    write(b", row ");
+    write_number(i);
+    write(b" ");
+    write(name);
+    let left = Memory { hub, ..m };
+    show(left, 2048, 0);
+}
+
+// One worker and rows of rights: at and past each limit, and a row that does not count.
+fn rights() {
+    let script = [[2, 0, 0, 2]];
+    let m = records::driven(records::set_up(1, 1, 2, &[]), &script);
+    show_rights(m, 1, 0, b"worker 0 all registers 0 to 255", 1095216664320);
+    show_rights(m, 64, 63, b"worker 15 read register 255", 1095233372687);
+    show_rights(m, 65, 63, b"worker 0 read register 0", 512);
+    show_rights(m, 1, 0, b"worker 16", 528);
+    show_rights(m, 1, 0, b"rights 16", 4096);
+    show_rights(m, 1, 0, b"last register 256", 1099511628288);
+    show_rights(m, 1, 0, b"registers 2 to 1", 4295098880);
+    show_rights(m, 1, 0, b"byte 6 not zero", 281474976711168);
+    show_rights(m, 1, 0, b"byte 7 not zero", 72057594037928448);
+    show_rights(m, 64, 63, b"worker 16", 528);
+    show_rights(m, 1, 1, b"all bytes 255", 18446744073709551615);
+    show_rights(m, 0, 0, b"all bytes 255", 18446744073709551615);
+}
+
 fn main() {
     smallest();
     many_workers();
     two_workers();
     totals();
     marks();
+    rights();
 }

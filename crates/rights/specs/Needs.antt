@@ -1,5 +1,4 @@
 -- The code's rights and needs as the model's.
-use mathlib.Core.Bool.{Bool}
 use mathlib.Core.List.{List, [], _∷_, map}
 use Prim.Native.Nat.{ℕ}
 use Rattle.model.specs.Totals.{registerOf, ofGroup}
@@ -8,19 +7,12 @@ use Rattle.rights.specs.declared.Permission.{Permission}
 use Rattle.rights.specs.declared.Permission.the-variants.{Put, Read, Collect, Mark}
 use Rattle.rights.specs.declared.Needed.{Needed}
 use Rattle.rights.specs.declared.Needed.the-variants.{Nothing, On, OnGroup, InAny, OnAll}
-use Rattle.rights.specs.declared.Place.{Place}
-use Rattle.rights.specs.declared.Place.the-variants.{Anywhere, At}
 
 abbrev pub permissionOf : Permission → Model.Permission
 permissionOf Put = Model.ToPut
 permissionOf Read = Model.ToRead
 permissionOf Collect = Model.ToCollect
 permissionOf Mark = Model.ToMark
-
--- a row gives worker w the right, whatever its registers are, or for register r
-abbrev pub givesIn : ℕ → Model.Permission → Place → ℕ → Bool
-givesIn w p Anywhere row = Model.gives w p row
-givesIn w p (At r) row = Model.givesOn w p r row
 
 -- what an operation needs, of a hub with these rows of totals
 abbrev pub neededIn : Needed → List ℕ → Model.Needed

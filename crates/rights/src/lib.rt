@@ -9,7 +9,8 @@ ghost use Rattle.lists.specs.Over.{over};
 ghost use Rattle.model.specs.Store.{upFrom};
 ghost use Rattle.model.specs.Totals.{registerOf, ofGroup};
 ghost use Rattle.model.specs.Rights.{anyOf, eachOf, rightFits, tableOf, tableFits, among, mayOnEach, allowed};
-ghost use Rattle.rights.specs.Needs.{permissionOf, givesIn, neededIn};
+ghost use Rattle.rights.specs.Needs.{permissionOf, neededIn};
+ghost use Rattle.rights.specs.Places.{givesIn};
 
 // H15.2: what a row may give the right to.
 pub enum Permission {

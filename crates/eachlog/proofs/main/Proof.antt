@@ -72,8 +72,8 @@ part-give-table-row-end c = search needs
 give-table-row-requires : tie.Need-give-table-row-requires Inv-loop μ-loop
 give-table-row-requires c κs = search needs
 
-is-refusal-requires : tie.Need-is-refusal-requires Inv-loop μ-loop
-is-refusal-requires c κs = search needs
+kind-requires : tie.Need-kind-requires Inv-loop μ-loop
+kind-requires c κs = search needs
 
 slice-aggregate-say-3 : tie.Need-slice-aggregate-say-3 Inv-loop μ-loop
 slice-aggregate-say-3 c = search needs
@@ -174,7 +174,7 @@ main-spec =
     part-give-table-row-start
     part-give-table-row-end
     give-table-row-requires
-    is-refusal-requires
+    kind-requires
     slice-aggregate-say-3
     say-requires-3
     loop-holds

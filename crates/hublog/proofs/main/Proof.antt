@@ -75,8 +75,8 @@ part-give-table-words-end c = search needs
 give-table-words-requires : tie.Need-give-table-words-requires Inv-loop μ-loop
 give-table-words-requires c κs = search needs
 
-is-refusal-requires : tie.Need-is-refusal-requires Inv-loop μ-loop
-is-refusal-requires c κs = search needs
+kind-requires : tie.Need-kind-requires Inv-loop μ-loop
+kind-requires c κs = search needs
 
 slice-aggregate-say-3 : tie.Need-slice-aggregate-say-3 Inv-loop μ-loop
 slice-aggregate-say-3 c = search needs
@@ -206,7 +206,7 @@ main-spec =
     part-give-table-words-start
     part-give-table-words-end
     give-table-words-requires
-    is-refusal-requires
+    kind-requires
     slice-aggregate-say-3
     say-requires-3
     loop-holds

@@ -7,7 +7,8 @@ use lib.ListN.{getD, take, drop}
 use borrow.Author.Needs.{needs}
 use Rattle.model.specs.Rights.{anyOf}
 use Rattle.totals.proofs.First.{row-kept}
-use Rattle.rights.specs.Needs.{permissionOf, givesIn}
+use Rattle.rights.specs.Needs.{permissionOf}
+use Rattle.rights.specs.Places.{givesIn}
 use Rattle.rights.proofs.Scan.{Passed, turn, passed-all, any-none, any-here, any-behind}
 use Rattle.rights.proofs.may.Statement.{statement}
 use Rattle.rights.proofs.may.Tie as tie
