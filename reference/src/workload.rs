@@ -39,6 +39,9 @@ pub enum Workload {
     /// one; mostly all twelve are in use. Eight put on 64 registers. `going` 58, `ok` 16,
     /// `done` 10, `freed` 9, `value` 6.
     Marks,
+    /// The records of `Large` on a hub with the longest table of rights, four rows of 64 registers for
+    /// each worker, which allows all of them.
+    Rights,
     /// Uniformly random bytes after the setup of the largest hub. Practically every record has an
     /// operation above 11 or an unused byte that is not zero: `no` 100.
     Uniform,
@@ -73,7 +76,7 @@ pub enum Topic {
 }
 
 impl Workload {
-    pub const ALL: [Workload; 29] = [
+    pub const ALL: [Workload; 30] = [
         Workload::Small,
         Workload::Large,
         Workload::Puts,
@@ -81,6 +84,7 @@ impl Workload {
         Workload::Collects,
         Workload::Totals,
         Workload::Marks,
+        Workload::Rights,
         Workload::Uniform,
         Workload::Growth { slots: 16 },
         Workload::Growth { slots: 64 },
@@ -114,6 +118,7 @@ impl Workload {
             Workload::Collects => "collects".into(),
             Workload::Totals => "totals".into(),
             Workload::Marks => "marks".into(),
+            Workload::Rights => "rights".into(),
             Workload::Uniform => "uniform".into(),
             Workload::Growth { slots } => format!("growth-{slots}"),
             Workload::Plain { workers } => format!("plain-{workers}"),
@@ -154,7 +159,7 @@ impl Workload {
             Workload::Small | Workload::Growth { .. } => {
                 Shape { registers: 4, slots: 16, roles: vec![Role::alike(2, MIXED)] }
             }
-            Workload::Large | Workload::Uniform => {
+            Workload::Large | Workload::Rights | Workload::Uniform => {
                 let workers = MAX_WORKERS as u8;
                 let roles = vec![Role::alike(workers, MIXED)];
                 Shape { registers: MAX_REGISTERS, slots: MAX_SLOTS, roles }
@@ -223,6 +228,16 @@ impl Workload {
         let (groups, rows) = (GROUPS as u64, MAX_ROWS as u64);
         let habit = Habit { missing: 0, unfit: 0, groups: (groups, groups), rows: (rows, rows) };
         habit.list(MAX_REGISTERS, &mut Random::new(seed))
+    }
+
+    /// The table of rights that is given before the setup: the longest there is for `Rights`, else
+    /// empty.
+    pub fn table(self) -> Vec<u8> {
+        if self != Workload::Rights {
+            return Vec::new();
+        }
+        let rows = (0..16u8).flat_map(|worker| (0..4u8).map(move |part| (worker, 64 * part)));
+        rows.flat_map(|(worker, first)| [worker, 15, first, 0, first + 63, 0, 0, 0]).collect()
     }
 
     /// The records of this workload, without end.

@@ -2,6 +2,7 @@
 
 mod common;
 
+use reference::answer::Answer;
 use reference::coverage::{Branch, Coverage};
 use reference::fault::Right;
 use reference::generate::Script;
@@ -188,6 +189,19 @@ fn totals_are_of_the_longest_list() {
     assert!((moves + 2.0 * found) / COUNT as f64 > 0.7, "{found}");
     let [below, above] = [Branch::TotalBelow0, Branch::TotalAbove0].map(|sum| met.branch(sum));
     assert!(below > 1_000.0 && above > 5_000.0, "{below}, {above}");
+}
+
+#[test]
+fn rights_are_the_longest_table_and_allow_all() {
+    let tabled = Workload::ALL.into_iter().filter(|workload| !workload.table().is_empty());
+    assert!(tabled.eq([Workload::Rights]));
+    let mut hub: Hub = Hub::new();
+    assert_eq!(Workload::Rights.table().len(), 512);
+    assert!(hub.give_table(&Workload::Rights.table()).is_ok());
+    let records = file(Workload::Rights, 1, COUNT);
+    assert_eq!(records, file(Workload::Large, 1, COUNT));
+    let mut answers = records.chunks(LENGTH).map(|record| hub.take(record, &[]));
+    assert!(answers.all(|answer| !matches!(answer, Answer::No(_))));
 }
 
 #[test]

@@ -57,7 +57,8 @@ withHub m h =
       merged = m .merged;
     }
 
--- what a setup finds in the memory: the row of slots, and the table that stands
+-- What a setup finds in the memory: the row of slots, and the table that stands. In memory that nobody emptied, and to which no table was given, which
+-- table that is is undecided for users (H15.9): it is what the memory has, where that is a table.
 abbrev pub lentIn : Memory → Model.Lent
 lentIn m = record { row = map slotOf (m .slots); table = standing (m .hub) }
 

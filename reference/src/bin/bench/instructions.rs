@@ -9,7 +9,7 @@ pub fn count(program: &Path, input: &Input) -> Result<u64, String> {
     let output = Command::new("valgrind")
         .args(["--tool=callgrind", "--callgrind-out-file=/dev/null"])
         .arg(program)
-        .args(&input.argument)
+        .args(&input.arguments)
         .stdin(input.open()?)
         .stdout(Stdio::null())
         .output()

@@ -21,7 +21,7 @@ use std::process::ExitCode;
 const USAGE: &str =
     "usage: bench HUBLOG SECOND DIRECTORY [--records N] [--rounds N] [--seed N] [--instructions]
        bench --rows ROWS SECOND DIRECTORY [--records N] [--rounds N] [--seed N] [--instructions]
-HUBLOG and SECOND are the two programs, DIRECTORY is where the record files and lists go;
+HUBLOG and SECOND are the two programs, DIRECTORY is where the record files, lists and tables go;
 with --rows they move stored rows, N of them, at most 262144;
 with --instructions callgrind counts, and nothing is timed";
 
@@ -83,14 +83,22 @@ impl Options {
         Some(Options { programs, directory, records, rounds, seed, instructions, rows })
     }
 
-    /// A workload's file, and that of its list where it has one.
+    /// A workload's file, and those of its list and its table where it has one; without a list the
+    /// table's stands behind an empty one.
     fn input(&self, workload: Workload) -> Input {
         let file = self.directory.join(workload.name());
-        let listed = !workload.list(self.seed).is_empty();
-        Input { argument: listed.then(|| file.with_extension("list")), file }
+        let mut arguments = Vec::new();
+        if !workload.list(self.seed).is_empty() {
+            arguments.push(file.with_extension("list"));
+        }
+        if !workload.table().is_empty() {
+            arguments.resize(1, PathBuf::from("/dev/null"));
+            arguments.push(file.with_extension("table"));
+        }
+        Input { arguments, file }
     }
 
-    /// Makes a workload's file, and its list's, and compares the logs of both programs on it.
+    /// Makes a workload's file, its list's and its table's, and compares the logs of both programs on it.
     fn prepare(&self, workload: Workload) -> Result<Measured, String> {
         let input = self.input(workload);
         let file = input.file.display();
@@ -106,11 +114,15 @@ impl Options {
         })
     }
 
-    /// Writes a workload's file and its list's; how many pools are queued, on average?
-    fn write(&self, workload: Workload, Input { file, argument }: &Input) -> io::Result<f64> {
+    /// Writes a workload's file, its list's and its table's; how many pools are queued, on average?
+    fn write(&self, workload: Workload, Input { file, .. }: &Input) -> io::Result<f64> {
         fs::create_dir_all(&self.directory)?;
-        if let Some(list) = argument {
-            fs::write(list, workload.list(self.seed))?;
+        let (list, table) = (workload.list(self.seed), workload.table());
+        if !list.is_empty() {
+            fs::write(file.with_extension("list"), list)?;
+        }
+        if !table.is_empty() {
+            fs::write(file.with_extension("table"), table)?;
         }
         let mut output = BufWriter::with_capacity(1 << 16, File::create(file)?);
         let mut records = workload.records(self.seed);

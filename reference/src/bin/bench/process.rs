@@ -47,8 +47,9 @@ pub struct Times {
 pub struct Input {
     /// The file of records or rows, which is its standard input.
     pub file: PathBuf,
-    /// Its argument: the file of the list of totals, or which way rows are moved; none without one.
-    pub argument: Option<PathBuf>,
+    /// Its arguments: the files of the list of totals and of the table of rights, or which way rows are
+    /// moved.
+    pub arguments: Vec<PathBuf>,
 }
 
 impl Input {
@@ -59,7 +60,7 @@ impl Input {
 
 fn start(program: &Path, input: &Input, output: Stdio) -> Result<Child, String> {
     let records = input.open()?;
-    let child = Command::new(program).args(&input.argument).stdin(records).stdout(output).spawn();
+    let child = Command::new(program).args(&input.arguments).stdin(records).stdout(output).spawn();
     child.map_err(|error| format!("{}: {error}", program.display()))
 }
 

@@ -33,7 +33,7 @@ fn prepare(options: &Options, way: Way, rows: usize) -> Result<Measured, String>
     let [begin, end] = valid(way, rows, &mut Random::new(options.seed));
     let made = fs::create_dir_all(&options.directory).and_then(|()| fs::write(&file, begin));
     made.map_err(|error| format!("{}: {error}", file.display()))?;
-    let input = Input { file, argument: Some(way.name().into()) };
+    let input = Input { file, arguments: vec![way.name().into()] };
     for program in &options.programs {
         if written(program, &input)? != end {
             let (program, file) = (program.display(), input.file.display());
@@ -45,7 +45,7 @@ fn prepare(options: &Options, way: Way, rows: usize) -> Result<Measured, String>
 
 /// What a program writes for a file.
 fn written(program: &Path, input: &Input) -> Result<Vec<u8>, String> {
-    let output = Command::new(program).args(&input.argument).stdin(input.open()?).output();
+    let output = Command::new(program).args(&input.arguments).stdin(input.open()?).output();
     Ok(output.map_err(|error| format!("{}: {error}", program.display()))?.stdout)
 }
 
