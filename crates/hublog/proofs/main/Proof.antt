@@ -8,11 +8,13 @@ use Rattle.hublog.proofs.main.Statement.{statement}
 use Rattle.hublog.proofs.main.Tie as tie
 
 abbrev Inv-loop : tie.InvT-loop
-Inv-loop block₀ text₀ kinds₀ numbers₀ newest₀ free₀ queue₀ lens₀ merged₀ list long rows row₀ hub₀ first₀ kept₀ turns₀ t42 t43 block text kinds numbers newest free queue lens merged row hub first kept turns =
+Inv-loop block₀ text₀ kinds₀ numbers₀ newest₀ free₀ queue₀ lens₀ merged₀ list long rows row₀ hub₀ first₀ kept₀ turns₀ t42 t43 block
+    text kinds numbers newest free queue lens merged row hub first kept turns =
     kept ≤ length block
 
 abbrev μ-loop : tie.MeasureT-loop
-μ-loop block₀ text₀ kinds₀ numbers₀ newest₀ free₀ queue₀ lens₀ merged₀ list long rows row₀ hub₀ first₀ kept₀ turns₀ t42 t43 block text kinds numbers newest free queue lens merged row hub first kept turns =
+μ-loop block₀ text₀ kinds₀ numbers₀ newest₀ free₀ queue₀ lens₀ merged₀ list long rows row₀ hub₀ first₀ kept₀ turns₀ t42 t43 block
+    text kinds numbers newest free queue lens merged row hub first kept turns =
     turns
 
 slice-aggregate-block : tie.Need-slice-aggregate-block Inv-loop μ-loop
