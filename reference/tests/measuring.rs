@@ -103,8 +103,9 @@ fn bench_counts_instructions() {
         let arguments = [&paths[..], &options[..]].concat();
         Command::new(BENCH).args(arguments).env("PATH", &programs).output().unwrap()
     };
-    // Only `totals` comes with an argument, its list.
-    let number = "case $4 in '') echo 250000;; */totals.list) echo 350000;; esac";
+    // Only `totals` comes with a list, and only `rights` with a table, behind an empty list.
+    let number = "case $4$5 in '') echo 250000;; */totals.list) echo 350000;; \
+                  /dev/null*/rights.table) echo 450000;; esac";
     valgrind(&programs, &format!("echo \"==7== Collected : $({number})\" >&2"));
     let output = count();
     assert!(output.status.success(), "{}", text(&output.stderr));
@@ -113,7 +114,8 @@ fn bench_counts_instructions() {
         let line = |line: &&str| line.contains(number) && line.contains(" 1.00 ");
         printed.lines().filter(line).count()
     };
-    assert_eq!((counted(" 250 "), counted(" 350 ")), (Workload::ALL.len() - 1, 1), "{printed}");
+    let counts = [" 250 ", " 350 ", " 450 "].map(counted);
+    assert_eq!(counts, [Workload::ALL.len() - 2, 1, 1], "{printed}");
     valgrind(&programs, "exit 1");
     assert!(text(&count().stderr).contains("valgrind fails on"));
     fs::remove_file(programs.join("valgrind")).unwrap();
