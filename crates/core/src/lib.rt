@@ -57,7 +57,7 @@ fn worker_byte(rec: &[u8]) -> usize
 }
 
 // The answer to record k: its kind and its number at k. Past the end of a row nothing is written.
-fn set_kind(kinds: &mut [u8], k: usize, x: u8)
+fn set_kind(kinds: &mut [u16], k: usize, x: u16)
     ensures { λ _. ⌜ now (kinds .exit) ≡ set (now (kinds .entry)) k x ⌝ }
 {
     if k < kinds.len() {
@@ -73,7 +73,7 @@ fn set_number(numbers: &mut [u64], k: usize, x: u64)
     }
 }
 
-fn put_answer(kinds: &mut [u8], numbers: &mut [u64], k: usize, y: Answer) -> Answer
+fn put_answer(kinds: &mut [u16], numbers: &mut [u64], k: usize, y: Answer) -> Answer
     ensures { λ r. ⌜ r ≡ y ⌝ }
     ensures { λ _. ⌜ now (kinds .exit) ≡ set (now (kinds .entry)) k (kindOf y) ⌝ }
     ensures { λ _. ⌜ now (numbers .exit) ≡ set (now (numbers .entry)) k (numberOf y) ⌝ }
@@ -148,7 +148,7 @@ pub fn run(
     list: &[u8],
     bytes: &[u8],
     count: usize,
-    kinds: &mut [u8],
+    kinds: &mut [u16],
     numbers: &mut [u64],
     newest: &mut [u16; 256],
     free: &mut [u16; 2048],

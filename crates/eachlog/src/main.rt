@@ -46,13 +46,13 @@ fn argument(i: usize, other: usize) -> usize {
 
 // Writes the line of record k with this answer to standard output; answers whether it was written.
 fn write_answer(k: u64, answer: Answer) -> bool {
-    let mut kind_space = [0u8; 1];
-    let kinds: &mut [u8] = &mut kind_space;
+    let mut kind_space = [0u16; 1];
+    let kinds: &mut [u16] = &mut kind_space;
     let mut number_space = [0u64; 1];
     let numbers: &mut [u64] = &mut number_space;
     kinds[0] = answers::kind(answer);
     numbers[0] = answers::number(answer);
-    let mut text_space = [0u8; 49];
+    let mut text_space = [0u8; 70];
     let text: &mut [u8] = &mut text_space;
     let used = lines::write_lines(text, k, kinds, numbers, 1);
     let line = &text[..];

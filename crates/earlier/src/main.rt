@@ -64,7 +64,7 @@ fn after_with(m: Memory, list: &[u8], rec: [u8; 16]) -> Memory {
     let answer = applied.answer;
     let kinds = [answers::kind(answer)];
     let numbers = [answers::number(answer)];
-    let mut space = [0u8; 49];
+    let mut space = [0u8; 70];
     let text: &mut [u8] = &mut space;
     let used = lines::write_lines(text, line, &kinds, &numbers, 1);
     let log = &text[..];
@@ -129,12 +129,20 @@ fn blank() -> Memory {
     }
 }
 
+// A value that was read.
+fn read(value: u64) -> Reading {
+    Reading {
+        count: value,
+        status: 0,
+    }
+}
+
 // The memory with another value in slot i.
 fn stored(m: Memory, i: usize, value: u64) -> Memory {
     let mut slots = m.slots;
     let s = slots[i % 2048];
     slots[i % 2048] = Slot {
-        value: Content::Of(Reading { count: value }),
+        value: Content::Of(read(value)),
         ..s
     };
     Memory { slots, ..m }
@@ -146,7 +154,7 @@ fn putting(m: Memory, w: usize, value: u64) -> Memory {
     let old = hub.workers[w % 16];
     let doing = Doing::PutPublish {
         register: 0,
-        reading: Reading { count: value },
+        reading: read(value),
     };
     hub.workers[w % 16] = Worker { doing, ..old };
     Memory { hub, ..m }

@@ -19,7 +19,7 @@ use Rattle.rights.specs.Needs.{neededIn}
 use Rattle.marks.proofs.Refused.{refusal-by}
 use Rattle.gate.specs.declared.Gate.{Gate}
 use Rattle.gate.specs.declared.Gate.the-variants.{Refuse, Start}
-use Rattle.gate.specs.Gate.{termsOf, markOf, namedOk, groupOk, valueOk, openOk, timeOk, beginGate}
+use Rattle.gate.specs.Gate.{termsOf, markOf, namedOk, groupOk, valueOk, statusOk, openOk, timeOk, beginGate}
 
 pub begin-gate-by : (Q : Gate → Type 0) (p v w : ℕ) (o : Operation) (d : Doing) (t : Announced) (rows marks reading table : List ℕ)
     → ((k : ℕ) → 0 < occurrences k onReading → Q (Refuse k))
@@ -31,6 +31,7 @@ begin-gate-by Q p v w o d t rows marks reading table refused started =
     (λ e. cond-both Q (namedOk (x .register) v && namedOk (markOf (x .mark)) markCount) _ _
     (λ f. cond-both Q (groupOk (x .row) rows) _ _
     (λ f. cond-both Q (valueOk (x .value)) _ _
+    (λ f. cond-both Q (statusOk (x .value)) _ _
     (λ f. cond-both Q (allowed table v w (neededIn (x .right) rows)) _ _
     (λ f. cond-both Q (aboutOf d .idle) _ _
     (λ f. cond-both Q (openOk (x .time) t) _ _
@@ -43,6 +44,7 @@ begin-gate-by Q p v w o d t rows marks reading table refused started =
     (λ n. refused 12 (omega arith)))
     (λ n. refused 10 (omega arith)))
     (λ n. refused 23 (omega arith)))
+    (λ n. refused 25 (omega arith)))
     (λ n. refused 16 (omega arith)))
     (λ n. refused 17 (omega arith)))
     (λ n. refused 4 (omega arith)))

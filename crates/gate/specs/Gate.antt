@@ -10,7 +10,8 @@ use Rattle.model.specs.Rules.{inForce}
 use Rattle.model.specs.Totals.{firstOf}
 use Rattle.model.specs.Record as Model
 use Rattle.model.specs.Rights.{allowed}
-use Rattle.model.specs.Apply.{valueWithin}
+use Rattle.model.specs.Apply.{valueWithin, statusKnown}
+use Rattle.values.specs.Meaning.{readingOf}
 use Rattle.worker.specs.declared.Announced.{Announced}
 use Rattle.worker.specs.declared.Announced.the-variants.{Nothing as NoTime, At}
 use Rattle.worker.specs.declared.Doing.{Doing}
@@ -29,7 +30,7 @@ use Rattle.record.specs.declared.Decoded.the-variants.{Asks, Refuses}
 use Rattle.marks.specs.declared.MarkNeed.{MarkNeed}
 use Rattle.marks.specs.declared.MarkNeed.the-variants.{Nothing as NoMark, Empty, Held, Unread}
 use Rattle.marks.specs.Marks.{refusalIn}
-use Rattle.totals.specs.Rows.{goalIn}
+use Rattle.totals.specs.Rows.{noSum, goalIn}
 use Rattle.rights.specs.declared.Needed.{Needed}
 use Rattle.rights.specs.declared.Needed.the-variants.{Nothing as NoRight, On, OnGroup, InAny, OnAll}
 use Rattle.rights.specs.declared.Permission.the-variants.{Put as ToPut, Read as ToRead, Collect as ToCollect, Mark as ToMark}
@@ -47,7 +48,7 @@ use Rattle.gate.specs.declared.Gate.the-variants.{Refuse, Make, Start, G
 
 -- an operation with its register, its group or its mark, and what to store
 abbrev pub operationRep : Model.Operation → Operation
-operationRep (Model.Put r x) = Put r (record { count = x .count })
+operationRep (Model.Put r x) = Put r (record { count = x .count; status = x .status })
 operationRep Model.Open = Open
 operationRep (Model.Read r) = Read r
 operationRep Model.Close = Close
@@ -97,7 +98,7 @@ termsOf (Put r x) rows =
     record {
       register = Is r;
       row = Nothing;
-      value = Value (x .count);
+      value = Value x;
       right = On ToPut r;
       time = Any;
       mark = NoMark;
@@ -117,7 +118,7 @@ termsOf (Total g) rows =
       right = OnGroup g;
       time = Own;
       mark = NoMark;
-      first = ReadEnter (goalIn rows g i 0 0);
+      first = ReadEnter (goalIn rows g i noSum);
     }
 termsOf (Mark m) rows = onMark (Empty m) Own (OnTime (MarkKeep m))
 termsOf (Release m) rows = onMark (Unread m) Any (OnTime (MarkRelease m))
@@ -152,7 +153,12 @@ groupOk (Is i) rows = ltb i (length rows)
 -- 16: the value, if there is one, is at most the limit in force
 abbrev pub valueOk : Putting → Bool
 valueOk NoValue = true
-valueOk (Value x) = valueWithin (inForce [] .limit) (some x)
+valueOk (Value x) = valueWithin (inForce [] .limit) (some (readingOf x))
+
+-- 25: the status of the reading, if there is one, is one that there is
+abbrev pub statusOk : Putting → Bool
+statusOk NoValue = true
+statusOk (Value x) = statusKnown (some (readingOf x))
 
 -- a time is announced
 abbrev pub hasTime : Announced → Bool
@@ -171,7 +177,7 @@ timeOk Any t = true
 timeOk Absent t = true
 timeOk Own t = hasTime t
 
--- the refusals of a begin in their order: 3, 4, 17, 16, 23, 10, 12, 13, and 19, 20 or 21, where `reading` says which mark each worker reads, and
+-- the refusals of a begin in their order: 3, 4, 17, 16, 25, 23, 10, 12, 13, and 19, 20 or 21, where `reading` says which mark each worker reads, and
 -- `table` has the rows of rights
 unfoldable pub beginGate : ℕ → ℕ → ℕ → Operation → Doing → Announced → List ℕ → List ℕ → List ℕ → List ℕ → Gate
 beginGate p v w o d t rows marks reading table =
@@ -181,6 +187,7 @@ beginGate p v w o d t rows marks reading table =
     (cond (namedOk (x .register) v && namedOk (markOf (x .mark)) markCount)
     (cond (groupOk (x .row) rows)
     (cond (valueOk (x .value))
+    (cond (statusOk (x .value))
     (cond (allowed table v w (neededIn (x .right) rows))
     (cond (aboutOf d .idle)
     (cond (openOk (x .time) t)
@@ -188,6 +195,7 @@ beginGate p v w o d t rows marks reading table =
     (Refuse 12))
     (Refuse 10))
     (Refuse 23))
+    (Refuse 25))
     (Refuse 16))
     (Refuse 17))
     (Refuse 4))

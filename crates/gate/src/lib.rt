@@ -2,7 +2,7 @@
 ghost use mathlib.Core.Path.{_≡_};
 ghost use Prim.Native.Nat.{_≤_};
 ghost use lib.ListN.{take};
-ghost use Rattle.gate.specs.Gate.{bare, onRegister, onMark, termsOf, markOf, namedOk, groupOk, valueOk, hasTime, openOk, timeOk};
+ghost use Rattle.gate.specs.Gate.{bare, onRegister, onMark, termsOf, markOf, namedOk, groupOk, valueOk, statusOk, hasTime, openOk, timeOk};
 ghost use Rattle.gate.specs.Gate.{beginGate, sizesOk, setupOk, gateOf};
 use marks::MarkNeed;
 use record::Command;
@@ -10,6 +10,7 @@ use record::Decoded;
 use record::Operation;
 use rights::Needed;
 use rights::Permission;
+use values::Reading;
 use worker::Announced;
 use worker::Doing;
 use worker::Goal;
@@ -48,13 +49,13 @@ pub enum TimeNeed {
     Own,
 }
 
-// The value that an operation puts, or none.
+// The reading that an operation puts, or none.
 pub enum Putting {
     Nothing,
-    Value(u64),
+    Value(Reading),
 }
 
-// The terms on which an operation begins: the register that it names, the first row of the group that it names, the value that it puts, the right
+// The terms on which an operation begins: the register that it names, the first row of the group that it names, the reading that it puts, the right
 // that it needs, what it asks of the announced time and of a mark, and its first place.
 pub struct Terms {
     pub register: Named,
@@ -122,7 +123,7 @@ fn terms_of(o: Operation, rows: &[u32; 1024], n: usize) -> Terms
         Operation::Put { register, reading } => Terms {
             register: Named::Is(register),
             row: Named::Nothing,
-            value: Putting::Value(reading.count),
+            value: Putting::Value(reading),
             right: Needed::On {
                 permission: Permission::Put,
                 register,
@@ -158,7 +159,7 @@ fn terms_of(o: Operation, rows: &[u32; 1024], n: usize) -> Terms
         ),
         Operation::Total { group } => {
             let first = totals::first_of(rows, n, group);
-            let goal = totals::goal_at(rows, n, group, first, 0, 0);
+            let goal = totals::goal_at(rows, n, group, first, totals::no_sum());
             let row = first as u16;
             Terms {
                 register: Named::Nothing,
@@ -239,7 +240,17 @@ fn value_ok(x: Putting) -> bool
 {
     match x {
         Putting::Nothing => true,
-        Putting::Value(k) => k <= 999999999999,
+        Putting::Value(reading) => reading.count <= 999999999999,
+    }
+}
+
+// 25: the status of the reading, if there is one, is one that there is.
+fn status_ok(x: Putting) -> bool
+    ensures { λ y. ⌜ y ≡ statusOk x ⌝ }
+{
+    match x {
+        Putting::Nothing => true,
+        Putting::Value(reading) => reading.status <= 2,
     }
 }
 
@@ -309,6 +320,7 @@ fn begin<'a>(
     let known = named_ok(register, v) & named_ok(mark_of(mark), 12);
     let there = group_ok(row, rows, n);
     let fits = value_ok(value);
+    let status_known = status_ok(value);
     let may = rights::is_allowed(right, rights, granted, rows, n, v, worker);
     let place = worker::about(d);
     let unannounced = open_ok(need, t);
@@ -318,22 +330,25 @@ fn begin<'a>(
         if known {
             if there {
                 if fits {
-                    if may {
-                        if place.idle {
-                            if unannounced {
-                                if announced {
-                                    if k == 0 {
-                                        return Gate::Start { worker, doing };
+                    if status_known {
+                        if may {
+                            if place.idle {
+                                if unannounced {
+                                    if announced {
+                                        if k == 0 {
+                                            return Gate::Start { worker, doing };
+                                        }
+                                        return Gate::Refuse(k);
                                     }
-                                    return Gate::Refuse(k);
+                                    return Gate::Refuse(13);
                                 }
-                                return Gate::Refuse(13);
+                                return Gate::Refuse(12);
                             }
-                            return Gate::Refuse(12);
+                            return Gate::Refuse(10);
                         }
-                        return Gate::Refuse(10);
+                        return Gate::Refuse(23);
                     }
-                    return Gate::Refuse(23);
+                    return Gate::Refuse(25);
                 }
                 return Gate::Refuse(16);
             }

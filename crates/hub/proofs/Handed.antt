@@ -72,12 +72,12 @@ module _ (n : ℕ) (l r a b c d e : At n) where
 -- ---- a buffer: the list, its bytes, the rows of answers and the arrays
 module _ (n : ℕ) (l r s t a b c d e : At n) where
   abbrev buffer : List (Slot n)
-  buffer = bytes l ∷ bytes r ∷ row s u8 ∷ row t u64 ∷ arrays n a b c d e
+  buffer = bytes l ∷ bytes r ∷ row s u16 ∷ row t u64 ∷ arrays n a b c d e
 
   abbrev pub buffer-gave : Stays buffer (all yes buffer)
-  buffer-gave = (stay-dropped (bytes l) yes, (stay-dropped (bytes r) yes, (gave-row s u8, (gave-row t u64, arrays-gave n a b c d e))))
+  buffer-gave = (stay-dropped (bytes l) yes, (stay-dropped (bytes r) yes, (gave-row s u16, (gave-row t u64, arrays-gave n a b c d e))))
 
   pub buffer-go : {M : Type 1} (𝓤 : URA M) (H : Heap 𝓤) (A : Atoms 𝓤) (W : Given 𝓤 H A) → AllGo 𝓤 H A W n buffer (all yes buffer) buffer-gave
   buffer-go 𝓤 H A W =
       let z : (i : At n) → Goes 𝓤 H A W n (bytes i) yes (stay-dropped (bytes i) yes) = λ i. goes-dropped 𝓤 H A W n (bytes i) yes (λ κs x f. refl) in
-      (z l, (z r, (go-row 𝓤 H A W n s u8, (go-row 𝓤 H A W n t u64, arrays-go n a b c d e 𝓤 H A W))))
+      (z l, (z r, (go-row 𝓤 H A W n s u16, (go-row 𝓤 H A W n t u64, arrays-go n a b c d e 𝓤 H A W))))

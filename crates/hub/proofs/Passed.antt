@@ -199,7 +199,7 @@ BufferLeft = Unit {0} × (Unit {0} × (List ℕ × (List ℕ × Lists)))
 
 abbrev pub buffer-types : Lfts 9 → List RattleType
 buffer-types ks =
-    ShrSlice (named 0) (ks .0) u8 ∷ ShrSlice (named 0) (ks .1 .0) u8 ∷ MutSlice (named 0) (ks .1 .1 .0) u8 ∷ MutSlice (named 0) (ks .1 .1 .1 .0) u64 ∷ array-types (ks .1 .1 .1 .1)
+    ShrSlice (named 0) (ks .0) u8 ∷ ShrSlice (named 0) (ks .1 .0) u8 ∷ MutSlice (named 0) (ks .1 .1 .0) u16 ∷ MutSlice (named 0) (ks .1 .1 .1 .0) u64 ∷ array-types (ks .1 .1 .1 .1)
 
 abbrev pub buffer-vals : Buffer → List Val × (List Val × (List Val × (List Val × Each)))
 buffer-vals x = (slice-vals (x .0), (slice-vals (x .1 .0), (slice-vals (x .1 .1 .0), (slice-vals (x .1 .1 .1 .0), array-vals (x .1 .1 .1 .1)))))
@@ -210,7 +210,7 @@ buffer-spells ks = (slice-vals, (slice-vals, (slice-vals, (slice-vals, array-spe
 pub buffer-tells : (ks : Lfts 9) → Tellss (buffer-types ks) (Ises (buffer-types ks)) (buffer-spells ks)
 buffer-tells ks =
     let a : Tellss (array-types (ks .1 .1 .1 .1)) (Ises (array-types (ks .1 .1 .1 .1))) (array-spells (ks .1 .1 .1 .1)) = arrays-tell (ks .1 .1 .1 .1) in
-    (shr-slice-tells (named 0) (ks .0) u8, (shr-slice-tells (named 0) (ks .1 .0) u8, (mut-slice-tells (named 0) (ks .1 .1 .0) u8, (mut-slice-tells (named 0) (ks .1 .1 .1 .0) u64, a))))
+    (shr-slice-tells (named 0) (ks .0) u8, (shr-slice-tells (named 0) (ks .1 .0) u8, (mut-slice-tells (named 0) (ks .1 .1 .0) u16, (mut-slice-tells (named 0) (ks .1 .1 .1 .0) u64, a))))
 
 abbrev pub buffer-list : Buffer → List Val
 buffer-list x = only (slice-vals (x .0)) ∷ only (slice-vals (x .1 .0)) ∷ only (slice-vals (x .1 .1 .0)) ∷ only (slice-vals (x .1 .1 .1 .0)) ∷ array-list (x .1 .1 .1 .1)
@@ -220,7 +220,7 @@ buffer-own ks x = owns (buffer-types ks) x (buffer-vals x)
 
 abbrev pub buffer-end : Buffer → BufferLeft → Fml
 buffer-end x z =
-    fsep (finally u8 (x .1 .1 .0 .name) (z .1 .1 .0)) (fsep (finally u64 (x .1 .1 .1 .0 .name) (z .1 .1 .1 .0)) (arrays-end (x .1 .1 .1 .1) (z .1 .1 .1 .1)))
+    fsep (finally u16 (x .1 .1 .0 .name) (z .1 .1 .0)) (fsep (finally u64 (x .1 .1 .1 .0 .name) (z .1 .1 .1 .0)) (arrays-end (x .1 .1 .1 .1) (z .1 .1 .1 .1)))
 
 -- what the records of the buffer did, of which there are n; the rows of answers keep their lengths
 abbrev pub AllDone : Hub → List Slot → Buffer → ℕ → Hub → List Slot → BufferLeft → Type 0
@@ -241,7 +241,7 @@ pub buffer-known : {M : Type 1} (𝓤 : URA M) (H : Heap 𝓤) (A : Atoms 𝓤) 
 buffer-known 𝓤 H A W ks qs x =
     and-more 𝓤 H A W (bytes-small 𝓤 H A W (ks .0) (qs .0) (named 0) (x .0))
     (and-more 𝓤 H A W (bytes-small 𝓤 H A W (ks .1 .0) (qs .1 .0) (named 0) (x .1 .0))
-    (and-more 𝓤 H A W (untold 𝓤 H A W (ks .1 .1 .0) (qs .1 .1 .0) (MutSlice (named 0) (ks .1 .1 .0) u8 .own (x .1 .1 .0) (slice-vals (x .1 .1 .0))))
+    (and-more 𝓤 H A W (untold 𝓤 H A W (ks .1 .1 .0) (qs .1 .1 .0) (MutSlice (named 0) (ks .1 .1 .0) u16 .own (x .1 .1 .0) (slice-vals (x .1 .1 .0))))
     (and-more 𝓤 H A W (untold 𝓤 H A W (ks .1 .1 .1 .0) (qs .1 .1 .1 .0) (MutSlice (named 0) (ks .1 .1 .1 .0) u64 .own (x .1 .1 .1 .0) (slice-vals (x .1 .1 .1 .0))))
     (arrays-long 𝓤 H A W (ks .1 .1 .1 .1) (qs .1 .1 .1 .1) (x .1 .1 .1 .1)))))
 
@@ -259,7 +259,7 @@ SameLong x z = (length (z .1 .1 .0) ≡ length (x .1 .1 .0 .now)) × (length (z 
 -- what a callee says of them at its end
 abbrev buffer-last : Buffer → BufferLeft → Fml
 buffer-last x z =
-    fsep ftrue (fsep ftrue (fsep (fsep (finally u8 (x .1 .1 .0 .name) (z .1 .1 .0)) (feq ℕ (length (z .1 .1 .0)) (length (x .1 .1 .0 .now))))
+    fsep ftrue (fsep ftrue (fsep (fsep (finally u16 (x .1 .1 .0 .name) (z .1 .1 .0)) (feq ℕ (length (z .1 .1 .0)) (length (x .1 .1 .0 .now))))
     (fsep (fsep (finally u64 (x .1 .1 .1 .0 .name) (z .1 .1 .1 .0)) (feq ℕ (length (z .1 .1 .1 .0)) (length (x .1 .1 .1 .0 .now))))
     (arrays-end (x .1 .1 .1 .1) (z .1 .1 .1 .1)))))
 

@@ -111,7 +111,7 @@ pub fn apply_all(
     hub: Hub,
     list: &[u8],
     bytes: &[u8],
-    kinds: &mut [u8],
+    kinds: &mut [u16],
     numbers: &mut [u64],
     newest: &mut [u16; 256],
     free: &mut [u16; 2048],
@@ -174,7 +174,7 @@ pub fn apply_words(
     hub: Hub,
     list: &[u8],
     bytes: &[u8],
-    kinds: &mut [u8],
+    kinds: &mut [u16],
     numbers: &mut [u64],
     newest: &mut [u16; 256],
     free: &mut [u16; 2048],
@@ -307,11 +307,10 @@ pub fn give_table_words<'a>(
 
 // ---- for programs that own the row
 
-// What is left of the hub and of the row by value, and how many records were applied.
+// What is left of the hub by value and how many records were applied, and the row by value.
 pub struct Owned {
-    pub hub: Hub,
+    pub applied: Counted,
     pub slots: [Slot; 2048],
-    pub count: usize,
 }
 
 // The same for a caller that owns the row of 2048 slots: it is taken and given back by value, so that the caller needs no proof by hand.
@@ -320,7 +319,7 @@ pub fn apply_owned(
     hub: Hub,
     list: &[u8],
     bytes: &[u8],
-    kinds: &mut [u8],
+    kinds: &mut [u16],
     numbers: &mut [u64],
     newest: &mut [u16; 256],
     free: &mut [u16; 2048],
@@ -339,9 +338,9 @@ pub fn apply_owned(
           lens = now (lens .entry);
           merged = now (merged .entry);
         })
-        (now (list .entry)) (now (bytes .entry)) (now (kinds .entry)) (now (numbers .entry)) (r .count)
+        (now (list .entry)) (now (bytes .entry)) (now (kinds .entry)) (now (numbers .entry)) (r .applied .count)
         (record {
-          hub = r .hub;
+          hub = r .applied .hub;
           slots = r .slots;
           newest = now (newest .exit);
           free = now (free .exit);
@@ -353,7 +352,7 @@ pub fn apply_owned(
         ⌝ }
 {
     let mut slots = row;
-    let done = apply_all(
+    let applied = apply_all(
         &mut slots,
         hub,
         list,
@@ -366,12 +365,7 @@ pub fn apply_owned(
         lens,
         merged,
     );
-    let left = done.hub;
-    Owned {
-        hub: left,
-        slots,
-        count: done.count,
-    }
+    Owned { applied, slots }
 }
 
 // What is left of the hub and what the record is answered, and the row by value.

@@ -4,13 +4,13 @@
 use state::Hub;
 
 fn main() {
-    // A read brings at most 16384 records; the text has room for as many lines of 49 bytes, the longest.
+    // A read brings at most 16384 records; the text has room for as many lines of 70 bytes: none is longer.
     let mut block_space = [0u8; 262144];
     let block: &mut [u8] = &mut block_space;
-    let mut text_space = [0u8; 802816];
+    let mut text_space = [0u8; 1146880];
     let text: &mut [u8] = &mut text_space;
-    let mut kind_space = [0u8; 16384];
-    let kinds: &mut [u8] = &mut kind_space;
+    let mut kind_space = [0u16; 16384];
+    let kinds: &mut [u16] = &mut kind_space;
     let mut number_space = [0u64; 16384];
     let numbers: &mut [u64] = &mut number_space;
     let mut newest = [0u16; 256];

@@ -28,19 +28,19 @@ neither false t e = (refl, e)
 pub record Suits (most long first : ℕ) : Type 0 where
   pub some : 3 ≤ most
   pub count : most ≤ 4294967295
-  pub room : 147 ≤ long
+  pub room : 210 ≤ long
   pub number : first ≤ 4294967295
 
 pub suits : (most long first : ℕ)
-    → ((ltb most 3 || ltb 4294967295 most) || (ltb long 147 || ltb 4294967295 first)) ≡ false → Suits most long first
+    → ((ltb most 3 || ltb 4294967295 most) || (ltb long 210 || ltb 4294967295 first)) ≡ false → Suits most long first
 suits most long first e =
-    let f = neither (ltb most 3 || ltb 4294967295 most) (ltb long 147 || ltb 4294967295 first) e in
+    let f = neither (ltb most 3 || ltb 4294967295 most) (ltb long 210 || ltb 4294967295 first) e in
     let g = neither (ltb most 3) (ltb 4294967295 most) (f .0) in
-    let h = neither (ltb long 147) (ltb 4294967295 first) (f .1) in
+    let h = neither (ltb long 210) (ltb 4294967295 first) (f .1) in
     record {
       some = ltb-false most 3 (g .0);
       count = ltb-false 4294967295 most (g .1);
-      room = ltb-false long 147 (h .0);
+      room = ltb-false long 210 (h .0);
       number = ltb-false 4294967295 first (h .1);
     }
 
@@ -49,12 +49,12 @@ module _ (out₀ : List ℕ) (first : ℕ) (kinds numbers : List ℕ) (most stop
   pub record Beginning (out places : List ℕ) (start : ℕ) (head : List ℕ) (n last at k : ℕ) : Type 0 where
     pub suits : Suits most (length out₀) first
     pub stops : stop + 2 ≤ most
-    pub limits : limit + 147 ≤ length out₀
+    pub limits : limit + 210 ≤ length out₀
     pub partly : Partly out₀ first kinds numbers most out at k
     pub counting : Counting (first + k) places start head n last
 
   pub beginning-start : {places : List ℕ} {start : ℕ} {head : List ℕ} {n : ℕ} → Suits most (length out₀) first
-      → stop + 2 ≤ most → limit + 147 ≤ length out₀ → Spelled (first / 10) places start → take n head ≡ tensOf (first / 10)
+      → stop + 2 ≤ most → limit + 210 ≤ length out₀ → Spelled (first / 10) places start → take n head ≡ tensOf (first / 10)
       → Beginning out₀ places start head n (48 + first % 10) 0 0
   beginning-start {places} {start} {head} {n} s g h t u =
       let e : first ≡ first + 0 = omega arith in
@@ -70,7 +70,7 @@ module _ (out₀ : List ℕ) (first : ℕ) (kinds numbers : List ℕ) (most stop
     -- what the loop's test tells
     pub record Goes : Type 0 where
       pub few : k + 2 < most
-      pub room : at + 147 ≤ length out
+      pub room : at + 210 ≤ length out
       pub short : n ≤ 8
 
     abbrev Test : Type 0

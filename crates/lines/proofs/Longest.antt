@@ -1,38 +1,46 @@
--- How long a line can be: a number has at most twenty digits, an answer's words 27 bytes, and a line 49.
-use Prim.Native.Nat.{ℕ, zero, suc, _+_, _≤_}
+-- How long a line can be: a number has at most twenty digits, an answer's words 48 bytes, and a line 70.
+use Prim.Native.Nat.{ℕ, zero, suc, _+_, _/_, _%_, _≤_}
 use mathlib.Core.List.{List}
 use native.Mathlib.Omega.{arith}
 use lib.ListN.{length, drop, length-append, length-drop}
 use Rattle.model.specs.Log.{text, decimal}
-use Rattle.lines.specs.Words.{wordsFrom, lineFrom}
+use Rattle.lines.specs.Words.{wordsWith, wordsFrom, lineFrom}
 use Rattle.lines.specs.Written.{Appended, Spills, longest}
 use Rattle.lines.proofs.Decimal.{length-decimal, decimal-least}
 
-pub words-length : (kind x : ℕ) → length (wordsFrom kind x) ≤ 27
-unfolding wordsFrom text
-words-length zero x = omega arith
-words-length (suc zero) x = omega arith
-words-length (suc (suc zero)) x = omega (arith, length-decimal x)
-words-length (suc (suc (suc zero))) x = omega (arith, length-decimal x)
-words-length (suc (suc (suc (suc zero)))) x = omega (arith, length-decimal x)
-words-length (suc (suc (suc (suc (suc zero))))) x = omega arith
-words-length (suc (suc (suc (suc (suc (suc zero)))))) x = omega (arith, length-decimal x)
-words-length (suc (suc (suc (suc (suc (suc (suc zero))))))) x = omega (arith, length-decimal x)
-words-length (suc (suc (suc (suc (suc (suc (suc (suc zero)))))))) x = omega arith
-words-length (suc (suc (suc (suc (suc (suc (suc (suc (suc k))))))))) x = omega (arith, length-decimal x)
+with-length : (kind s x : ℕ) → length (wordsWith kind s x) ≤ 48
+unfolding wordsWith text
+with-length zero s x = omega arith
+with-length (suc zero) s x = omega arith
+with-length (suc (suc zero)) s x = omega (arith, length-decimal x)
+with-length (suc (suc (suc zero))) s x = omega (arith, length-decimal x)
+with-length (suc (suc (suc (suc zero)))) s x = simp length-append (omega (arith, length-decimal x, length-decimal s))
+with-length (suc (suc (suc (suc (suc zero))))) s x = omega arith
+with-length (suc (suc (suc (suc (suc (suc zero)))))) s x = omega (arith, length-decimal x)
+with-length (suc (suc (suc (suc (suc (suc (suc zero))))))) s x = simp length-append (omega (arith, length-decimal x, length-decimal s))
+with-length (suc (suc (suc (suc (suc (suc (suc (suc zero)))))))) s x = omega arith
+with-length (suc (suc (suc (suc (suc (suc (suc (suc (suc k))))))))) s x = omega (arith, length-decimal x)
+
+pub words-length : (kind x : ℕ) → length (wordsFrom kind x) ≤ 48
+unfolding wordsFrom
+words-length kind x = with-length (kind % 256) (kind / 256) x
+
+with-least : (kind s x : ℕ) → 2 ≤ length (wordsWith kind s x)
+unfolding wordsWith text
+with-least zero s x = omega arith
+with-least (suc zero) s x = omega arith
+with-least (suc (suc zero)) s x = omega arith
+with-least (suc (suc (suc zero))) s x = omega arith
+with-least (suc (suc (suc (suc zero)))) s x = omega arith
+with-least (suc (suc (suc (suc (suc zero))))) s x = omega arith
+with-least (suc (suc (suc (suc (suc (suc zero)))))) s x = omega arith
+with-least (suc (suc (suc (suc (suc (suc (suc zero))))))) s x = omega arith
+with-least (suc (suc (suc (suc (suc (suc (suc (suc zero)))))))) s x = omega arith
+with-least (suc (suc (suc (suc (suc (suc (suc (suc (suc k))))))))) s x = omega arith
 
 words-least : (kind x : ℕ) → 2 ≤ length (wordsFrom kind x)
-unfolding wordsFrom text
-words-least zero x = omega arith
-words-least (suc zero) x = omega arith
-words-least (suc (suc zero)) x = omega arith
-words-least (suc (suc (suc zero))) x = omega arith
-words-least (suc (suc (suc (suc zero)))) x = omega arith
-words-least (suc (suc (suc (suc (suc zero))))) x = omega arith
-words-least (suc (suc (suc (suc (suc (suc zero)))))) x = omega arith
-words-least (suc (suc (suc (suc (suc (suc (suc zero))))))) x = omega arith
-words-least (suc (suc (suc (suc (suc (suc (suc (suc zero)))))))) x = omega arith
-words-least (suc (suc (suc (suc (suc (suc (suc (suc (suc k))))))))) x = omega arith
+unfolding wordsFrom
+words-least kind x = with-least (kind % 256) (kind / 256) x
 
 pub line-length : (n kind x : ℕ) → length (lineFrom n kind x) ≤ longest
 unfolding lineFrom text

@@ -2,8 +2,9 @@
 use mathlib.Core.Path.{_≡_, sym, ap, subst, _∙_}
 use mathlib.Core.List.{List, [], _++_, append-assoc, append-nil}
 use Prim.Native.Nat.{ℕ, _+_, _-_, _≤_}
+use native.Mathlib.Nat.{add-zero}
 use native.Mathlib.Omega.{arith}
-use lib.ListN.{length, take, drop, length-append, length-take, length-drop}
+use lib.ListN.{length, take, drop, length-append, length-take, length-drop, take-append-drop}
 use lib.Seq.{take-at, take-add, length-take-le}
 use Rattle.lists.specs.Over.{overAt}
 use Rattle.lines.specs.Written.{Appended, Spills}
@@ -13,6 +14,12 @@ use Rattle.lines.proofs.Appending.{overAt-append, overAt-again, over-re
 pub spills-none : {p d e : List ℕ} {i j : ℕ} → Appended p i d e j → Spills p i d e j
 spills-none {p} {d} {e} {i} {j} w =
     record { spilled = []; few = omega arith; memory = w .memory ∙ ap (λ (l : List ℕ). overAt i l d) (sym (append-nil p)); next = w .next }
+
+-- no text is written
+pub spills-nothing : {d : List ℕ} {i : ℕ} → i ≤ length d → Spills [] i d d i
+unfolding overAt
+spills-nothing {d} {i} h =
+    record { spilled = []; few = omega arith; memory = rw (add-zero i, append-nil (take i d)) (sym (take-append-drop i d)); next = omega arith }
 
 -- the first n of eight bytes
 pub spills-eight : (l : List ℕ) (n : ℕ) {d e : List ℕ} {i j : ℕ} → n ≤ 8 → 8 ≤ length l

@@ -1,25 +1,28 @@
--- The words and the line of an answer, from its kind and its number.
+-- The words and the line of an answer, from its kind, to which 256 times its status is added, and its number.
 use mathlib.Core.Path.{_≡_}
 use mathlib.Core.Bool.{Bool, true, false, cond}
 use mathlib.Core.List.{List, [], _∷_, _++_}
-use Prim.Native.Nat.{ℕ, zero, suc}
+use Prim.Native.Nat.{ℕ, zero, suc, _/_, _%_}
 use Rattle.model.specs.Log.{text, decimal, words}
 use Rattle.values.specs.declared.Answer.{Answer}
 use Rattle.values.specs.Meaning.{answerOf}
 use Rattle.answers.specs.Numbers.{kindOf, numberOf}
 
--- the words of the answer of a kind and a number, in the order of the kinds (`kindOf`); every further kind is a refusal
+-- the words of the answer of a kind, a status and a number, in the order of the kinds (`kindOf`); every further kind is a refusal
+unfoldable pub wordsWith : ℕ → ℕ → ℕ → List ℕ
+wordsWith zero s x = text "ok"
+wordsWith (suc zero) s x = text "going"
+wordsWith (suc (suc zero)) s x = text "freed " ++ decimal x
+wordsWith (suc (suc (suc zero))) s x = text "at " ++ decimal x
+wordsWith (suc (suc (suc (suc zero)))) s x = text "value " ++ decimal x ++ text " " ++ decimal s
+wordsWith (suc (suc (suc (suc (suc zero))))) s x = text "done"
+wordsWith (suc (suc (suc (suc (suc (suc zero)))))) s x = text "no " ++ decimal x
+wordsWith (suc (suc (suc (suc (suc (suc (suc zero))))))) s x = text "value -" ++ decimal x ++ text " " ++ decimal s
+wordsWith (suc (suc (suc (suc (suc (suc (suc (suc zero)))))))) s x = text "none"
+wordsWith (suc (suc (suc (suc (suc (suc (suc (suc (suc k))))))))) s x = text "no " ++ decimal x
+
 unfoldable pub wordsFrom : ℕ → ℕ → List ℕ
-wordsFrom zero x = text "ok"
-wordsFrom (suc zero) x = text "going"
-wordsFrom (suc (suc zero)) x = text "freed " ++ decimal x
-wordsFrom (suc (suc (suc zero))) x = text "at " ++ decimal x
-wordsFrom (suc (suc (suc (suc zero)))) x = text "value " ++ decimal x
-wordsFrom (suc (suc (suc (suc (suc zero))))) x = text "done"
-wordsFrom (suc (suc (suc (suc (suc (suc zero)))))) x = text "no " ++ decimal x
-wordsFrom (suc (suc (suc (suc (suc (suc (suc zero))))))) x = text "value -" ++ decimal x
-wordsFrom (suc (suc (suc (suc (suc (suc (suc (suc zero)))))))) x = text "none"
-wordsFrom (suc (suc (suc (suc (suc (suc (suc (suc (suc k))))))))) x = text "no " ++ decimal x
+wordsFrom kind x = wordsWith (kind % 256) (kind / 256) x
 
 -- the line of record n with such an answer
 unfoldable pub lineFrom : ℕ → ℕ → ℕ → List ℕ
@@ -50,12 +53,32 @@ hasNumber (suc (suc (suc (suc (suc (suc (suc zero))))))) = true
 hasNumber (suc (suc (suc (suc (suc (suc (suc (suc zero)))))))) = false
 hasNumber (suc (suc (suc (suc (suc (suc (suc (suc (suc k))))))))) = true
 
+-- a status follows the number
+unfoldable pub hasStatus : ℕ → Bool
+hasStatus zero = false
+hasStatus (suc zero) = false
+hasStatus (suc (suc zero)) = false
+hasStatus (suc (suc (suc zero))) = false
+hasStatus (suc (suc (suc (suc zero)))) = true
+hasStatus (suc (suc (suc (suc (suc zero))))) = false
+hasStatus (suc (suc (suc (suc (suc (suc zero)))))) = false
+hasStatus (suc (suc (suc (suc (suc (suc (suc zero))))))) = true
+hasStatus (suc (suc (suc (suc (suc (suc (suc (suc zero)))))))) = false
+hasStatus (suc (suc (suc (suc (suc (suc (suc (suc (suc k))))))))) = false
+
+-- what stands between the number and the line's end
+unfoldable pub statusPart : ℕ → ℕ → List ℕ
+statusPart kind s = cond (hasStatus kind) (text " " ++ decimal s) []
+
 -- the whole part of a line after the record's number
+unfoldable pub tailWith : ℕ → ℕ → ℕ → List ℕ
+tailWith kind s x = upToNumber kind ++ cond (hasNumber kind) (decimal x ++ (statusPart kind s ++ text "\n")) []
+
 unfoldable pub tailFrom : ℕ → ℕ → List ℕ
-tailFrom kind x = upToNumber kind ++ cond (hasNumber kind) (decimal x ++ text "\n") []
+tailFrom kind x = tailWith (kind % 256) (kind / 256) x
 
 -- a row of eight bytes for each kind, the last for every further one: the part of the line up to the number; then a byte for each, its length,
--- and 16 more where there is a number
+-- 16 more where there is a number, and 32 more where there is a status
 unfoldable pub rows : List ℕ
 rows =
     text " ok\n" ++ (0 ∷ 0 ∷ 0 ∷ 0 ∷ [])
@@ -68,7 +91,7 @@ rows =
     ++ text " value -"
     ++ text " none\n" ++ (0 ∷ 0 ∷ [])
     ++ text " no " ++ (0 ∷ 0 ∷ 0 ∷ 0 ∷ [])
-    ++ (4 ∷ 7 ∷ 23 ∷ 20 ∷ 23 ∷ 6 ∷ 20 ∷ 24 ∷ 6 ∷ 20 ∷ [])
+    ++ (4 ∷ 7 ∷ 23 ∷ 20 ∷ 55 ∷ 6 ∷ 20 ∷ 56 ∷ 6 ∷ 20 ∷ [])
 
 -- the words from an answer's own kind and number are the model's
 abbrev pub SameWords : Type 0

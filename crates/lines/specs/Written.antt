@@ -24,9 +24,10 @@ pub record Spills (p : List ℕ) (i : ℕ) (d e : List ℕ) (j : ℕ) : Type 0 w
   pub memory : e ≡ overAt i (p ++ spilled) d
   pub next : j ≡ i + length p
 
--- the length of the longest line: twenty digits, a space, `value -` with twenty digits, and the line's end
+-- no line is longer: twenty digits, a space, `value -` with twenty digits, a space, twenty digits, and the line's end. A status of one byte has three
+-- digits at most.
 abbrev pub longest : ℕ
-longest = 49
+longest = 70
 
 -- the longest line fits from index `at` on
 unfoldable pub room : List ℕ → ℕ → Bool

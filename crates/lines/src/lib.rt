@@ -5,13 +5,13 @@ ghost use Prim.Native.Nat.{ℕ, _+_, _*_, _/_, _≤_, _<_, min};
 ghost use lib.ListN.{length, take, drop, replicate};
 ghost use Rattle.model.specs.Log.{decimal};
 ghost use Rattle.lines.specs.Digits.{Spelled, tensOf, leadOf};
-ghost use Rattle.lines.specs.Words.{rows, upToNumber, hasNumber, tailFrom};
+ghost use Rattle.lines.specs.Words.{rows, upToNumber, hasNumber, hasStatus, statusPart, tailWith, tailFrom};
 ghost use Rattle.lines.specs.Written.{Appended, Spills, LineAppended, LinesWritten, Partly};
 
 // A row of eight bytes for each kind, the last for every further one: a space and the words, up to their number or with the line's end. Then a
-// byte for each row: the length of this text, and 16 more where a number follows.
+// byte for each row: the length of this text, 16 more where a number follows, and 32 more where a status follows that.
 const ROWS: [u8; 90] =
-    *b" ok\n\0\0\0\0 going\n\0 freed \0 at \0\0\0\0 value \0 done\n\0\0 no \0\0\0\0 value - none\n\0\0 no \0\0\0\0\x04\x07\x17\x14\x17\x06\x14\x18\x06\x14";
+    *b" ok\n\0\0\0\0 going\n\0 freed \0 at \0\0\0\0 value \0 done\n\0\0 no \0\0\0\0 value - none\n\0\0 no \0\0\0\0\x04\x07\x17\x14\x37\x06\x14\x38\x06\x14";
 
 // Writes a text at index `at` of out; answers the index after it.
 fn put_text(out: &mut [u8], at: usize, t: &[u8]) -> usize
@@ -152,7 +152,7 @@ fn put_number(out: &mut [u8], at: usize, head: &[u8; 20], n: usize, last: u8) ->
 }
 
 // Writes the row of a kind at index `at` of out, in one move; answers the index after the text in it. The rest of the row spills.
-fn put_row(out: &mut [u8], at: usize, table: &[u8; 90], kind: u8) -> usize
+fn put_row(out: &mut [u8], at: usize, table: &[u8; 90], kind: u16) -> usize
     requires { ⌜ (now table ≡ rows) × (at + 8 ≤ length (now out)) ⌝ }
     ensures { λ r. ⌜ Spills (upToNumber kind) at (now (out .entry)) (now (out .exit)) r ⌝ }
 {
@@ -165,11 +165,19 @@ fn put_row(out: &mut [u8], at: usize, table: &[u8; 90], kind: u8) -> usize
 }
 
 // Whether a number follows in the line of an answer of this kind.
-fn numbered(table: &[u8; 90], kind: u8) -> bool
+fn numbered(table: &[u8; 90], kind: u16) -> bool
     requires { ⌜ now table ≡ rows ⌝ }
     ensures { λ r. ⌜ r ≡ hasNumber kind ⌝ }
 {
     table[80 + least(kind as usize, 9)] >= 16
+}
+
+// Whether a status follows the number.
+fn rated(table: &[u8; 90], kind: u16) -> bool
+    requires { ⌜ now table ≡ rows ⌝ }
+    ensures { λ r. ⌜ r ≡ hasStatus kind ⌝ }
+{
+    table[80 + least(kind as usize, 9)] >= 32
 }
 
 // Writes the digit of x at a unit at index `at` of out; answers the index after it. Where it is a zero before x's digits it spills, and the
@@ -214,17 +222,46 @@ fn spill_decimal(out: &mut [u8], at: usize, x: u64) -> usize
     put_decimal(out, at, x)
 }
 
-// Writes what follows a record's number in its line at index `at` of out; answers the index after it. A few bytes spill.
-fn spill_tail(out: &mut [u8], at: usize, table: &[u8; 90], kind: u8, number: u64) -> usize
-    requires { ⌜ (now table ≡ rows) × (at + 29 ≤ length (now out)) ⌝ }
-    ensures { λ r. ⌜ Spills (tailFrom kind number) at (now (out .entry)) (now (out .exit)) r ⌝ }
+// Writes the status in the line of an answer of this kind, if it has one, at index `at` of out; answers the index after it. A few bytes spill.
+fn spill_status(out: &mut [u8], at: usize, table: &[u8; 90], kind: u16, status: u64) -> usize
+    requires { ⌜ (now table ≡ rows) × (at + 21 ≤ length (now out)) ⌝ }
+    ensures { λ r. ⌜ Spills (statusPart kind status) at (now (out .entry)) (now (out .exit)) r ⌝ }
+{
+    if rated(table, kind) {
+        let next = put_byte(out, at, 32);
+        return spill_decimal(out, next, status);
+    }
+    at
+}
+
+// Writes what follows a record's number in its line at index `at` of out, where the kind has no status in it; answers the index after it. A few
+// bytes spill.
+fn spill_parts(
+    out: &mut [u8],
+    at: usize,
+    table: &[u8; 90],
+    kind: u16,
+    status: u64,
+    number: u64,
+) -> usize
+    requires { ⌜ (now table ≡ rows) × (at + 50 ≤ length (now out)) ⌝ }
+    ensures { λ r. ⌜ Spills (tailWith kind status number) at (now (out .entry)) (now (out .exit)) r ⌝ }
 {
     let next = put_row(out, at, table, kind);
     if numbered(table, kind) {
         let end = spill_decimal(out, next, number);
-        return put_byte(out, end, 10);
+        let last = spill_status(out, end, table, kind, status);
+        return put_byte(out, last, 10);
     }
     next
+}
+
+// The same, of a kind with its status.
+fn spill_tail(out: &mut [u8], at: usize, table: &[u8; 90], kind: u16, number: u64) -> usize
+    requires { ⌜ (now table ≡ rows) × (at + 50 ≤ length (now out)) ⌝ }
+    ensures { λ r. ⌜ Spills (tailFrom kind number) at (now (out .entry)) (now (out .exit)) r ⌝ }
+{
+    spill_parts(out, at, table, kind % 256, (kind / 256) as u64, number)
 }
 
 // Writes the line of a record at index `at` of out; answers the index after it. The first n bytes of `head` and `last` are the digits of
@@ -236,10 +273,10 @@ fn spill_line(
     head: &[u8; 20],
     n: usize,
     last: u8,
-    kind: u8,
+    kind: u16,
     number: u64,
 ) -> usize
-    requires { ⌜ (now table ≡ rows) × (n ≤ 8) × (at + 49 ≤ length (now out)) ⌝ }
+    requires { ⌜ (now table ≡ rows) × (n ≤ 8) × (at + 70 ≤ length (now out)) ⌝ }
     ensures { λ r. ⌜ Spills (take n (now (head .entry)) ++ (last ∷ []) ++ tailFrom kind number) at (now (out .entry)) (now (out .exit)) r ⌝ }
 {
     let space = put_number(out, at, head, n, last);
@@ -247,25 +284,25 @@ fn spill_line(
 }
 
 // Writes what follows a record's number in its line at index `at` of out, and nothing after it; answers the index after it.
-fn put_tail(out: &mut [u8], at: usize, kind: u8, number: u64) -> usize
-    requires { ⌜ at + 29 ≤ length (now out) ⌝ }
+fn put_tail(out: &mut [u8], at: usize, kind: u16, number: u64) -> usize
+    requires { ⌜ at + 50 ≤ length (now out) ⌝ }
     ensures { λ r. ⌜ Appended (tailFrom kind number) at (now (out .entry)) (now (out .exit)) r ⌝ }
 {
     let table = ROWS;
-    let mut tail = [0u8; 29];
+    let mut tail = [0u8; 50];
     let n = spill_tail(&mut tail, 0, &table, kind, number);
     let all = &tail[..];
     put_text(out, at, &all[0..n])
 }
 
 // Writes the line of the record whose number the places spell, with its answer's kind and number, at index `at` of out; answers the index
-// after it. Where fewer than 49 bytes, the longest line, are left from `at` on, writes nothing and answers `at`.
+// after it. Where fewer than 70 bytes are left from `at` on, writes nothing and answers `at`: no line is longer.
 fn write_line(
     out: &mut [u8],
     at: usize,
     places: &[u8; 20],
     start: usize,
-    kind: u8,
+    kind: u16,
     number: u64,
 ) -> usize
     requires { ⌜ start ≤ 20 ⌝ }
@@ -274,7 +311,7 @@ fn write_line(
     if out.len() < at {
         return at;
     }
-    if out.len() - at < 49 {
+    if out.len() - at < 70 {
         return at;
     }
     let space = put_digits(out, at, places, start);
@@ -308,12 +345,12 @@ struct Part {
 
 // Writes lines from the start of out as long as two more follow, which cover the bytes that spill. The number is kept as its last digit and
 // the digits of its tens, to which every tenth line adds one.
-fn begin_lines(out: &mut [u8], first: u64, kinds: &[u8], numbers: &[u64], most: usize) -> Part
+fn begin_lines(out: &mut [u8], first: u64, kinds: &[u16], numbers: &[u64], most: usize) -> Part
     requires { ⌜ (most ≤ length (now kinds)) × (most ≤ length (now numbers)) ⌝ }
     ensures { λ r. ⌜ Partly (now (out .entry)) first (now (kinds .entry)) (now (numbers .entry)) most (now (out .exit)) (r .at) (r .done) ⌝ }
     ensures { λ r. ⌜ first + r .done < 18446744073709551616 ⌝ }
 {
-    if ((most < 3) | (4294967295 < most)) | ((out.len() < 147) | (4294967295 < first)) {
+    if ((most < 3) | (4294967295 < most)) | ((out.len() < 210) | (4294967295 < first)) {
         return Part { done: 0, at: 0 };
     }
     let table = ROWS;
@@ -323,7 +360,7 @@ fn begin_lines(out: &mut [u8], first: u64, kinds: &[u8], numbers: &[u64], most: 
     let mut n = put_tens(&mut head, &places, start, first);
     let mut last = 48 + (first % 10) as u8;
     let stop = most - 2;
-    let limit = out.len() - 147;
+    let limit = out.len() - 210;
     let mut at = 0;
     let mut k = 0;
     while ((k < stop) & (at <= limit)) & (n <= 8) {
@@ -346,7 +383,7 @@ fn begin_lines(out: &mut [u8], first: u64, kinds: &[u8], numbers: &[u64], most: 
 fn end_lines(
     out: &mut [u8],
     first: u64,
-    kinds: &[u8],
+    kinds: &[u16],
     numbers: &[u64],
     most: usize,
     from: usize,
@@ -373,7 +410,13 @@ fn end_lines(
 
 // Writes the lines of the first `count` answers of a buffer, or of all where it has fewer, from the start of out, the first with the
 // number `first`; answers how many bytes they have.
-pub fn write_lines(out: &mut [u8], first: u64, kinds: &[u8], numbers: &[u64], count: usize) -> usize
+pub fn write_lines(
+    out: &mut [u8],
+    first: u64,
+    kinds: &[u16],
+    numbers: &[u64],
+    count: usize,
+) -> usize
     ensures { λ r. ⌜ LinesWritten (now (out .entry)) first (now (kinds .entry)) (now (numbers .entry)) count r (now (out .exit)) ⌝ }
 {
     let most = least(count, least(kinds.len(), numbers.len()));

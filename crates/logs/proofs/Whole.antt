@@ -46,7 +46,7 @@ module _ (h : Hub) (m : Memory) (list bytes : List ℕ) (first : ℕ) (printed :
     (C : Call m list bytes first printed n m′) where
   -- every record has room
   all-bytes : inRoom bytes (C .text) ≡ bytes
-  all-bytes = take-all (16 * (length (C .text) / 49)) bytes (omega (arith, C .room .forText))
+  all-bytes = take-all (16 * (length (C .text) / 70)) bytes (omega (arith, C .room .forText))
 
   all-records : n ≡ recordsIn bytes
   all-records = omega (arith, C .logs .applied .count, ap length all-bytes, C .room .forKinds, C .room .forNumbers)

@@ -36,9 +36,9 @@ pub fn keep_rest(buf: &mut [u8], from: usize, n: usize) -> usize
 
 // How many of so many bytes belong to records for whose lines there is room in `room` bytes of text.
 fn fitting(bytes: usize, room: usize) -> usize
-    ensures { λ r. ⌜ r ≡ min bytes (16 * (room / 49)) ⌝ }
+    ensures { λ r. ⌜ r ≡ min bytes (16 * (room / 70)) ⌝ }
 {
-    let most = 16 * (room / 49);
+    let most = 16 * (room / 70);
     if bytes < most {
         return bytes;
     }
@@ -54,7 +54,7 @@ pub struct Logged {
 
 // Applies the records of a part of the input, the first of which has the number `first`, and writes their lines from the start of the text. The
 // slots are a lent row of words.
-// No line is lost: as many records are applied as there is room for, with 49 bytes of text, a kind and a number for each.
+// No line is lost: as many records are applied as there is room for, with 70 bytes of text, a kind and a number for each.
 pub fn log_part(
     row: &mut [[u64; 6]],
     hub: Hub,
@@ -62,7 +62,7 @@ pub fn log_part(
     bytes: &[u8],
     first: u64,
     text: &mut [u8],
-    kinds: &mut [u8],
+    kinds: &mut [u16],
     numbers: &mut [u64],
     newest: &mut [u16; 256],
     free: &mut [u16; 2048],

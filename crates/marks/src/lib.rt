@@ -37,8 +37,7 @@ fn read_as(x: Purpose) -> u8
         Purpose::Totaling {
             group: _,
             row: _,
-            plus: _,
-            minus: _,
+            sum: _,
         } => 0,
     }
 }
@@ -156,8 +155,7 @@ pub fn time_for(x: Purpose, t: Announced, marks: &[u64; 12]) -> u64
         Purpose::Totaling {
             group: _,
             row: _,
-            plus: _,
-            minus: _,
+            sum: _,
         } => worker::time_of(t),
     }
 }

@@ -66,8 +66,8 @@ fn main() {
     let mut lens = [0u32; 4096];
     let mut merged = [0u32; 12288];
     let hub = Hub::empty();
-    let mut kind_space = [0u8; 22];
-    let kinds: &mut [u8] = &mut kind_space;
+    let mut kind_space = [0u16; 22];
+    let kinds: &mut [u16] = &mut kind_space;
     let mut number_space = [0u64; 22];
     let numbers: &mut [u64] = &mut number_space;
     let done = hub::apply_owned(
@@ -84,10 +84,10 @@ fn main() {
         &mut merged,
     );
 
-    // 22 lines of at most 49 bytes.
-    let mut text_space = [0u8; 1078];
+    // 22 lines of at most 70 bytes.
+    let mut text_space = [0u8; 1540];
     let text: &mut [u8] = &mut text_space;
-    let used = lines::write_lines(text, 0, kinds, numbers, done.count);
+    let used = lines::write_lines(text, 0, kinds, numbers, done.applied.count);
     let log = &text[..];
     if io::write_all(libc::STDOUT_FILENO, &log[0..used]) {
         return;

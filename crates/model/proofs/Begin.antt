@@ -12,7 +12,7 @@ use Rattle.model.specs.Rules.{Rules}
 use Rattle.model.specs.Rights.{allowed}
 use Rattle.model.specs.Answer.{Ok, Applied}
 use Rattle.model.specs.Record.{Operation}
-use Rattle.model.specs.Apply.{refuse, terms, namedBelow, groupThere, valueWithin, isIdle, mayOpen, mayUseTime, refusedBy, begin}
+use Rattle.model.specs.Apply.{refuse, terms, namedBelow, groupThere, valueWithin, statusKnown, isIdle, mayOpen, mayUseTime, refusedBy, begin}
 use Rattle.model.specs.Demand.{occurrences}
 use Rattle.model.specs.Refusals.{onReading, atStep}
 use Rattle.model.proofs.Basic.{cond-both}
@@ -23,6 +23,7 @@ pub record Passed (rules : Rules) (s : Store) (w : ℕ) (c : Operation) : Type 0
   pub named : (namedBelow (s .site .V') (terms (s .site .rows) c .register) && namedBelow markCount (markOf (terms (s .site .rows) c .mark))) ≡ true
   pub group : groupThere (s .site .rows) (terms (s .site .rows) c .group) ≡ true
   pub value : valueWithin (rules .limit) (terms (s .site .rows) c .value) ≡ true
+  pub status : statusKnown (terms (s .site .rows) c .value) ≡ true
   pub right : allowed (s .site .table) (s .site .V') w (terms (s .site .rows) c .right) ≡ true
   pub idle : isIdle (workerAt s w .doing) ≡ true
   pub opens : mayOpen (terms (s .site .rows) c .time) (ltb (workerAt s w .announced) absent) ≡ true
@@ -62,16 +63,20 @@ begin-by Q rules s w c refused begun =
     (λ e₁. cond-both Q (namedBelow (s .site .V') (x .register) && namedBelow markCount (markOf (x .mark))) _ _
     (λ e₂. cond-both Q (groupThere (s .site .rows) (x .group)) _ _
     (λ e₃. cond-both Q (valueWithin (rules .limit) (x .value)) _ _
-    (λ e₄. cond-both Q (allowed (s .site .table) (s .site .V') w (x .right)) _ _
-    (λ e₅. cond-both Q (isIdle (workerAt s w .doing)) _ _
-    (λ e₆. cond-both Q (mayOpen (x .time) has) _ _
-    (λ e₇. cond-both Q (mayUseTime (x .time) has) _ _
-    (λ e₈. refused-by Q s (markRefusal s (x .mark)) _ (of-marks s (x .mark)) refused
-    (λ e₉. begun (record { worker = e₁; named = e₂; group = e₃; value = e₄; right = e₅; idle = e₆; opens = e₇; time = e₈; mark = e₉ })))
-    (λ e₈. refused 13 (omega arith)))
-    (λ e₇. refused 12 (omega arith)))
-    (λ e₆. refused 10 (omega arith)))
-    (λ e₅. refused 23 (omega arith)))
+    (λ e₄. cond-both Q (statusKnown (x .value)) _ _
+    (λ e₅. cond-both Q (allowed (s .site .table) (s .site .V') w (x .right)) _ _
+    (λ e₆. cond-both Q (isIdle (workerAt s w .doing)) _ _
+    (λ e₇. cond-both Q (mayOpen (x .time) has) _ _
+    (λ e₈. cond-both Q (mayUseTime (x .time) has) _ _
+    (λ e₉. refused-by Q s (markRefusal s (x .mark)) _ (of-marks s (x .mark)) refused
+    (λ e. begun (
+    record { worker = e₁; named = e₂; group = e₃; value = e₄; status = e₅; right = e₆; idle = e₇; opens = e₈; time = e₉; mark = e }
+    )))
+    (λ e₉. refused 13 (omega arith)))
+    (λ e₈. refused 12 (omega arith)))
+    (λ e₇. refused 10 (omega arith)))
+    (λ e₆. refused 23 (omega arith)))
+    (λ e₅. refused 25 (omega arith)))
     (λ e₄. refused 16 (omega arith)))
     (λ e₃. refused 17 (omega arith)))
     (λ e₂. refused 4 (omega arith)))

@@ -75,6 +75,12 @@ pub runs : Runs
 unfolding wholeModel
 runs =
     record {
+      status-log = refl;
+      status-order = refl;
+      row-status = refl;
+      row-25 = refl;
+      row-25-short = refl;
+      row-25-register = refl;
       row-none = refl;
       row-none-short = refl;
       tables-refused = refl;

@@ -20,7 +20,7 @@ use Rattle.model.specs.Record.{number}
 use Rattle.model.specs.Row.{bytesOf}
 use Rattle.model.specs.Digits.{bcdByte, bcdOf, ofBcdByte, bcdNumber, isBcdByte, isBcd}
 use Rattle.model.specs.Digits.{Form, Old, New, dif, vif, mayBe, inForm, refusalFor, allMayBe, allInForm}
-use Rattle.model.specs.Digits.{Converted, RowsNo, convert, Bytes, Back, ThereAndBack, HeadsKept, RowExample}
+use Rattle.model.specs.Digits.{Converted, RowsNo, convert, Bytes, Back, ThereAndBack, HeadsKept, statusIn, StatusesKept, RowExample}
 use Rattle.model.proofs.Basic.{lt-cases, cond-both}
 
 ------------------------------------------------------------------------
@@ -267,6 +267,14 @@ heads-kept to buf i =
     (λ whole. cond-both Kept (allMayBe to n buf) _ buf
     (λ may. all-heads to n buf (omega (arith, eqb-true (length buf % 16) 0 whole)) i) (λ no. refl))
     (λ part. refl)
+
+pub statuses-kept : StatusesKept
+statuses-kept to buf i =
+    sym (second (convert to buf .buffer)) ∙ ap (λ (l : List ℕ). getD l 2 0) (heads-kept to buf i) ∙ second buf
+  where
+    -- the status is byte 2 of the first eight
+    second : (l : List ℕ) → getD (take 8 (drop (16 * i) l)) 2 0 ≡ statusIn l i
+    second l = getD-take 8 (drop (16 * i) l) 2 0 (omega arith) ∙ getD-drop (16 * i) l 2 0
 
 pub row-example : RowExample
 unfolding convert allMayBe allInForm mayBe inForm

@@ -5,7 +5,7 @@ use mathlib.Core.Option.{Option, none, some}
 use Prim.Native.Nat.{ℕ}
 use lib.Dec.{leb}
 use Rattle.model.specs.Totals.{goesOn, Sum}
-use Rattle.model.specs.Store.{Content, countOf, Purpose, Single, Marked, Totaling, Goal, Idle, ReadEnter, Store, place}
+use Rattle.model.specs.Store.{Content, Purpose, Single, Marked, Totaling, Goal, Idle, ReadEnter, Store, place, countOf}
 use Rattle.model.specs.Rules.{twelveDigits}
 use Rattle.model.specs.Answer.{Answer, Going, No, Stepped, said}
 use Rattle.model.specs.Steps.{answerFor, signed, totalFound, found, stoppedBy}

@@ -10,7 +10,7 @@ use native.Mathlib.Nat.{not-suc-le-zero}
 use lib.Dec.{ltb, leb}
 use lib.ListN.{length, getD, take, drop, length-append}
 use borrow.Author.Tests as Tests
-use Rattle.model.specs.Store.{absent, Reading, Content, countOf, Slot, Range, markCount, OpenAnnounce, OpenPass, CloseWithdraw, MarkKeep, MarkRelease}
+use Rattle.model.specs.Store.{absent, Reading, Content, Slot, Range, markCount, OpenAnnounce, OpenPass, CloseWithdraw, MarkKeep, MarkRelease, countOf}
 use Rattle.model.specs.Store.{Single, Marked, Totaling, Goal, Doing, Idle, PutPublish, PutStamp, PutHandIn, FlushTake}
 use Rattle.model.specs.Store.{FlushRead, FlushFree, OnTime, ReadEnter, ReadStand, GetShow, Worker, Store, workerAt, slotAt, newestOf}
 use Rattle.model.specs.Store.{holders, held, rangeOf, withQueue, withWorker, withDoing, place}
@@ -18,7 +18,8 @@ use Rattle.model.specs.Marks.{markOf}
 use Rattle.model.specs.About.{Effect, NoEffect, ByStamp, ByClock, about}
 use Rattle.model.specs.Answer.{Answer, Done, No}
 use Rattle.model.specs.Ranges.{needed, filter, merge, firstTwo, neededPools, joining, queuedPool}
-use Rattle.model.specs.Totals.{groupOf, signOf, registerOf, rowAt, ofGroup, firstOf, goesOn, addRow, Sum, sum₀}
+use Rattle.model.specs.Totals.{groupOf, signOf, registerOf, rowAt, ofGroup, firstOf, goesOn, Sum, sum₀}
+use Rattle.model.specs.Sums.{addRow}
 use Rattle.model.specs.Rules.{twelveDigits}
 use Rattle.model.specs.Steps.{readTimes, answerFor, signed, goalAt}
 use Rattle.model.specs.Record.{Operation, Put, Open, Read, Close, Get, Collect, Total, Mark, Release, MarkedRead}
@@ -611,7 +612,7 @@ module _ (now : ℕ) (s : Store) (olds : List (List ℕ)) (h : List Call) (o : L
 
     module _ (j i : ℕ) (y : Sum) (total : g .purpose ≡ Totaling j i y) (z : slotAt s c .low ≤ t′) where
       abbrev more : Sum
-      more = addRow y (rowAt rows i) (countOf v)
+      more = addRow y (rowAt rows i) v
 
       call : (k : ℕ) × Running h w k × (callAt h k .operation ≡ Total j) × (occurrences k o ≡ 0)
       call =
@@ -626,8 +627,8 @@ module _ (now : ℕ) (s : Store) (olds : List (List ℕ)) (h : List Call) (o : L
       more-is =
           let f = so-far .4 .0 in
           let q : v ≡ f (registerOf (rowAt rows i)) = found-in z f (ap (copyFor p w) total ∙ so-far .4 .1) ∙ ap f (so-far .1) in
-          ap (λ (k : Content). addRow y (rowAt rows i) (countOf k)) q
-          ∙ ap (λ (k : Sum). addRow k (rowAt rows i) (countOf (f (registerOf (rowAt rows i))))) (so-far .4 .2)
+          ap (λ (k : Content). addRow y (rowAt rows i) k) q
+          ∙ ap (λ (k : Sum). addRow k (rowAt rows i) (f (registerOf (rowAt rows i)))) (so-far .4 .2)
           ∙ sym (sum-next f (ofGroup j (take i rows)) (rowAt rows i))
           ∙ ap (sumOver f) (sym (own-next j rows i (so-far .0) (so-far .2)))
 
@@ -659,7 +660,7 @@ module _ (now : ℕ) (s : Store) (olds : List (List ℕ)) (h : List Call) (o : L
               k .0,
               refl,
               k .1,
-              omega (arith, sum-grows y (rowAt rows i) (countOf v), so-far .3, own, few),
+              omega (arith, sum-grows y (rowAt rows i) v, so-far .3, own, few),
               (so-far .4 .0, so-far .4 .1, more-is),
             ),
           )

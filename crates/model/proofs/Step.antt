@@ -10,7 +10,7 @@ use lib.Dec.{ltb, leb, eqb}
 use lib.ListN.{length}
 use lib.Seq.{getD-set-same}
 use borrow.Author.Tests as Tests
-use Rattle.model.specs.Store.{absent, Reading, countOf, Slot, Range, OpenAnnounce, OpenPass, CloseWithdraw, MarkKeep, MarkRelease, Purpose}
+use Rattle.model.specs.Store.{absent, Reading, Slot, Range, OpenAnnounce, OpenPass, CloseWithdraw, MarkKeep, MarkRelease, Purpose, countOf}
 use Rattle.model.specs.Store.{Single, Marked, Totaling, Goal, Doing, Idle, PutPublish, PutStamp, PutHandIn, FlushTake, FlushRead}
 use Rattle.model.specs.Store.{FlushFree, OnTime, ReadEnter, ReadStand, GetShow, Store, workerAt, slotAt, newestOf, held, rangeOf}
 use Rattle.model.specs.Store.{withWorker, place, up}

@@ -3,14 +3,15 @@ use mathlib.Core.Path.{_≡_, refl, sym, ap, _∙_, subst}
 use mathlib.Core.Bool.{Bool, true, false, cond, _&&_, true≢false}
 use mathlib.Core.Logic.{_≢_, ⊎-elim}
 use mathlib.Core.List.{List, [], _∷_, _++_}
-use Prim.Native.Nat.{ℕ, zero, suc, _+_, _*_, _≤_, _<_}
+use Prim.Native.Nat.{ℕ, zero, suc, _+_, _*_, _≤_, _<_, max}
 use native.Mathlib.Omega.{arith}
 use native.Mathlib.Nat.{le-of-suc-le-suc, not-suc-le-zero}
 use lib.Dec.{ltb, leb, eqb}
 use lib.ListN.{length, getD, take, length-append}
 use borrow.Author.Tests as Tests
-use Rattle.model.specs.Store.{Content, countOf}
-use Rattle.model.specs.Totals.{groupOf, signOf, registerOf, rowFits, before, follow, ofGroup, firstOf, rowAt, goesOn, Sum, addRow}
+use Rattle.model.specs.Store.{Content, countOf, statusOf}
+use Rattle.model.specs.Totals.{groupOf, signOf, registerOf, rowFits, before, follow, ofGroup, firstOf, rowAt, goesOn, Sum}
+use Rattle.model.specs.Sums.{addRow}
 use Rattle.model.specs.Demand.{sumOver}
 use Rattle.model.proofs.Basic.{eq-cases, lt-cases, and-both}
 
@@ -56,29 +57,41 @@ first-own g (x ∷ l) b = ⊎-elim (λ u. rw (u .1) (u .0)) (λ u. rw (u .1) (fi
 ------------------------------------------------------------------------
 -- Sums
 
-add-comm : (s : Sum) (x u y v : ℕ) → addRow (addRow s x u) y v ≡ addRow (addRow s y v) x u
+add-comm : (s : Sum) (x : ℕ) (u : Content) (y : ℕ) (v : Content) → addRow (addRow s x u) y v ≡ addRow (addRow s y v) x u
 add-comm s x u y v = both (eqb (signOf x) 0) (eqb (signOf y) 0)
   where
-    sums : (a b c d : ℕ) → a ≡ c → b ≡ d → _≡_ {A = Sum} (record { plus = a; minus = b }) (record { plus = c; minus = d })
-    sums a b c d e f = rw (e, f)
+    sums : (a b m c d n : ℕ) → a ≡ c → b ≡ d → m ≡ n
+        → _≡_ {A = Sum} (record { plus = a; minus = b; status = m }) (record { plus = c; minus = d; status = n })
+    sums a b m c d n e f g = rw (e, f, g)
+
+    largest : (a b c : ℕ) → max (max a b) c ≡ max (max a c) b
+    largest a b c = omega arith
 
     both : (p q : Bool) → _≡_ {A = Sum}
-        (record { plus = s .plus + cond p u 0 + cond q v 0; minus = s .minus + cond p 0 u + cond q 0 v })
-        (record { plus = s .plus + cond q v 0 + cond p u 0; minus = s .minus + cond q 0 v + cond p 0 u })
-    both p q = sums _ _ _ _ (omega arith) (omega arith)
+        (record {
+          plus = s .plus + cond p (countOf u) 0 + cond q (countOf v) 0;
+          minus = s .minus + cond p 0 (countOf u) + cond q 0 (countOf v);
+          status = max (max (s .status) (statusOf u)) (statusOf v);
+        })
+        (record {
+          plus = s .plus + cond q (countOf v) 0 + cond p (countOf u) 0;
+          minus = s .minus + cond q 0 (countOf v) + cond p 0 (countOf u);
+          status = max (max (s .status) (statusOf v)) (statusOf u);
+        })
+    both p q = sums _ _ _ _ _ _ (omega arith) (omega arith) (largest (s .status) (statusOf u) (statusOf v))
 
-pub sum-next : (f : ℕ → Content) (l : List ℕ) (x : ℕ) → sumOver f (l ++ (x ∷ [])) ≡ addRow (sumOver f l) x (countOf (f (registerOf x)))
+pub sum-next : (f : ℕ → Content) (l : List ℕ) (x : ℕ) → sumOver f (l ++ (x ∷ [])) ≡ addRow (sumOver f l) x (f (registerOf x))
 unfolding sumOver
 sum-next f [] x = refl
 sum-next f (y ∷ l) x =
-    ap (λ (s : Sum). addRow s y (countOf (f (registerOf y)))) (sum-next f l x)
-    ∙ add-comm (sumOver f l) x (countOf (f (registerOf x))) y (countOf (f (registerOf y)))
+    ap (λ (s : Sum). addRow s y (f (registerOf y))) (sum-next f l x)
+    ∙ add-comm (sumOver f l) x (f (registerOf x)) y (f (registerOf y))
 
 -- a value is added to one of the two sums
-pub sum-grows : (s : Sum) (x u : ℕ) → addRow s x u .plus + addRow s x u .minus ≡ s .plus + s .minus + u
+pub sum-grows : (s : Sum) (x : ℕ) (u : Content) → addRow s x u .plus + addRow s x u .minus ≡ s .plus + s .minus + countOf u
 sum-grows s x u = go (eqb (signOf x) 0)
   where
-    go : (t : Bool) → s .plus + cond t u 0 + (s .minus + cond t 0 u) ≡ s .plus + s .minus + u
+    go : (t : Bool) → s .plus + cond t (countOf u) 0 + (s .minus + cond t 0 (countOf u)) ≡ s .plus + s .minus + countOf u
     go true = omega arith
     go false = omega arith
 

@@ -1,12 +1,12 @@
 -- One record applied to the hub: setup (H2), the begin of an operation (H4), a step, and the refusals in their order (H7.1): 6, 1, 2, 8 or 9,
--- 5, 3, 4 or 17, 16, then 10 or 11, then 12, 13, 19, 20 or 21.
+-- 5, 3, 4 or 17, 16, 25, 23, then 10 or 11, then 12, 13, 19, 20 or 21.
 use mathlib.Core.Bool.{Bool, true, false, cond, not, _&&_}
 use mathlib.Core.List.{List, [], _∷_, map}
 use mathlib.Core.Option.{Option, none, some}
 use Prim.Native.Nat.{ℕ, zero, suc, _-_}
 use lib.Dec.{ltb, leb}
 use lib.ListN.{length, take, replicate}
-use Rattle.model.specs.Store.{absent, lastClock, Slot, markCount, OpenAnnounce, CloseWithdraw, MarkKeep, MarkRelease}
+use Rattle.model.specs.Store.{absent, lastClock, Reading, lastStatus, Slot, markCount, OpenAnnounce, CloseWithdraw, MarkKeep, MarkRelease}
 use Rattle.model.specs.Store.{Single, Marked, Doing, PutPublish, FlushTake, OnTime, ReadEnter, GetShow, startWorker, Store, Hub}
 use Rattle.model.specs.Store.{blank, up, upFrom, workerAt, place}
 use Rattle.model.specs.About.{about}
@@ -94,12 +94,12 @@ pub data TimeNeed : Type 0 where
   NoTime : TimeNeed
   OwnTime : TimeNeed
 
--- The terms on which an operation begins: the register that it names, if any, the group, if any, the value that it puts, if any, the right that it
+-- The terms on which an operation begins: the register that it names, if any, the group, if any, the reading that it puts, if any, the right that it
 -- needs (H15.5), what it asks of the announced time and of a mark, and its first place.
 pub record Terms : Type 0 where
   pub register : Option ℕ
   pub group : Option ℕ
-  pub value : Option ℕ
+  pub value : Option Reading
   pub right : Needed
   pub time : TimeNeed
   pub mark : MarkNeed
@@ -124,7 +124,7 @@ terms rows (Put r x) =
     record {
       register = some r;
       group = none;
-      value = some (x .count);
+      value = some x;
       right = OnThese ToPut (r ∷ []);
       time = AnyTime;
       mark = NoMark;
@@ -169,10 +169,15 @@ groupThere rows none = true
 groupThere rows (some g) = ltb (firstOf g rows) (length rows)
 
 -- 16: the value, if there is one, is at most the limit, if there is one
-abbrev pub valueWithin : Option ℕ → Option ℕ → Bool
+abbrev pub valueWithin : Option ℕ → Option Reading → Bool
 valueWithin none x = true
 valueWithin (some most) none = true
-valueWithin (some most) (some x) = leb x most
+valueWithin (some most) (some x) = leb (x .count) most
+
+-- 25: the status of the reading, if there is one, is one that there is
+abbrev pub statusKnown : Option Reading → Bool
+statusKnown none = true
+statusKnown (some x) = leb (x .status) lastStatus
 
 -- 12: only an open asks that no time is announced. `has`: a time is announced
 abbrev pub mayOpen : TimeNeed → Bool → Bool
@@ -195,7 +200,7 @@ unfoldable pub refusedBy : Option ℕ → Hub → Applied → Applied
 refusedBy none h next = next
 refusedBy (some k) h next = refuse h k
 
--- H7.1: 3 worker not below P; 4; 17; 16; 23; 10; 12; 13; 19, 20 or 21; else begun (H4.1)
+-- H7.1: 3 worker not below P; 4; 17; 16; 25; 23; 10; 12; 13; 19, 20 or 21; else begun (H4.1)
 unfoldable pub begin : Rules → Store → ℕ → Operation → Applied
 begin rules s w o =
     let has = ltb (workerAt s w .announced) absent in
@@ -205,11 +210,12 @@ begin rules s w o =
     (unless (namedBelow (s .site .V') (x .register) && namedBelow markCount (markOf (x .mark))) (up s) 4
     (unless (groupThere (s .site .rows) (x .group)) (up s) 17
     (unless (valueWithin (rules .limit) (x .value)) (up s) 16
+    (unless (statusKnown (x .value)) (up s) 25
     (unless (allowed (s .site .table) (s .site .V') w (x .right)) (up s) 23
     (unless (isIdle (workerAt s w .doing)) (up s) 10
     (unless (mayOpen (x .time) has) (up s) 12
     (unless (mayUseTime (x .time) has) (up s) 13
-    (refusedBy (markRefusal s (x .mark)) (up s) begun))))))))
+    (refusedBy (markRefusal s (x .mark)) (up s) begun)))))))))
 
 ------------------------------------------------------------------------
 -- A step

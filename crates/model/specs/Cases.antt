@@ -23,7 +23,7 @@ use Rattle.model.specs.Log.{text, logOf}
 unfoldable pub recordOf : Command → List ℕ
 recordOf (SetUp z) =
     0 ∷ bytesOf 1 (z .P) ++ bytesOf 2 (z .V') ++ bytesOf 2 (z .N) ++ replicate 2 0 ++ bytesOf 4 (z .clock) ++ replicate 4 0
-recordOf (Begin w (Put r x)) = 1 ∷ w ∷ bytesOf 2 r ++ replicate 4 0 ++ bytesOf 8 (x .count)
+recordOf (Begin w (Put r x)) = 1 ∷ w ∷ bytesOf 2 r ++ bytesOf 1 (x .status) ++ replicate 3 0 ++ bytesOf 8 (x .count)
 recordOf (Begin w Open) = 2 ∷ w ∷ replicate 14 0
 recordOf (Begin w (Read r)) = 3 ∷ w ∷ bytesOf 2 r ++ replicate 12 0
 recordOf (Begin w Close) = 4 ∷ w ∷ replicate 14 0
@@ -46,8 +46,12 @@ handedBefore c = under (document01 []) (recordOf c)
 abbrev pub setup : ℕ → ℕ → ℕ → ℕ → Command
 setup p v n t = SetUp (record { P = p; V' = v; N = n; clock = t })
 
+-- a put of a value with a status, and of one that was read
+abbrev pub putAs : ℕ → ℕ → ℕ → ℕ → Command
+putAs w r x k = Begin w (Put r (record { count = x; status = k }))
+
 abbrev pub put : ℕ → ℕ → ℕ → Command
-put w r x = Begin w (Put r (record { count = x }))
+put w r x = putAs w r x 0
 
 -- a row of so many slots is lent, and no table stands
 abbrev pub rowAlone : ℕ → Lent
@@ -153,8 +157,8 @@ abbrev pub flagged : ℕ → ℕ → List ℕ
 flagged k i = set (k ∷ replicate 15 0) i 1
 
 pub record Layout : Type 0 where
-  pub put-bytes : decode (1 ∷ 2 ∷ 3 ∷ 4 ∷ 0 ∷ 0 ∷ 0 ∷ 0 ∷ 1 ∷ 2 ∷ 3 ∷ 4 ∷ 5 ∷ 6 ∷ 7 ∷ 8 ∷ [])
-      ≡ Asks (Begin 2 (Put 1027 (record { count = 578437695752307201 })))
+  pub put-bytes : decode (1 ∷ 2 ∷ 3 ∷ 4 ∷ 5 ∷ 0 ∷ 0 ∷ 0 ∷ 1 ∷ 2 ∷ 3 ∷ 4 ∷ 5 ∷ 6 ∷ 7 ∷ 8 ∷ [])
+      ≡ Asks (Begin 2 (Put 1027 (record { count = 578437695752307201; status = 5 })))
   pub read-bytes : decode (3 ∷ 2 ∷ 3 ∷ 4 ∷ replicate 12 0) ≡ Asks (Begin 2 (Read 1027))
   pub get-bytes : decode (5 ∷ 2 ∷ 3 ∷ 4 ∷ replicate 12 0) ≡ Asks (Begin 2 (Get 1027))
   pub total-bytes : decode (8 ∷ 2 ∷ 3 ∷ 4 ∷ replicate 12 0) ≡ Asks (Begin 2 (Total 1027))
@@ -167,7 +171,7 @@ pub record Layout : Type 0 where
   pub setup-bytes : decode (0 ∷ 1 ∷ 2 ∷ 3 ∷ 4 ∷ 5 ∷ 0 ∷ 0 ∷ 6 ∷ 7 ∷ 8 ∷ 9 ∷ 0 ∷ 0 ∷ 0 ∷ 0 ∷ [])
       ≡ Asks (SetUp (record { P = 1; V' = 770; N = 1284; clock = 151521030 }))
   -- the first and the last byte that an operation does not use
-  pub first-unused : map decode (flagged 0 6 ∷ flagged 1 4 ∷ flagged 2 2 ∷ flagged 3 4 ∷ flagged 4 2 ∷ flagged 5 4 ∷ flagged 6 2 ∷ flagged 7 2
+  pub first-unused : map decode (flagged 0 6 ∷ flagged 1 5 ∷ flagged 2 2 ∷ flagged 3 4 ∷ flagged 4 2 ∷ flagged 5 4 ∷ flagged 6 2 ∷ flagged 7 2
       ∷ flagged 8 4 ∷ flagged 9 4 ∷ flagged 10 4 ∷ flagged 11 5 ∷ [])
       ≡ replicate 12 (Refuses 2)
   pub last-unused : map decode (flagged 0 15 ∷ flagged 1 7 ∷ flagged 2 15 ∷ flagged 3 15 ∷ flagged 4 15 ∷ flagged 5 15 ∷ flagged 6 15 ∷ flagged 7 15

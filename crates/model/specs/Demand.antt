@@ -15,11 +15,12 @@ use mathlib.Core.Option.{Option, none, some}
 use Prim.Native.Nat.{ℕ, zero, suc, _+_, _≤_, _<_}
 use lib.Dec.{ltb, leb, eqb}
 use lib.ListN.{length, getD}
-use Rattle.model.specs.Store.{absent, Reading, Content, countOf, Slot, Doing, PutPublish, Store, Hub, blank, up, workerAt, slotAt, newestOf, holders, Lent, lent₀}
+use Rattle.model.specs.Store.{absent, Reading, Content, Slot, Doing, PutPublish, Store, Hub, blank, up, workerAt, slotAt, newestOf, holders, Lent, lent₀}
 use Rattle.model.specs.Store.{held}
 use Rattle.model.specs.About.{Effect, NoEffect, ByStamp, ByClock, about}
 use Rattle.model.specs.Rules.{Ruled}
-use Rattle.model.specs.Totals.{Sum, sum₀, registerOf, ofGroup, addRow}
+use Rattle.model.specs.Totals.{Sum, sum₀, registerOf, ofGroup}
+use Rattle.model.specs.Sums.{addRow}
 use Rattle.model.specs.Answer.{Answer, Ok, Going, Freed, Done, said}
 use Rattle.model.specs.Steps.{answerFor, signed}
 use Rattle.model.specs.Record.{Operation, Put, Open, Read, Close, Get, Collect, Total, Mark, Release, MarkedRead, SetUp, Begin, Step}
@@ -179,7 +180,7 @@ inCopy (some f) q = some (q f)
 -- H12.10: the sums of rows over a copy
 unfoldable pub sumOver : (ℕ → Content) → List ℕ → Sum
 sumOver f [] = sum₀
-sumOver f (x ∷ l) = addRow (sumOver f l) x (countOf (f (registerOf x)))
+sumOver f (x ∷ l) = addRow (sumOver f l) x (f (registerOf x))
 
 -- what shows that there is no copy
 unfoldable pub noCopy : Option (ℕ → Content) → Answer → Option Answer

@@ -136,12 +136,20 @@ abbrev pub HeadsKept : Type 0
 HeadsKept =
     (to : Form) (buf : List ℕ) (i : ℕ) → take 8 (drop (16 * i) (convert to buf .buffer)) ≡ take 8 (drop (16 * i) buf)
 
--- an example: register 7, time 258, 123456789012 Wh, in either form
+-- H16.9: the status in row i of a buffer, in either form
+abbrev pub statusIn : List ℕ → ℕ → ℕ
+statusIn buf i = getD buf (16 * i + 2) 0
+
+-- H16.9: each row keeps its status, whatever that is and whatever the answer is
+abbrev pub StatusesKept : Type 0
+StatusesKept = (to : Form) (buf : List ℕ) (i : ℕ) → statusIn (convert to buf .buffer) i ≡ statusIn buf i
+
+-- an example: register 7, corrected, time 258, 123456789012 Wh, in either form
 abbrev pub oldRow : List ℕ
-oldRow = 7 ∷ 0 ∷ 0 ∷ 0 ∷ 2 ∷ 1 ∷ 0 ∷ 0 ∷ 0x14 ∷ 0x1A ∷ 0x99 ∷ 0xBE ∷ 0x1C ∷ 0 ∷ 0 ∷ 0 ∷ []
+oldRow = 7 ∷ 0 ∷ 2 ∷ 0 ∷ 2 ∷ 1 ∷ 0 ∷ 0 ∷ 0x14 ∷ 0x1A ∷ 0x99 ∷ 0xBE ∷ 0x1C ∷ 0 ∷ 0 ∷ 0 ∷ []
 
 abbrev pub newRow : List ℕ
-newRow = 7 ∷ 0 ∷ 0 ∷ 0 ∷ 2 ∷ 1 ∷ 0 ∷ 0 ∷ 0x0E ∷ 0x03 ∷ 0x12 ∷ 0x90 ∷ 0x78 ∷ 0x56 ∷ 0x34 ∷ 0x12 ∷ []
+newRow = 7 ∷ 0 ∷ 2 ∷ 0 ∷ 2 ∷ 1 ∷ 0 ∷ 0 ∷ 0x0E ∷ 0x03 ∷ 0x12 ∷ 0x90 ∷ 0x78 ∷ 0x56 ∷ 0x34 ∷ 0x12 ∷ []
 
 abbrev pub RowExample : Type 0
 RowExample = (toNew oldRow .buffer ≡ newRow) × (toOld newRow .buffer ≡ oldRow)

@@ -2,6 +2,7 @@
 pub mod Totals
 pub mod Rights
 pub mod Store
+pub mod Sums
 pub mod About
 pub mod Marks
 pub mod Batch

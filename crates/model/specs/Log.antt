@@ -25,15 +25,15 @@ digits (suc n) x = cond (ltb x 10) ((48 + x % 10) ∷ []) (digits n (x / 10) ++ 
 unfoldable pub decimal : ℕ → List ℕ
 decimal x = digits 19 x
 
--- H10.3: the words of an answer
+-- H10.3, H16.5: the words of an answer; a value's status stands behind its number
 unfoldable pub words : Answer → List ℕ
 words Ok = text "ok"
 words Going = text "going"
 words (Freed c) = text "freed " ++ decimal c
 words (At t) = text "at " ++ decimal t
-words (Value x) = text "value " ++ decimal (x .count)
+words (Value x) = text "value " ++ decimal (x .count) ++ text " " ++ decimal (x .status)
 words None = text "none"
-words (Below x) = text "value -" ++ decimal (x .count)
+words (Below x) = text "value -" ++ decimal (x .count) ++ text " " ++ decimal (x .status)
 words Done = text "done"
 words (No k) = text "no " ++ decimal k
 

@@ -77,8 +77,9 @@ markIn b = number b 2 2
 abbrev pub markBehind : List ℕ → ℕ
 markBehind b = number b 4 1
 
+-- H16.2: of a put, the status behind the register
 abbrev pub readingIn : List ℕ → Reading
-readingIn b = record { count = number b 8 8 }
+readingIn b = record { count = number b 8 8; status = number b 4 1 }
 
 abbrev pub sizesIn : List ℕ → Sizes
 sizesIn b = record { P = number b 1 1; V' = number b 2 2; N = number b 4 2; clock = number b 8 4 }
@@ -102,7 +103,7 @@ commandOf b (suc (suc (suc (suc (suc (suc (suc (suc (suc (suc (suc n))))))))))) 
 -- H3.3, H3.4: the unused bytes of each command are zero
 unfoldable pub unusedZero : List ℕ → Command → Bool
 unusedZero b (SetUp z) = zeros b 6 2 && zeros b 12 4
-unusedZero b (Begin w (Put r x)) = zeros b 4 4
+unusedZero b (Begin w (Put r x)) = zeros b 5 3
 unusedZero b (Begin w Open) = zeros b 2 14
 unusedZero b (Begin w (Read r)) = zeros b 4 12
 unusedZero b (Begin w Close) = zeros b 2 14

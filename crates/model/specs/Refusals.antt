@@ -15,7 +15,7 @@ use Rattle.model.specs.Demand.{occurrences}
 
 -- H7.1: the numbers of the refusals on reading; 7 is the row writer's
 abbrev pub onReading : List ℕ
-onReading = 1 ∷ 2 ∷ 3 ∷ 4 ∷ 5 ∷ 6 ∷ 8 ∷ 9 ∷ 10 ∷ 11 ∷ 12 ∷ 13 ∷ 16 ∷ 17 ∷ 19 ∷ 20 ∷ 21 ∷ 23 ∷ []
+onReading = 1 ∷ 2 ∷ 3 ∷ 4 ∷ 5 ∷ 6 ∷ 8 ∷ 9 ∷ 10 ∷ 11 ∷ 12 ∷ 13 ∷ 16 ∷ 17 ∷ 19 ∷ 20 ∷ 21 ∷ 23 ∷ 25 ∷ []
 
 -- H7.2: and of those that a step meets
 abbrev pub atStep : List ℕ

@@ -10,10 +10,10 @@ use Rattle.model.specs.Rules.{twelveDigits, document01, inForce, Ruled, 
 use Rattle.model.specs.Record.{Open, Read, Close, Get, Collect, Total, Mark, Release, MarkedRead, Command, Begin, Step}
 use Rattle.model.specs.Answer.{Ok, No}
 use Rattle.model.specs.Apply.{giveTable, applyRuled, answersTo}
-use Rattle.model.specs.Row.{RowNone, RowNo, writeRow}
+use Rattle.model.specs.Row.{Written, RowNone, RowNo, writeRow}
 use Rattle.model.specs.Log.{text, lines, logOf}
 use Rattle.model.specs.Demand.{events, order}
-use Rattle.model.specs.Cases.{recordOf, handed, handedBefore, setup, put, rowAlone, rowOf, joined}
+use Rattle.model.specs.Cases.{recordOf, handed, handedBefore, setup, putAs, put, rowAlone, rowOf, joined}
 
 -- the log of a list of commands, over a row of n slots, with the list of totals given
 abbrev pub logWith : List ℕ → ℕ → List Command → List ℕ
@@ -289,7 +289,7 @@ empty =
     ++ (Begin 1 (Read 1) ∷ steps 3 1)
 
 -- H15: worker 0 may put and read on both registers, mark on register 0 and collect, which a row gives for registers that are not there; worker 1 may
--- read register 1, which the total begins with. What either may not do is refused with 23, after 4 and before 10.
+-- read register 1, which the total begins with. What either may not do is refused with 23, after 4 and 25 and before 10.
 abbrev pub rightsTable : List ℕ
 rightsTable =
     (0 ∷ 3 ∷ 0 ∷ 0 ∷ 1 ∷ 0 ∷ 0 ∷ 0 ∷ [])
@@ -327,9 +327,39 @@ rights =
     ++ (Begin 0 (Get 1) ∷ steps 1 0)
     ++ (put 1 1 5 ∷ Begin 1 Collect ∷ Begin 0 Collect ∷ Begin 1 Open ∷ Begin 1 (Get 0) ∷ Begin 1 (Get 1) ∷ steps 2 1)
     ++ (Begin 1 (Total 1) ∷ Begin 1 (Read 1) ∷ steps 2 1)
-    ++ (Begin 0 (Mark 0) ∷ Begin 1 (Get 2) ∷ [])
+    ++ (Begin 0 (Mark 0) ∷ Begin 1 (Get 2) ∷ putAs 1 1 5 3 ∷ [])
+
+-- H16: register 0 holds 4, corrected, and register 1 holds 5, an estimate, at a snapshot. Then register 0 gets 7, read: a get shows that with its status,
+-- a read at the snapshot 4 with its own, and a total of both the larger of its two statuses, which is the first. A status above 2 is refused after
+-- 4 and 16 and before 10.
+abbrev pub statusSetup : Command
+statusSetup = setup 2 2 6 1
+
+abbrev pub statuses : List Command
+statuses =
+    (putAs 0 0 4 2 ∷ steps 3 0)
+    ++ (putAs 0 1 5 1 ∷ steps 9 0)
+    ++ (Begin 1 Open ∷ steps 2 1)
+    ++ (putAs 0 0 7 0 ∷ steps 3 0)
+    ++ (Begin 1 (Get 0) ∷ steps 1 1)
+    ++ (Begin 1 (Read 0) ∷ steps 3 1)
+    ++ (Begin 1 (Total 1) ∷ steps 5 1)
+    ++ (putAs 0 0 1 3 ∷ putAs 0 0 1000000000000 3 ∷ putAs 0 2 1 3 ∷ Begin 0 (Get 1) ∷ putAs 0 0 1 3 ∷ steps 1 0)
 
 pub record Runs : Type 0 where
+  pub status-log : logWith movedList 6 (statusSetup ∷ statuses)
+      ≡ text "0 ok\n1 ok\n2 going\n3 going\n4 done\n5 ok\n6 going\n7 going\n8 going\n9 going\n10 going\n"
+      ++ text "11 going\n12 going\n13 going\n14 done\n15 ok\n16 going\n17 at 1\n18 ok\n19 going\n20 going\n"
+      ++ text "21 done\n22 ok\n23 value 7 0\n24 ok\n25 going\n26 going\n27 value 4 2\n28 ok\n29 going\n"
+      ++ text "30 going\n31 going\n32 going\n33 value 9 2\n34 no 25\n35 no 16\n36 no 4\n37 ok\n38 no 25\n"
+      ++ text "39 value 5 1\n"
+  pub status-order : orderOf 6 (with movedList statusSetup) (map handed statuses) ≡ 0 ∷ 1 ∷ 2 ∷ 3 ∷ 4 ∷ 5 ∷ 6 ∷ 7 ∷ []
+  -- H16.7: the status is byte 2 of the row. H16.8: one above 2 gets 25, after 4 and 7, and the buffer stays
+  pub row-status : writeRow 0 7 (some (record { count = 5; status = 2 })) (replicate 16 9)
+      ≡ record { answer = Written; buffer = 0 ∷ 0 ∷ 2 ∷ 0 ∷ 7 ∷ 0 ∷ 0 ∷ 0 ∷ 5 ∷ replicate 7 0 }
+  pub row-25 : writeRow 0 7 (some (record { count = 5; status = 3 })) (replicate 16 9) ≡ record { answer = RowNo 25; buffer = replicate 16 9 }
+  pub row-25-short : writeRow 0 7 (some (record { count = 5; status = 3 })) (replicate 15 9) ≡ record { answer = RowNo 7; buffer = replicate 15 9 }
+  pub row-25-register : writeRow 256 7 (some (record { count = 5; status = 3 })) (replicate 16 9) ≡ record { answer = RowNo 4; buffer = replicate 16 9 }
   -- H9.6: without a reading a buffer that is long enough stays as it is; H9.3: a shorter one gets 7 all the same
   pub row-none : writeRow 0 7 none (replicate 16 9) ≡ record { answer = RowNone; buffer = replicate 16 9 }
   pub row-none-short : writeRow 0 7 none (replicate 15 9) ≡ record { answer = RowNo 7; buffer = replicate 15 9 }
@@ -340,17 +370,17 @@ pub record Runs : Type 0 where
   pub table-late : map (λ t. giveTable (applyRuled rightsHub rightsSetup .hub) t .answer) (rightsTable ∷ [] ∷ refusedTables) ≡ replicate 10 (No 9)
   pub rights-log : lines 0 (answersTo rightsHub (rightsSetup ∷ map handed rights))
       ≡ text "0 ok\n1 no 23\n2 ok\n3 none\n4 ok\n5 none\n6 no 23\n7 no 23\n8 ok\n9 ok\n10 no 23\n11 no 10\n12 going\n"
-      ++ text "13 at 1\n14 no 23\n15 ok\n16 going\n17 none\n18 no 23\n19 no 4\n"
+      ++ text "13 at 1\n14 no 23\n15 ok\n16 going\n17 none\n18 no 23\n19 no 4\n20 no 25\n"
   pub empty-log : logWith movedList 6 (emptySetup ∷ empty)
       ≡ text "0 ok\n1 ok\n2 none\n3 ok\n4 going\n5 at 1\n6 ok\n7 going\n8 ok\n9 going\n10 going\n11 none\n12 ok\n"
-      ++ text "13 going\n14 going\n15 going\n16 going\n17 value 0\n18 going\n19 done\n20 ok\n21 value 0\n22 ok\n"
-      ++ text "23 going\n24 ok\n25 value 5\n26 ok\n27 going\n28 going\n29 none\n"
+      ++ text "13 going\n14 going\n15 going\n16 going\n17 value 0 0\n18 going\n19 done\n20 ok\n21 value 0 0\n22 ok\n"
+      ++ text "23 going\n24 ok\n25 value 5 0\n26 ok\n27 going\n28 going\n29 none\n"
   pub empty-order : orderOf 6 (with movedList emptySetup) (map handed empty) ≡ 0 ∷ 1 ∷ 2 ∷ 3 ∷ 4 ∷ 5 ∷ 6 ∷ 7 ∷ 8 ∷ []
   pub month-log : logFor 4 (monthSetup ∷ monthEnd)
       ≡ text "0 ok\n1 ok\n2 going\n3 going\n4 done\n5 ok\n6 going\n7 at 1\n8 ok\n9 done\n10 ok\n11 done\n12 ok\n"
       ++ text "13 going\n14 going\n15 going\n16 going\n17 going\n18 going\n19 going\n20 going\n21 done\n22 ok\n"
       ++ text "23 going\n24 going\n25 done\n26 ok\n27 going\n28 going\n29 going\n30 going\n31 going\n32 freed 0\n"
-      ++ text "33 done\n34 ok\n35 going\n36 going\n37 going\n38 value 5\n39 ok\n40 done\n41 ok\n42 going\n"
+      ++ text "33 done\n34 ok\n35 going\n36 going\n37 going\n38 value 5 0\n39 ok\n40 done\n41 ok\n42 going\n"
       ++ text "43 going\n44 going\n45 going\n46 going\n47 freed 2\n48 freed 1\n49 done\n"
   pub month-order : orderFor 4 monthSetup monthEnd ≡ 0 ∷ 1 ∷ 2 ∷ 3 ∷ 4 ∷ 5 ∷ 6 ∷ 7 ∷ 8 ∷ 9 ∷ []
   pub mark-refusals-log : logFor 2 (markSetup ∷ markRefusals)
@@ -369,8 +399,8 @@ pub record Runs : Type 0 where
       ≡ text "0 ok\n1 no 13\n2 no 17\n3 no 17\n4 no 3\n5 ok\n6 going\n7 going\n8 done\n9 ok\n10 going\n"
       ++ text "11 going\n12 done\n13 ok\n14 going\n15 going\n16 done\n17 ok\n18 going\n19 at 1\n20 ok\n21 going\n"
       ++ text "22 going\n23 no 17\n24 no 10\n25 ok\n26 going\n27 going\n28 done\n29 going\n30 going\n31 going\n"
-      ++ text "32 going\n33 value -8\n34 ok\n35 going\n36 going\n37 going\n38 value 10\n39 ok\n40 going\n"
-      ++ text "41 going\n42 value -7\n"
+      ++ text "32 going\n33 value -8 0\n34 ok\n35 going\n36 going\n37 going\n38 value 10 0\n39 ok\n40 going\n"
+      ++ text "41 going\n42 value -7 0\n"
   pub sums-order : orderOf 9 (with sumsList sumsSetup) (map handed sums) ≡ 0 ∷ 1 ∷ 2 ∷ 3 ∷ 5 ∷ 4 ∷ 6 ∷ 7 ∷ []
   pub moved-total-log : logWith movedList 6 (movedSetup ∷ movedTotal)
       ≡ text "0 ok\n1 ok\n2 going\n3 going\n4 done\n5 ok\n6 going\n7 going\n8 going\n9 going\n10 going\n"
@@ -378,16 +408,16 @@ pub record Runs : Type 0 where
       ++ text "21 done\n22 ok\n23 going\n24 ok\n25 going\n26 going\n27 going\n28 going\n29 going\n30 going\n"
       ++ text "31 going\n32 going\n33 freed 0\n34 freed 1\n35 done\n36 ok\n37 going\n38 going\n39 going\n"
       ++ text "40 going\n41 going\n42 freed 4\n43 done\n44 ok\n45 going\n46 going\n47 going\n48 going\n"
-      ++ text "49 value 9\n"
+      ++ text "49 value 9 0\n"
   pub moved-total-order : orderOf 6 (with movedList movedSetup) (map handed movedTotal) ≡ 0 ∷ 1 ∷ 2 ∷ 3 ∷ 5 ∷ 6 ∷ 7 ∷ 4 ∷ []
   pub over-log : lines 0 (answersTo (rowOf 6) (overSetup ∷ over))
       ≡ text "0 ok\n1 ok\n2 going\n3 going\n4 done\n5 ok\n6 going\n7 at 1\n8 ok\n9 going\n10 no 18\n11 no 11\n"
-      ++ text "12 ok\n13 going\n14 value 1000000000000\n"
+      ++ text "12 ok\n13 going\n14 value 1000000000000 0\n"
   -- the total, call 2, is refused
   pub over-order : orderOf 6 overSetup over ≡ 0 ∷ 1 ∷ 3 ∷ []
   pub large-log : logWith (replicate 8 0) 3 (largeSetup ∷ large)
       ≡ text "0 ok\n1 ok\n2 going\n3 going\n4 done\n5 ok\n6 going\n7 at 1\n8 ok\n9 going\n10 going\n11 going\n"
-      ++ text "12 value 1999999999998\n"
+      ++ text "12 value 1999999999998 0\n"
   pub bad-lists : map (λ l. answersTo (rowOf 3) (with l (setup 1 3 3 1) ∷ [])) badLists
       ≡ replicate 6 (No 5 ∷ []) ++ ((Ok ∷ []) ∷ [])
   pub moved-log : logFor 6 (movedSetup ∷ movedRead)
@@ -395,7 +425,7 @@ pub record Runs : Type 0 where
       ++ text "11 going\n12 going\n13 going\n14 done\n15 ok\n16 going\n17 at 1\n18 ok\n19 going\n20 going\n"
       ++ text "21 done\n22 ok\n23 going\n24 ok\n25 going\n26 going\n27 going\n28 going\n29 going\n30 going\n"
       ++ text "31 going\n32 going\n33 freed 0\n34 freed 1\n35 done\n36 ok\n37 going\n38 going\n39 going\n"
-      ++ text "40 going\n41 going\n42 freed 4\n43 done\n44 ok\n45 going\n46 value 4\n"
+      ++ text "40 going\n41 going\n42 freed 4\n43 done\n44 ok\n45 going\n46 value 4 0\n"
   -- the last put, call 7, is not stamped: it has no effect yet
   pub moved-order : orderFor 6 movedSetup movedRead ≡ 0 ∷ 1 ∷ 2 ∷ 3 ∷ 5 ∷ 6 ∷ 4 ∷ []
   pub late-log : logFor 4 (lateSetup ∷ latePool)
@@ -404,7 +434,7 @@ pub record Runs : Type 0 where
       ++ text "22 done\n23 going\n24 done\n25 ok\n26 going\n27 going\n28 going\n29 none\n"
   pub late-order : orderFor 4 lateSetup latePool ≡ 1 ∷ 2 ∷ 3 ∷ 0 ∷ 4 ∷ []
   pub get-log : logFor 3 (getSetup ∷ stampingGet)
-      ≡ text "0 ok\n1 ok\n2 going\n3 ok\n4 going\n5 at 5\n6 ok\n7 value 7\n8 ok\n9 going\n10 going\n11 none\n"
+      ≡ text "0 ok\n1 ok\n2 going\n3 ok\n4 going\n5 at 5\n6 ok\n7 value 7 0\n8 ok\n9 going\n10 going\n11 none\n"
       ++ text "12 going\n13 done\n"
   -- the open, then the put that the get stamped, then the get
   pub get-order : orderFor 3 getSetup stampingGet ≡ 1 ∷ 0 ∷ 2 ∷ 3 ∷ []
@@ -423,13 +453,13 @@ pub record Runs : Type 0 where
       ++ text "21 done\n22 ok\n23 going\n24 going\n25 going\n26 going\n27 going\n28 freed 2\n"
   pub limit-log : logFor 3 limits
       ≡ text "0 ok\n1 no 16\n2 ok\n3 no 16\n4 no 4\n5 no 3\n6 no 10\n7 going\n8 going\n9 done\n10 ok\n"
-      ++ text "11 value 999999999999\n"
+      ++ text "11 value 999999999999 0\n"
   pub earlier-log : lines 0 (answersTo (rowOf 4) (handedBefore beforeSetup ∷ changing))
-      ≡ text "0 ok\n1 ok\n2 going\n3 going\n4 done\n5 ok\n6 ok\n7 value 1000000000000\n8 ok\n9 going\n10 at 1\n"
-      ++ text "11 ok\n12 going\n13 value 1000000000000\n14 ok\n15 done\n16 going\n17 going\n18 done\n19 no 16\n"
-      ++ text "20 ok\n21 value 1000000000001\n22 ok\n23 going\n24 going\n25 going\n26 going\n27 going\n28 going\n"
+      ≡ text "0 ok\n1 ok\n2 going\n3 going\n4 done\n5 ok\n6 ok\n7 value 1000000000000 0\n8 ok\n9 going\n10 at 1\n"
+      ++ text "11 ok\n12 going\n13 value 1000000000000 0\n14 ok\n15 done\n16 going\n17 going\n18 done\n19 no 16\n"
+      ++ text "20 ok\n21 value 1000000000001 0\n22 ok\n23 going\n24 going\n25 going\n26 going\n27 going\n28 going\n"
       ++ text "29 going\n30 going\n31 done\n32 ok\n33 going\n34 going\n35 going\n36 going\n37 going\n38 freed 0\n"
       ++ text "39 freed 2\n40 done\n41 ok\n42 going\n43 going\n44 going\n45 going\n46 going\n47 freed 1\n"
-      ++ text "48 done\n49 ok\n50 value 5\n"
+      ++ text "48 done\n49 ok\n50 value 5 0\n"
   -- the second put, call 1, has its effect after the rule, behind the close
   pub earlier-order : orderOf 4 (handedBefore beforeSetup) changing ≡ 0 ∷ 2 ∷ 3 ∷ 4 ∷ 5 ∷ 1 ∷ 6 ∷ 7 ∷ 8 ∷ 9 ∷ 10 ∷ []

@@ -5,7 +5,7 @@ use mathlib.Core.Option.{Option, none, some}
 use Prim.Native.Nat.{ℕ, _+_, _-_}
 use lib.Dec.{ltb, leb, eqb}
 use lib.ListN.{length, set, drop}
-use Rattle.model.specs.Store.{absent, lastClock, Reading, Content, countOf, Range, TimeStep, OpenAnnounce, OpenPass, CloseWithdraw, MarkKeep}
+use Rattle.model.specs.Store.{absent, lastClock, Reading, Content, Range, TimeStep, OpenAnnounce, OpenPass, CloseWithdraw, MarkKeep, countOf}
 use Rattle.model.specs.Store.{MarkRelease, Purpose, Single, Marked, Totaling, Goal, Doing, Idle, PutPublish, PutStamp, PutHandIn}
 use Rattle.model.specs.Store.{FlushTake, FlushRead, FlushFree, OnTime, ReadEnter, ReadStand, GetShow, Worker, Store, workerAt, slotAt}
 use Rattle.model.specs.Store.{newestOf, rangeOf, withClock, withSlots, withNewest, withFree, withQueue, withWorkers, withMarks}
@@ -13,7 +13,8 @@ use Rattle.model.specs.Store.{withWorker, withDoing, place}
 use Rattle.model.specs.About.{Stance, Nowhere, StandsOn, about}
 use Rattle.model.specs.Marks.{EmptyMark, UnreadMark, markRefusal, needFor, timeFor}
 use Rattle.model.specs.Rules.{twelveDigits}
-use Rattle.model.specs.Totals.{Sum, registerOf, rowAt, goesOn, addRow}
+use Rattle.model.specs.Totals.{Sum, registerOf, rowAt, goesOn}
+use Rattle.model.specs.Sums.{addRow}
 use Rattle.model.specs.Answer.{Answer, Going, Freed, At, Value, None, Below, Done, No, Stepped}
 use Rattle.model.specs.Versions.{stamp, linkSlots, unlinkSlots}
 use Rattle.model.specs.Ranges.{firstTwo, merge, neededOf, needlessOf, neededPools, joining, queuedPool}
@@ -170,29 +171,29 @@ readEnter s w g =
 abbrev pub goalAt : List ℕ → ℕ → ℕ → Sum → Goal
 goalAt rows g i sum = record { register = registerOf (rowAt rows i); purpose = Totaling g i sum }
 
--- H12.8: what a total answers with the sums of all its rows: what was added less what was subtracted
+-- H12.8, H16.6: what a total answers with the sums of all its rows: what was added less what was subtracted, and the largest status
 unfoldable pub signed : Sum → Answer
 signed y =
-    let up : Answer = Value (record { count = y .plus - y .minus }) in
-    let down : Answer = Below (record { count = y .minus - y .plus }) in
+    let up : Answer = Value (record { count = y .plus - y .minus; status = y .status }) in
+    let down : Answer = Below (record { count = y .minus - y .plus; status = y .status }) in
     cond (leb (y .minus) (y .plus)) up down
 
--- H12.6: a total found the value x for row i. H12.9: refusal 18 where x has more than twelve digits. H12.7: the next row of the group is read as
+-- H12.6: a total found x for row i. H12.9: refusal 18 where it has more than twelve digits. H12.7: the next row of the group is read as
 -- this one was; behind the last one the sum is the answer.
-unfoldable pub totalFound : Store → ℕ → ℕ → ℕ → Sum → ℕ → Stepped
+unfoldable pub totalFound : Store → ℕ → ℕ → ℕ → Sum → Content → Stepped
 totalFound s w g i sum x =
     let rows = s .site .rows in
     let more = addRow sum (rowAt rows i) x in
     let over : Stepped = record { store = place s w Idle; answer = No 18 } in
     let next : Stepped = record { store = place s w (ReadEnter (goalAt rows g (i + 1) more)); answer = Going } in
     let last : Stepped = record { store = place s w Idle; answer = signed more } in
-    cond (leb x twelveDigits) (cond (goesOn rows g i) next last) over
+    cond (leb (countOf x) twelveDigits) (cond (goesOn rows g i) next last) over
 
 -- what follows where the version that the time needs holds x
 unfoldable pub found : Store → ℕ → Purpose → Content → Stepped
 found s w Single x = record { store = place s w Idle; answer = answerFor x }
 found s w (Marked m) x = record { store = place s w Idle; answer = answerFor x }
-found s w (Totaling g i sum) x = totalFound s w g i sum (countOf x)
+found s w (Totaling g i sum) x = totalFound s w g i sum x
 
 -- Read (2) H5.37, H13.5: with a low that is at most the worker's time, or the mark's, the value there is found, which is a read's answer; else the
 -- read goes to the older neighbour.

@@ -16,9 +16,14 @@ absent = 4294967296
 abbrev pub lastClock : ℕ
 lastClock = 4294967295
 
--- H1.7: a reading, a count of watt-hours.
+-- H1.7, H16.1: a reading, a count of watt-hours and its status: 0 read, 1 estimated, 2 corrected. The steps move it as one.
 pub record Reading : Type 0 where
   pub count : ℕ
+  pub status : ℕ
+
+-- H16.1: the last status that there is
+abbrev pub lastStatus : ℕ
+lastStatus = 2
 
 -- H1.7, H2.9: what a version holds: a reading, which a put brought, or none, where the version is from setup
 abbrev pub Content : Type 0
@@ -28,6 +33,11 @@ Content = Option Reading
 abbrev pub countOf : Content → ℕ
 countOf none = 0
 countOf (some x) = x .count
+
+-- H16.6: the status that a total reads there: without a reading none, which is 0
+abbrev pub statusOf : Content → ℕ
+statusOf none = 0
+statusOf (some x) = x .status
 
 -- H1.7: a slot for a version, with what it holds, its times and its neighbours.
 pub record Slot : Type 0 where

@@ -56,15 +56,12 @@ goesOn rows g i = ltb (i + 1) (length rows) && eqb (groupOf (rowAt rows (i + 1))
 ------------------------------------------------------------------------
 -- Sums
 
--- what was added and what was subtracted
+-- what was added, what was subtracted, and the largest status that was read
 pub record Sum : Type 0 where
   pub plus : ℕ
   pub minus : ℕ
+  pub status : ℕ
 
+-- H16.6: where nothing was read the status is 0
 abbrev pub sum₀ : Sum
-sum₀ = record { plus = 0; minus = 0 }
-
--- H12.6: with the value x of a row's register, by the row's sign
-abbrev pub addRow : Sum → ℕ → ℕ → Sum
-addRow s row x =
-    record { plus = s .plus + cond (eqb (signOf row) 0) x 0; minus = s .minus + cond (eqb (signOf row) 0) 0 x }
+sum₀ = record { plus = 0; minus = 0; status = 0 }

@@ -112,12 +112,19 @@ fn no_eight(b: &[u8], i: usize) -> bool
     eight(b, i) == 0
 }
 
-// Whether the bytes 5 to 15 are zero, whether the bytes 4 to 15 are, and whether the bytes 2 to 15 are.
+// Whether the bytes 5 to 7 are zero, whether the bytes 5 to 15 are, whether the bytes 4 to 15 are, and whether the bytes 2 to 15 are.
+fn none_5_to_7(b: &[u8]) -> bool
+    requires { ⌜ 16 ≤ length (now b) ⌝ }
+    ensures { λ r. ⌜ r ≡ zeros (now (b .entry)) 5 3 ⌝ }
+{
+    no_one(b, 5) & no_two(b, 6)
+}
+
 fn none_from_5(b: &[u8]) -> bool
     requires { ⌜ 16 ≤ length (now b) ⌝ }
     ensures { λ r. ⌜ r ≡ zeros (now (b .entry)) 5 11 ⌝ }
 {
-    (no_one(b, 5) & no_two(b, 6)) & no_eight(b, 8)
+    none_5_to_7(b) & no_eight(b, 8)
 }
 
 fn none_from_4(b: &[u8]) -> bool
@@ -194,8 +201,9 @@ fn asked(rec: &[u8]) -> Decoded
             let register = two(rec, 2);
             let reading = Reading {
                 count: eight(rec, 8),
+                status: one(rec, 4),
             };
-            begin(rec, no_four(rec, 4), Operation::Put { register, reading })
+            begin(rec, none_5_to_7(rec), Operation::Put { register, reading })
         }
         2 => begin(rec, none_from_2(rec), Operation::Open),
         3 => {

@@ -31,13 +31,14 @@ fn put_number(row: &mut [u8], from: usize, n: usize, x: u64)
     }
 }
 
-// Fills the sixteen bytes of a row: register, two zero bytes, time, value.
+// Fills the sixteen bytes of a row: register, status, a zero byte, time, value.
 fn put_row(row: &mut [u8], register: u16, time: u32, reading: Reading)
     requires { ⌜ length (now row) ≡ 16 ⌝ }
     ensures { λ _. ⌜ now (row .exit) ≡ rowBytes register time (readingOf reading) ⌝ }
 {
     put_number(row, 0, 2, register as u64);
-    put_number(row, 2, 2, 0);
+    put_number(row, 2, 1, reading.status as u64);
+    put_number(row, 3, 1, 0);
     put_number(row, 4, 4, time as u64);
     put_number(row, 8, 8, reading.count);
 }
@@ -58,6 +59,9 @@ pub fn write_row(out: &mut [u8], register: u16, time: u32, content: Content) -> 
     match content {
         Content::NoReading => RowAnswer::None,
         Content::Of(reading) => {
+            if 2 < reading.status {
+                return RowAnswer::No(25);
+            }
             put_row(&mut out[at..e], register, time, reading);
             RowAnswer::Written
         }

@@ -21,12 +21,18 @@ fn outcome(out: &mut [u8], register: u16, content: Content) {
     io::write_all(STDOUT_FILENO, out);
 }
 
-// With a reading.
-fn show(out: &mut [u8], register: u16) {
+// With a reading of this status.
+fn show_as(out: &mut [u8], register: u16, status: u8) {
     let reading = Reading {
         count: 72623859790382856,
+        status,
     };
     outcome(out, register, Content::Of(reading));
+}
+
+// With a reading that was read.
+fn show(out: &mut [u8], register: u16) {
+    show_as(out, register, 0);
 }
 
 // Without one.
@@ -48,4 +54,10 @@ fn main() {
     show_none(&mut [9; 15], 0);
     show_none(&mut [9; 16], 0);
     show_none(&mut [9; 32], 256);
+    show_as(&mut [9; 16], 0, 1);
+    show_as(&mut [9; 16], 0, 2);
+    show_as(&mut [9; 16], 0, 3);
+    show_as(&mut [9; 15], 0, 3);
+    show_as(&mut [9; 16], 256, 3);
+    show_as(&mut [9; 32], 1, 2);
 }

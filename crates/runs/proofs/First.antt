@@ -43,7 +43,8 @@ module _ (b : List ℕ) where
   unfolding commandOf
   command-first zero =
       λ j. SetUp (record { P = worker-first j; V' = register-first j; N = number-first b 4 2 (lit≤ tt) j; clock = number-first b 8 4 (lit≤ tt) j })
-  command-first (suc zero) = λ j. Begin (worker-first j) (Put (register-first j) (record { count = number-first b 8 8 (lit≤ tt) j }))
+  command-first (suc zero) =
+      λ j. Begin (worker-first j) (Put (register-first j) (record { count = number-first b 8 8 (lit≤ tt) j; status = number-first b 4 1 (lit≤ tt) j }))
   command-first (suc (suc zero)) = λ j. Begin (worker-first j) Open
   command-first (suc (suc (suc zero))) = λ j. Begin (worker-first j) (Read (register-first j))
   command-first (suc (suc (suc (suc zero)))) = λ j. Begin (worker-first j) Close
@@ -59,7 +60,7 @@ module _ (b : List ℕ) where
   unused-first : (c : Command) → unusedZero (take 16 b) c ≡ unusedZero b c
   unfolding unusedZero
   unused-first (SetUp z) = λ j. zeros-first b 6 2 (lit≤ tt) j && zeros-first b 12 4 (lit≤ tt) j
-  unused-first (Begin w (Put r x)) = zeros-first b 4 4 (lit≤ tt)
+  unused-first (Begin w (Put r x)) = zeros-first b 5 3 (lit≤ tt)
   unused-first (Begin w Open) = zeros-first b 2 14 (lit≤ tt)
   unused-first (Begin w (Read r)) = zeros-first b 4 12 (lit≤ tt)
   unused-first (Begin w Close) = zeros-first b 2 14 (lit≤ tt)

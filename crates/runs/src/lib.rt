@@ -77,7 +77,7 @@ pub fn run_one(
         (r .answer)
         ⌝ }
 {
-    let mut kinds = [0u8; 1];
+    let mut kinds = [0u16; 1];
     let mut numbers = [0u64; 1];
     let done = core::run(
         &mut row[0..n],
@@ -175,7 +175,7 @@ pub fn run_all(
     hub: Hub,
     list: &[u8],
     bytes: &[u8],
-    kinds: &mut [u8],
+    kinds: &mut [u16],
     numbers: &mut [u64],
     newest: &mut [u16; 256],
     free: &mut [u16; 2048],

@@ -1,4 +1,4 @@
--- What a version holds, as the code has it: the same as in the model, there and back, and so is what is answered and added for it.
+-- What a version holds, as the code has it: the same as in the model, there and back, and so is what is answered for it.
 use mathlib.Core.Path.{_≡_, refl}
 use mathlib.Core.Option.{none, some}
 use Rattle.model.specs.Store as Model
@@ -6,7 +6,6 @@ use Rattle.model.specs.Steps.{answerFor}
 use Rattle.values.specs.declared.Content.{Content}
 use Rattle.values.specs.declared.Content.the-variants.{NoReading, Of}
 use Rattle.values.specs.Meaning.{contentOf, contentRep, answerOf}
-use Rattle.versions.specs.Versions.{countWord}
 use Rattle.step.specs.Step.{answerTo}
 
 pub content-back : (c : Content) → contentRep (contentOf c) ≡ c
@@ -18,6 +17,6 @@ unfolding answerFor
 answer-same none = refl
 answer-same (some x) = refl
 
-pub adds-same : (v : Model.Content) → countWord (contentRep v) ≡ Model.countOf v
-adds-same none = refl
-adds-same (some x) = refl
+pub content-is : (v : Model.Content) → contentOf (contentRep v) ≡ v
+content-is none = refl
+content-is (some x) = refl

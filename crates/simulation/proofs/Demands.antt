@@ -23,6 +23,7 @@ use Rattle.values.specs.Meaning.{answerOf}
 use Rattle.values.specs.declared.Answer as Code
 use Rattle.values.specs.declared.Answer.the-variants as Is
 use Rattle.answers.specs.Numbers.{kindOf, numberOf, answerFrom}
+use Rattle.answers.proofs.Faithful.{faithful}
 use Rattle.queue.specs.State.{Begins}
 use Rattle.model.specs.Rights.{eachOf, tableStands}
 use Rattle.simulation.specs.Memory.{Memory, lentIn, write}
@@ -51,9 +52,9 @@ ok-back Is.Ok = refl
 ok-back Is.Going = refl
 ok-back (Is.Freed c) = refl
 ok-back (Is.At t) = refl
-ok-back (Is.Value x) = refl
+ok-back (Is.Value x) = ap (λ (y : Code.Answer). said (answerOf y) .ok) (faithful (Is.Value x) tt)
 ok-back Is.None = refl
-ok-back (Is.Below x) = refl
+ok-back (Is.Below x) = ap (λ (y : Code.Answer). said (answerOf y) .ok) (faithful (Is.Below x) tt)
 ok-back Is.Done = refl
 ok-back (Is.No k) = refl
 

@@ -8,7 +8,7 @@ use native.Mathlib.Omega.{arith}
 use lib.Dec.{ltb, leb, eqb}
 use lib.ListN.{length, getD, set}
 use lib.Seq.{set-getD}
-use Rattle.model.specs.Store.{absent, lastClock}
+use Rattle.model.specs.Store.{absent, lastClock, countOf}
 use Rattle.model.specs.Batch.{batchOf}
 use Rattle.model.specs.Record as Record
 use Rattle.model.specs.Record.{Sizes, SetUp, Asks, commandOf, unusedZero, decode}
@@ -16,16 +16,16 @@ use Rattle.model.specs.Demand.{occurrences}
 use Rattle.model.specs.Refusals.{onReading, atStep}
 use Rattle.model.specs.Answer as Model·Answer
 use Rattle.model.proofs.Basic.{cond-both}
-use Rattle.values.specs.Meaning.{answerOf}
+use Rattle.values.specs.Meaning.{contentOf, answerOf}
 use Rattle.values.specs.declared.Answer.{Answer}
 use Rattle.values.specs.declared.Answer.the-variants.{Going, Value, Below, Done, No}
 use Rattle.arrays.specs.Arrays.{short}
-use Rattle.versions.specs.Versions.{countWord, slotAtIn, stampedIn}
+use Rattle.versions.specs.Versions.{slotAtIn, stampedIn}
 use Rattle.worker.specs.Rep.{timeOf}
 use Rattle.worker.specs.declared.Announced.{Announced}
 use Rattle.worker.specs.declared.Announced.the-variants.{Nothing, At}
 use Rattle.model.specs.Rules.{twelveDigits}
-use Rattle.model.specs.Totals.{signOf, rowAt, goesOn}
+use Rattle.model.specs.Totals.{rowAt, goesOn}
 use Rattle.values.specs.declared.Content.{Content}
 use Rattle.values.specs.declared.Content.the-variants.{NoReading, Of}
 use Rattle.worker.specs.declared.Purpose.{Purpose}
@@ -47,7 +47,8 @@ use Rattle.gate.specs.declared.Gate.the-variants.{Refuse, Make, Start, Go}
 use Rattle.gate.specs.Gate.{operationRep, decodedRep, decodedIn, sizesOk, gateOf, whoOf}
 use Rattle.gate.proofs.Tests.{begin-gate-by}
 use Rattle.announcing.specs.declared.Outcome.{Outcome}
-use Rattle.totals.specs.Rows.{addedTo}
+use Rattle.worker.specs.declared.Sum.{Sum}
+use Rattle.totals.specs.Rows.{sumWith}
 use Rattle.step.specs.declared.Next.{Next}
 use Rattle.step.specs.declared.Next.the-variants.{Taken, Mark}
 use Rattle.announcing.specs.Announcing.{outcomeOf}
@@ -215,11 +216,12 @@ module _ (up : Bool) (m : Memory) (r : Record.Decoded) where
     pass-ends (At t) = tt
 
     -- what a total answers
-    signed-ends : (plus minus : ℕ) → StillEnds (outcomeOf Idle (x .announced) (m .hub .clock) (m .hub .free) (signedOf plus minus))
+    signed-ends : (y : Sum) → StillEnds (outcomeOf Idle (x .announced) (m .hub .clock) (m .hub .free) (signedOf y))
     unfolding nextIn takenIn
-    signed-ends plus minus =
-        cond-both (λ (y : Answer). StillEnds (outcomeOf Idle (x .announced) (m .hub .clock) (m .hub .free) y)) (leb minus plus)
-        (Value (record { count = plus - minus })) (Below (record { count = minus - plus })) (λ q. tt) (λ q. tt)
+    signed-ends y =
+        cond-both (λ (a : Answer). StillEnds (outcomeOf Idle (x .announced) (m .hub .clock) (m .hub .free) a)) (leb (y .minus) (y .plus))
+        (Value (record { count = y .plus - y .minus; status = y .status })) (Below (record { count = y .minus - y .plus; status = y .status }))
+        (λ q. tt) (λ q. tt)
 
     -- what a get or a read answers
     shown-ends : (v : Content) (m′ : Memory) → EndsWell (answerTo v) m′
@@ -232,11 +234,9 @@ module _ (up : Bool) (m : Memory) (r : Record.Decoded) where
     unfolding nextIn takenIn totalFoundOf occurrences
     found-ends e Single v q = shown-ends v _
     found-ends e (Marked i) v q = shown-ends v _
-    found-ends e (Totaling g i plus minus) v q =
-        let adds = eqb (signOf (rowAt (rowsKept (m .hub)) i)) 0 in
-        cond-both StillEnds (leb (countWord v) twelveDigits) _ _
-        (λ f. cond-both StillEnds (goesOn (rowsKept (m .hub)) g i) _ _ (λ n. tt)
-        (λ n. signed-ends (addedTo plus (cond adds (countWord v) 0)) (addedTo minus (cond adds 0 (countWord v)))))
+    found-ends e (Totaling g i y) v q =
+        cond-both StillEnds (leb (countOf (contentOf v)) twelveDigits) _ _
+        (λ f. cond-both StillEnds (goesOn (rowsKept (m .hub)) g i) _ _ (λ n. tt) (λ n. signed-ends (sumWith y (rowAt (rowsKept (m .hub)) i) v)))
         (λ f. sets-idle 18 e (omega arith) q)
 
     -- by the worker's place

@@ -18,13 +18,13 @@ use Rattle.model.specs.Totals.{firstOf}
 use Rattle.model.specs.Record as Record
 use Rattle.model.specs.Apply as Begin
 use Rattle.model.proofs.Totals.{first-within}
-use Rattle.model.specs.Apply.{Terms, terms, namedBelow, groupThere, valueWithin, mayOpen, mayUseTime}
+use Rattle.model.specs.Apply.{Terms, terms, namedBelow, groupThere, valueWithin, statusKnown, mayOpen, mayUseTime}
 use Rattle.worker.specs.declared.Announced.the-variants as Announced
 use Rattle.worker.specs.declared.Named.{Named}
 use Rattle.worker.specs.declared.Named.the-variants.{Nothing, Is}
 use Rattle.worker.specs.declared.Stance.{Stance}
 use Rattle.worker.specs.declared.Stance.the-variants.{Nowhere, StandsOn}
-use Rattle.worker.specs.Rep.{announcedRep, goalRep, doingRep}
+use Rattle.worker.specs.Rep.{announcedRep, readingRep, goalRep, doingRep}
 use Rattle.worker.specs.About.{aboutOf}
 use Rattle.rights.specs.declared.Needed.{Needed}
 use Rattle.rights.specs.Needs.{neededIn}
@@ -35,7 +35,7 @@ use Rattle.gate.specs.declared.Putting.the-variants as Putting
 use Rattle.gate.specs.declared.Terms as Code
 use Rattle.marks.specs.declared.MarkNeed.{MarkNeed}
 use Rattle.marks.specs.declared.MarkNeed.the-variants as Need
-use Rattle.gate.specs.Gate.{operationRep, termsOf, markOf, namedOk, groupOk, valueOk, hasTime, openOk, timeOk}
+use Rattle.gate.specs.Gate.{operationRep, termsOf, markOf, namedOk, groupOk, valueOk, statusOk, hasTime, openOk, timeOk}
 
 abbrev pub stanceRep : Place.Stance → Stance
 stanceRep Place.Nowhere = Nowhere
@@ -65,9 +65,9 @@ abbrev pub namedRep : Option ℕ → Named
 namedRep none = Nothing
 namedRep (some r) = Is r
 
-abbrev pub valueRep : Option ℕ → Putting
+abbrev pub valueRep : Option Model.Reading → Putting
 valueRep none = Putting.Nothing
-valueRep (some x) = Putting.Value x
+valueRep (some x) = Putting.Value (readingRep x)
 
 abbrev pub needRep : Begin.TimeNeed → TimeNeed
 needRep Begin.AnyTime = Any
@@ -147,9 +147,13 @@ pub same-names : (x : Option ℕ) (y : Mark.MarkNeed) (v : ℕ)
 same-names x y v = λ i. same-named x v i && same-mark y markCount i
 
 -- the code's limit is that of the rules in force
-pub same-value : (list : List ℕ) (x : Option ℕ) → valueOk (valueRep x) ≡ valueWithin (inForce list .limit) x
+pub same-value : (list : List ℕ) (x : Option Model.Reading) → valueOk (valueRep x) ≡ valueWithin (inForce list .limit) x
 same-value list none = refl
 same-value list (some x) = refl
+
+pub same-status : (x : Option Model.Reading) → statusOk (valueRep x) ≡ statusKnown x
+same-status none = refl
+same-status (some x) = refl
 
 has-time : (t : ℕ) → hasTime (announcedRep t) ≡ ltb t absent
 has-time t = go (ltb t absent)

@@ -19,7 +19,7 @@ use Rattle.model.specs.Rules.{inForce}
 use Rattle.model.specs.Answer.{Ok, Stepped, Applied}
 use Rattle.model.specs.Record as Record
 use Rattle.model.specs.Steps.{stepAt}
-use Rattle.model.specs.Apply.{refuse, Terms, terms, namedBelow, groupThere, valueWithin, isIdle, mayOpen, mayUseTime, setUp, refusedBy}
+use Rattle.model.specs.Apply.{refuse, Terms, terms, namedBelow, groupThere, valueWithin, statusKnown, isIdle, mayOpen, mayUseTime, setUp, refusedBy}
 use Rattle.model.specs.Apply.{begin, step, obey, applyDecoded}
 use Rattle.model.proofs.Basic.{and-both}
 use Rattle.model.proofs.View.{idle-is}
@@ -33,12 +33,12 @@ use Rattle.worker.specs.About.{aboutOf}
 use Rattle.gate.specs.declared.Terms as Code
 use Rattle.gate.specs.declared.Gate.{Gate}
 use Rattle.gate.specs.declared.Gate.the-variants.{Refuse, Make, Start, Go}
-use Rattle.gate.specs.Gate.{operationRep, decodedRep, termsOf, markOf, namedOk, groupOk, valueOk, openOk, timeOk, beginGate, gateOf, whoOf}
+use Rattle.gate.specs.Gate.{operationRep, decodedRep, termsOf, markOf, namedOk, groupOk, valueOk, statusOk, openOk, timeOk, beginGate, gateOf, whoOf}
 use Rattle.marks.specs.Marks.{refusalIn}
 use Rattle.simulation.specs.Memory.{readOf, hubRep}
 use Rattle.simulation.specs.Shell.{rowsKept, marksRead}
 use Rattle.simulation.proofs.Laws.{worker-in}
-use Rattle.simulation.proofs.Facts.{same-facts, termsRep, same-terms, same-right, same-names, same-group, same-value, same-open, same-use}
+use Rattle.simulation.proofs.Facts.{same-facts, termsRep, same-terms, same-right, same-names, same-group, same-value, same-status, same-open, same-use}
 use Rattle.simulation.proofs.Sound.{Sound}
 use Rattle.simulation.proofs.Marks.{numberOf, UnreadIn, refusal-same, Numbered, numbered}
 
@@ -129,6 +129,7 @@ module _ (s : Store) (S : Sound s) (k : Hub) (list : List ℕ) where
       (namedBelow (s .site .V') (a .register) && namedBelow markCount (Mark.markOf (a .mark))) _ _ _ _ (same-names (a .register) (a .mark) (s .site .V'))
       (λ r. both M (groupOk (z .row) rows) (groupThere rows (a .group)) _ _ _ _ (same-group rows (a .group))
       (λ g. both M (valueOk (z .value)) (valueWithin (inForce list .limit) (a .value)) _ _ _ _ (same-value list (a .value))
+      (λ v. both M (statusOk (z .value)) (statusKnown (a .value)) _ _ _ _ (same-status (a .value))
       (λ k. both M (allowed table (s .site .V') w (neededIn (z .right) rows)) (allowed table (s .site .V') w (a .right)) _ _ _ _
       (ap (allowed table (s .site .V') w) (same-right rows o))
       (λ p. both M (aboutOf (x w .doing) .idle) (isIdle (y .doing))
@@ -140,6 +141,7 @@ module _ (s : Store) (S : Sound s) (k : Hub) (list : List ℕ) where
       (λ u. by-mark (markRefusal s (a .mark)) refl
       (refusal-same s S (a .mark) (unread-in (a .mark) (and-both (namedBelow (s .site .V') (a .register)) _ r .1)))
       (numbered s (a .mark)) (ltb-true w (s .site .P) i) (idle-is (y .doing) e))
+      (λ n. refl))
       (λ n. refl))
       (λ n. refl))
       (λ n. refl))
@@ -179,6 +181,7 @@ module _ (s : Store) (S : Sound s) (k : Hub) (list : List ℕ) where
           (cond (namedOk (q .register) (s .site .V') && namedOk (markOf (q .mark)) markCount)
           (cond (groupOk (q .row) rows)
           (cond (valueOk (q .value))
+          (cond (statusOk (q .value))
           (cond (allowed table (s .site .V') w (neededIn (q .right) rows))
           (cond (aboutOf (x w .doing) .idle)
           (cond (openOk (q .time) (x w .announced))
@@ -188,6 +191,7 @@ module _ (s : Store) (S : Sound s) (k : Hub) (list : List ℕ) where
           (Refuse 12))
           (Refuse 10))
           (Refuse 23))
+          (Refuse 25))
           (Refuse 16))
           (Refuse 17))
           (Refuse 4))

@@ -9,7 +9,7 @@ use native.Mathlib.Omega.{arith}
 use lib.Dec.{ltb, leb, eqb, lit<}
 use lib.ListN.{length, getD}
 use Rattle.model.specs.Store as Model
-use Rattle.model.specs.Store.{Store, Range, blank, up, lastClock, workerAt, slotAt, newestOf}
+use Rattle.model.specs.Store.{Store, Range, blank, up, lastClock, workerAt, slotAt, newestOf, countOf}
 use Rattle.model.specs.Rules.{twelveDigits, inForce}
 use Rattle.model.specs.Totals.{goesOn, Sum}
 use Rattle.model.specs.Answer.{Answer, Ok, Going, Freed, At, Value, None, Below, Done, No, Stepped, Applied}
@@ -81,7 +81,7 @@ module _ (s : Store) (S : Sound s) (w : ℕ) (below : w < s .site .P) where
   found-ranged Model.Single x = shown-ranged x
   found-ranged (Model.Marked m) x = shown-ranged x
   found-ranged (Model.Totaling g i y) x =
-      cond-both RangedStep (leb (Model.countOf x) twelveDigits) _ _
+      cond-both RangedStep (leb (countOf x) twelveDigits) _ _
       (λ e. cond-both RangedStep (goesOn (s .site .rows) g i) _ _ (λ f. tt)
       (λ f. signed-ranged _))
       (λ e. lit< tt)

@@ -11,12 +11,13 @@ use lib.ListN.{length}
 use lib.Seq.{getD-set-same}
 use borrow.Author.Tests.{leb-true, le-leb, ne-eqb}
 use Rattle.model.specs.Store as Model
-use Rattle.model.specs.Store.{Store, startWorker, workerAt, slotAt, newestOf, withDoing, place}
+use Rattle.model.specs.Store.{Store, startWorker, workerAt, slotAt, newestOf, withDoing, place, countOf}
 use Rattle.model.specs.Answer as Model·Answer
 use Rattle.model.specs.Versions.{stampSlots, stamp}
 use Rattle.model.specs.Steps.{stepAt, stoppedBy, readEnter, readStand, getShow, answerFor, goalAt, signed, totalFound, found}
 use Rattle.model.specs.Marks.{markRefusal, needFor, timeFor}
-use Rattle.model.specs.Totals.{signOf, rowAt, goesOn, Sum, addRow}
+use Rattle.model.specs.Totals.{signOf, rowAt, goesOn, Sum}
+use Rattle.model.specs.Sums.{addRow}
 use Rattle.model.specs.Rules.{twelveDigits}
 use Rattle.model.specs.About.{about}
 use Rattle.model.specs.Reached.{TotalFits}
@@ -30,7 +31,7 @@ use Rattle.arrays.specs.Arrays.{short}
 use Rattle.versions.specs.Versions.{slotAtIn}
 use Rattle.worker.specs.declared.Doing as Code
 use Rattle.worker.specs.declared.Doing.the-variants.{ReadStand}
-use Rattle.worker.specs.Rep.{announcedRep, goalRep}
+use Rattle.worker.specs.Rep.{announcedRep, sumRep, goalRep}
 use Rattle.marks.specs.declared.MarkNeed as Need
 use Rattle.marks.specs.Marks.{refusalIn, timeIn}
 use Rattle.totals.specs.Rows.{addedTo}
@@ -46,7 +47,7 @@ use Rattle.simulation.proofs.Simulates.{Simulates}
 use Rattle.simulation.proofs.Laid.{slots-is, rows-is, place-at, among}
 use Rattle.simulation.proofs.Found.{stepFound, short-is, slot-is, newest-is, newest-short, stamp-row, time-is}
 use Rattle.simulation.proofs.Marks.{numberOf, refusal-same, Numbered, numbered, need-same, need-unread, time-same}
-use Rattle.simulation.proofs.Contents.{answer-same, adds-same}
+use Rattle.simulation.proofs.Contents.{answer-same, content-is}
 use Rattle.simulation.proofs.Kept.{kept-sim}
 
 module _ (s : Store) (m : Memory) (w : ℕ) (S : Sound s) (Z : Sized m) (laid : m ≡ write s m) (wb : w < s .site .P) where
@@ -93,12 +94,15 @@ module _ (s : Store) (m : Memory) (w : ℕ) (S : Sound s) (Z : Sized m) (laid : 
       (answerTo (contentRep (slotAt s n .value))) (rw shown) (stamp-row s m S laid r h) (rw (answer-same (slotAt s n .value))) refl refl
 
 -- the code's answer with the sums of a total is the model's
-signed-is : (y : Sum) → answerOf (signedOf (y .plus) (y .minus)) ≡ signed y
+signed-is : (y : Sum) → answerOf (signedOf (sumRep y)) ≡ signed y
 unfolding signed
 signed-is y = go (leb (y .minus) (y .plus))
   where
-    go : (t : Bool) → answerOf (cond t (Value (record { count = y .plus - y .minus })) (Below (record { count = y .minus - y .plus })))
-        ≡ cond t (Model·Answer.Value (record { count = y .plus - y .minus })) (Model·Answer.Below (record { count = y .minus - y .plus }))
+    go : (t : Bool)
+        → answerOf
+        (cond t (Value (record { count = y .plus - y .minus; status = y .status })) (Below (record { count = y .minus - y .plus; status = y .status })))
+        ≡ cond t (Model·Answer.Value (record { count = y .plus - y .minus; status = y .status }))
+        (Model·Answer.Below (record { count = y .minus - y .plus; status = y .status }))
     go true = refl
     go false = refl
 
@@ -164,8 +168,11 @@ module _ (s : Store) (m : Memory) (w : ℕ) (g : Model.Goal) (c : ℕ)
 
     -- a total adds it
     module _ (j i : ℕ) (y : Sum) (q : g .purpose ≡ Model.Totaling j i y) where
+      abbrev v : Model.Content
+      v = slotAt s c .value
+
       abbrev x : ℕ
-      x = Model.countOf (slotAt s c .value)
+      x = countOf v
 
       abbrev row : ℕ
       row = rowAt rows i
@@ -177,7 +184,7 @@ module _ (s : Store) (m : Memory) (w : ℕ) (g : Model.Goal) (c : ℕ)
           (All-at (λ (k : Model.Worker). TotalFits rows (about (k .doing) .purpose)) (s .workers) w startWorker (among s S w wb) (S .bounds .totals)))
 
       abbrev more : Sum
-      more = addRow y row x
+      more = addRow y row v
 
       -- no sum goes beyond its bound
       added : (a u : ℕ) → a ≤ 31 * twelveDigits → u ≤ twelveDigits → addedTo a u ≡ a + u
@@ -197,7 +204,8 @@ module _ (s : Store) (m : Memory) (w : ℕ) (g : Model.Goal) (c : ℕ)
       over-sim : leb x twelveDigits ≡ false → Simulates s m w d
       unfolding stepAt readStand found totalFound totalFoundOf handWords
       over-sim f =
-          kept-sim s m w d S Z laid wb e Model.Idle t (s .clock) (s .slots) (No 18) (looked ∙ rw (z, q, adds-same (slotAt s c .value), f)) (slots-is s m laid) (rw (z, q, f)) refl refl
+          kept-sim s m w d S Z laid wb e Model.Idle t (s .clock) (s .slots) (No 18)
+          (looked ∙ rw (z, q, content-is v, f)) (slots-is s m laid) (rw (z, q, f)) refl refl
 
       module _ (f : leb x twelveDigits ≡ true) where
         small : x ≤ twelveDigits
@@ -206,15 +214,15 @@ module _ (s : Store) (m : Memory) (w : ℕ) (g : Model.Goal) (c : ℕ)
         last-sim : goesOn rows j i ≡ false → Simulates s m w d
         unfolding stepAt readStand found totalFound totalFoundOf handWords
         last-sim n =
-            kept-sim s m w d S Z laid wb e Model.Idle t (s .clock) (s .slots) (signedOf (more .plus) (more .minus))
-            (looked ∙ rw (z, q, adds-same (slotAt s c .value), f, n, plus-is small, minus-is small)) (slots-is s m laid) (rw (z, q, f, n, signed-is more)) refl refl
+            kept-sim s m w d S Z laid wb e Model.Idle t (s .clock) (s .slots) (signedOf (sumRep more))
+            (looked ∙ rw (z, q, content-is v, f, n, plus-is small, minus-is small)) (slots-is s m laid) (rw (z, q, f, n, signed-is more)) refl refl
 
         next-sim : goesOn rows j i ≡ true → Simulates s m w d
         unfolding stepAt readStand found totalFound totalFoundOf handWords
         next-sim n =
             let short : (i + 1) % 65536 ≡ i + 1 = mod-eq-of-lt (omega (arith, fits .0, S .bounds .rows .1)) in
             kept-sim s m w d S Z laid wb e (Model.ReadEnter (goalAt rows j (i + 1) more)) t (s .clock) (s .slots) Going
-            (looked ∙ rw (z, q, adds-same (slotAt s c .value), f, n, plus-is small, minus-is small, short)) (slots-is s m laid) (rw (z, q, f, n)) refl refl
+            (looked ∙ rw (z, q, content-is v, f, n, plus-is small, minus-is small, short)) (slots-is s m laid) (rw (z, q, f, n)) refl refl
 
       total-sim : Simulates s m w d
       total-sim = by (leb x twelveDigits) refl (goesOn rows j i) refl

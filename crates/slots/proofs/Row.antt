@@ -45,5 +45,5 @@ abbrev pub Shared : Lft → ℕ → ℕ → ℕ → GName → List Slot → Fml
 Shared = Shr T.the-row
 
 -- the place of a slot in the row fits a machine word
-pub place-fits : (i n : ℕ) → i < n → Room T.the-row n → i * 48 < 2 ^ 64
+pub place-fits : (i n : ℕ) → i < n → Room T.the-row n → i * 56 < 2 ^ 64
 place-fits i n l room = omega (arith, room .1)

@@ -1,48 +1,42 @@
--- What a total leaves that found a value, put together from what the calls in its code ensure, by rewriting with those equations. In each law w is
--- the row's number as an index, up and down are the sums with the value, and o is the outcome.
+-- What a total leaves that found something, put together from what the calls in its code ensure, by rewriting with those equations. In each law w is
+-- the row's number as an index, more are the sums with what was found, and o is the outcome.
 use mathlib.Core.Path.{_≡_}
-use mathlib.Core.Bool.{Bool, true, false, cond}
+use mathlib.Core.Bool.{Bool, true, false}
 use mathlib.Core.List.{List}
 use Prim.Native.Nat.{ℕ, _+_}
-use lib.Dec.{eqb, leb}
+use lib.Dec.{leb}
 use Rattle.model.specs.Rules.{twelveDigits}
-use Rattle.model.specs.Totals.{signOf, rowAt, goesOn}
+use Rattle.model.specs.Totals.{rowAt, goesOn}
+use Rattle.model.specs.Store.{countOf}
+use Rattle.values.specs.declared.Content.{Content}
+use Rattle.values.specs.Meaning.{contentOf}
 use Rattle.values.specs.declared.Answer.{Answer}
 use Rattle.values.specs.declared.Answer.the-variants.{Going, No}
 use Rattle.worker.specs.declared.Announced.{Announced}
+use Rattle.worker.specs.declared.Sum.{Sum}
 use Rattle.worker.specs.declared.Goal.{Goal}
 use Rattle.worker.specs.declared.Doing.the-variants.{Idle, ReadEnter}
-use Rattle.totals.specs.Rows.{goalIn, addedTo}
+use Rattle.totals.specs.Rows.{goalIn, sumWith}
 use Rattle.announcing.specs.declared.Outcome.{Outcome}
 use Rattle.announcing.specs.Announcing.{outcomeOf}
 use Rattle.step.specs.Step.{signedOf, totalFoundOf}
 
--- the sums with the value x of row i
-pub record Summed (rows : List ℕ) (i plus minus x up down : ℕ) : Type 0 where
-  pub added : up ≡ addedTo plus (cond (eqb (signOf (rowAt rows i)) 0) x 0)
-  pub subtracted : down ≡ addedTo minus (cond (eqb (signOf (rowAt rows i)) 0) 0 x)
-
-pub summed : (rows : List ℕ) (i plus minus x : ℕ) {w row a b up down : ℕ} {adds : Bool} → w ≡ i → row ≡ rowAt rows w
-    → adds ≡ eqb (signOf row) 0 → a ≡ cond adds x 0 → up ≡ addedTo plus a → b ≡ cond adds 0 x → down ≡ addedTo minus b
-    → Summed rows i plus minus x up down
-summed rows i plus minus x ew er es ea eu eb ed = record { added = rw (eu, ea, es, er, ew); subtracted = rw (ed, eb, es, er, ew) }
-
 -- refusal 18
-pub total-refused : (g i plus minus x : ℕ) (rows : List ℕ) {t : Announced} {k n : ℕ} {o : Outcome}
-    → leb x twelveDigits ≡ false → o ≡ outcomeOf Idle t k n (No 18) → o ≡ totalFoundOf g i plus minus x t k n rows
+pub total-refused : (g i : ℕ) (sum : Sum) (x : Content) (rows : List ℕ) {t : Announced} {k n : ℕ} {o : Outcome}
+    → leb (countOf (contentOf x)) twelveDigits ≡ false → o ≡ outcomeOf Idle t k n (No 18) → o ≡ totalFoundOf g i sum x t k n rows
 unfolding totalFoundOf
-total-refused g i plus minus x rows many eo = rw (many, eo)
+total-refused g i sum x rows many eo = rw (many, eo)
 
 -- the next row of the group
-pub total-next : (i plus minus x : ℕ) (rows : List ℕ) {g up down w : ℕ} {more : Bool} {goal : Goal} {t : Announced} {k n : ℕ} {o : Outcome}
-    → leb x twelveDigits ≡ true → Summed rows i plus minus x up down → more ≡ goesOn rows g i → more ≡ true → w ≡ i
-    → goal ≡ goalIn rows g (w + 1) up down → o ≡ outcomeOf (ReadEnter goal) t k n Going → o ≡ totalFoundOf g i plus minus x t k n rows
+pub total-next : (i : ℕ) (sum : Sum) (x : Content) (rows : List ℕ) {g w : ℕ} {more : Sum} {on : Bool} {goal : Goal} {t : Announced} {k n : ℕ} {o : Outcome}
+    → leb (countOf (contentOf x)) twelveDigits ≡ true → more ≡ sumWith sum (rowAt rows i) x → on ≡ goesOn rows g i → on ≡ true → w ≡ i
+    → goal ≡ goalIn rows g (w + 1) more → o ≡ outcomeOf (ReadEnter goal) t k n Going → o ≡ totalFoundOf g i sum x t k n rows
 unfolding totalFoundOf
-total-next i plus minus x rows few s em on ew eg eo = rw (eo, eg, ew, s .added, s .subtracted, few, ← em, on)
+total-next i sum x rows few es em on ew eg eo = rw (eo, eg, ew, es, few, ← em, on)
 
 -- behind the last row the answer
-pub total-answered : (g i plus minus x : ℕ) (rows : List ℕ) {up down : ℕ} {more : Bool} {y : Answer} {t : Announced} {k n : ℕ} {o : Outcome}
-    → leb x twelveDigits ≡ true → Summed rows i plus minus x up down → more ≡ goesOn rows g i → more ≡ false
-    → y ≡ signedOf up down → o ≡ outcomeOf Idle t k n y → o ≡ totalFoundOf g i plus minus x t k n rows
+pub total-answered : (g i : ℕ) (sum : Sum) (x : Content) (rows : List ℕ) {more : Sum} {on : Bool} {y : Answer} {t : Announced} {k n : ℕ} {o : Outcome}
+    → leb (countOf (contentOf x)) twelveDigits ≡ true → more ≡ sumWith sum (rowAt rows i) x → on ≡ goesOn rows g i → on ≡ false
+    → y ≡ signedOf more → o ≡ outcomeOf Idle t k n y → o ≡ totalFoundOf g i sum x t k n rows
 unfolding totalFoundOf
-total-answered g i plus minus x rows few s em off ey eo = rw (eo, ey, s .added, s .subtracted, few, ← em, off)
+total-answered g i sum x rows few es em off ey eo = rw (eo, ey, es, few, ← em, off)

@@ -7,23 +7,25 @@ use mathlib.Core.List.{List}
 use Prim.Native.Nat.{ℕ, _+_, _-_}
 use lib.Dec.{ltb, leb, eqb}
 use lib.ListN.{getD, set}
-use Rattle.model.specs.Store.{absent}
+use Rattle.model.specs.Store.{absent, countOf}
 use Rattle.model.specs.Rules.{twelveDigits}
-use Rattle.model.specs.Totals.{signOf, rowAt, goesOn}
+use Rattle.model.specs.Totals.{rowAt, goesOn}
 use Rattle.values.specs.declared.Reading.{Reading}
 use Rattle.values.specs.declared.Content.{Content}
 use Rattle.values.specs.declared.Content.the-variants.{NoReading, Of}
 use Rattle.values.specs.declared.Answer.{Answer}
 use Rattle.values.specs.declared.Answer.the-variants.{Going, Value, None, Below, Done, No}
+use Rattle.values.specs.Meaning.{contentOf}
 use Rattle.slots.specs.declared.Slot.{Slot}
 use Rattle.arrays.specs.Arrays.{short}
-use Rattle.versions.specs.Versions.{countWord, slotAtIn, stampedIn, linkedIn}
+use Rattle.versions.specs.Versions.{slotAtIn, stampedIn, linkedIn}
 use Rattle.worker.specs.declared.Announced.{Announced}
 use Rattle.worker.specs.declared.Doing.{Doing}
 use Rattle.worker.specs.declared.Doing.the-variants.{Idle, PutPublish, PutStamp, PutHandIn, FlushTake, FlushRead, FlushFree, OnTime}
 use Rattle.worker.specs.declared.Doing.the-variants.{ReadEnter, ReadStand, GetShow}
 use Rattle.worker.specs.declared.TimeStep.{TimeStep}
 use Rattle.worker.specs.declared.TimeStep.the-variants.{OpenAnnounce, OpenPass, CloseWithdraw, MarkKeep, MarkRelease}
+use Rattle.worker.specs.declared.Sum.{Sum}
 use Rattle.worker.specs.declared.Purpose.{Purpose}
 use Rattle.worker.specs.declared.Purpose.the-variants.{Single, Marked, Totaling}
 use Rattle.worker.specs.declared.Goal.{Goal}
@@ -31,7 +33,7 @@ use Rattle.worker.specs.Rep.{timeOf}
 use Rattle.marks.specs.declared.MarkNeed.{MarkNeed}
 use Rattle.marks.specs.declared.MarkNeed.the-variants.{Nothing, Empty, Held, Unread}
 use Rattle.marks.specs.Marks.{refusalIn, timeIn}
-use Rattle.totals.specs.Rows.{goalIn, addedTo}
+use Rattle.totals.specs.Rows.{goalIn, sumWith}
 use Rattle.announcing.specs.declared.Outcome.{Outcome}
 use Rattle.announcing.specs.Announcing.{outcomeOf, openAnnounceStep, openPassStep, closeWithdrawStep}
 use Rattle.step.specs.declared.Next.{Next}
@@ -92,7 +94,7 @@ stopped j t k n = outcomeOf Idle t k n (No j)
 abbrev pub needOf : Purpose → MarkNeed
 needOf Single = Nothing
 needOf (Marked m) = Held m
-needOf (Totaling g i plus minus) = Nothing
+needOf (Totaling g i sum) = Nothing
 
 -- Read (1) H5.36: the register is stamped, and the read stands on its newest version. H13.7: 20 where the mark that it reads is empty.
 unfoldable pub readEnterStep : Goal → Announced → ℕ → ℕ → List Slot → List ℕ → List ℕ → List ℕ → Stepped
@@ -107,31 +109,31 @@ readEnterStep g t k n l newest marks reading =
     })
     (stillAt (stopped j t k n) l newest)
 
--- H12.8: what a total answers with the sums of all its rows: what was added less what was subtracted
-abbrev pub signedOf : ℕ → ℕ → Answer
-signedOf plus minus = cond (leb minus plus) (Value (record { count = plus - minus })) (Below (record { count = minus - plus }))
+-- H12.8, H16.6: what a total answers with the sums of all its rows: what was added less what was subtracted, and the largest status
+abbrev pub signedOf : Sum → Answer
+signedOf y =
+    cond (leb (y .minus) (y .plus)) (Value (record { count = y .plus - y .minus; status = y .status }))
+    (Below (record { count = y .minus - y .plus; status = y .status }))
 
--- H12.6: a total found the value x for row i. H12.9: refusal 18 where x has more than twelve digits. H12.7: the next row of the group is read as
--- this one was; behind the last one the sum is the answer.
-unfoldable pub totalFoundOf : ℕ → ℕ → ℕ → ℕ → ℕ → Announced → ℕ → ℕ → List ℕ → Outcome
-totalFoundOf g i plus minus x t k n rows =
-    let adds = eqb (signOf (rowAt rows i)) 0 in
-    let plus′ = addedTo plus (cond adds x 0) in
-    let minus′ = addedTo minus (cond adds 0 x) in
-    let next = outcomeOf (ReadEnter (goalIn rows g (i + 1) plus′ minus′)) t k n Going in
-    let last = outcomeOf Idle t k n (signedOf plus′ minus′) in
-    cond (leb x twelveDigits) (cond (goesOn rows g i) next last) (outcomeOf Idle t k n (No 18))
+-- H12.6: a total found x for row i. H12.9: refusal 18 where it has more than twelve digits. H12.7: the next row of the group is read as this one was;
+-- behind the last one the sum is the answer.
+unfoldable pub totalFoundOf : ℕ → ℕ → Sum → Content → Announced → ℕ → ℕ → List ℕ → Outcome
+totalFoundOf g i sum x t k n rows =
+    let more = sumWith sum (rowAt rows i) x in
+    let next = outcomeOf (ReadEnter (goalIn rows g (i + 1) more)) t k n Going in
+    let last = outcomeOf Idle t k n (signedOf more) in
+    cond (leb (countOf (contentOf x)) twelveDigits) (cond (goesOn rows g i) next last) (outcomeOf Idle t k n (No 18))
 
 -- H10.3: what a get or a read answers that found this
 abbrev pub answerTo : Content → Answer
 answerTo NoReading = None
 answerTo (Of x) = Value x
 
--- what follows where the version that the time needs holds x. H12.6: a total adds its count, and 0 where there is no reading.
+-- what follows where the version that the time needs holds x
 abbrev pub foundOf : Purpose → Content → Announced → ℕ → ℕ → List ℕ → Outcome
 foundOf Single x t k n rows = outcomeOf Idle t k n (answerTo x)
 foundOf (Marked m) x t k n rows = outcomeOf Idle t k n (answerTo x)
-foundOf (Totaling g i plus minus) x t k n rows = totalFoundOf g i plus minus (countWord x) t k n rows
+foundOf (Totaling g i sum) x t k n rows = totalFoundOf g i sum x t k n rows
 
 -- Read (2) H5.37, H13.5: with a low that is at most the worker's time, or the mark's, the value there is found, which is a read's answer; else the
 -- read goes to the older neighbour.

@@ -1,9 +1,8 @@
 // One step of a worker: the place is taken apart once, here. Steps on slots, on the clock and on the announced time are done at once; put (3)
 // and flush (1) to (4), which move pools, times and readers, and the change of a mark, are named for the caller.
 ghost use mathlib.Core.Path.{_≡_};
-ghost use mathlib.Core.Bool.{cond};
 ghost use lib.ListN.{take};
-ghost use Rattle.versions.specs.Versions.{countWord, rowOf};
+ghost use Rattle.versions.specs.Versions.{rowOf};
 ghost use Rattle.step.specs.Step.{newestAt, nextFree, putPublishStep, putStampStep, needOf, readEnterStep, signedOf, totalFoundOf};
 ghost use Rattle.step.specs.Step.{answerTo, foundOf, readStandStep, getShowStep, markOrStop, timeStepOf, readOrSplit, freeOrDone, stepOf};
 use announcing::Outcome;
@@ -15,6 +14,7 @@ use worker::Announced;
 use worker::Doing;
 use worker::Goal;
 use worker::Purpose;
+use worker::Sum;
 use worker::TimeStep;
 
 // A step that is taken, or one that is still to do: put (3) of a covered version; flush (1); (2), of a merged list with so many times read, and
@@ -124,8 +124,7 @@ fn need_for(x: Purpose) -> MarkNeed
         Purpose::Totaling {
             group: _,
             row: _,
-            plus: _,
-            minus: _,
+            sum: _,
         } => MarkNeed::Nothing,
     }
 }
@@ -160,54 +159,40 @@ fn read_enter<'a>(
 }
 
 // What a total answers with the sums of all its rows.
-fn signed(plus: u64, minus: u64) -> Answer
-    ensures { λ r. ⌜ r ≡ signedOf plus minus ⌝ }
+fn signed(sum: Sum) -> Answer
+    ensures { λ r. ⌜ r ≡ signedOf sum ⌝ }
 {
-    if minus <= plus {
-        return Answer::Value(Reading {
-            count: plus - minus,
-        });
+    let status = sum.status;
+    if sum.minus <= sum.plus {
+        let count = sum.plus - sum.minus;
+        return Answer::Value(Reading { count, status });
     }
-    Answer::Below(Reading {
-        count: minus - plus,
-    })
+    let count = sum.minus - sum.plus;
+    Answer::Below(Reading { count, status })
 }
 
-// The first number, or else the second.
-fn either(first: bool, x: u64, y: u64) -> u64
-    ensures { λ r. ⌜ r ≡ cond first x y ⌝ }
-{
-    if first {
-        return x;
-    }
-    y
-}
-
-// A total that found the value x for row i.
+// A total that found x for row i.
 fn total_found(
     group: u16,
     i: u16,
-    plus: u64,
-    minus: u64,
-    x: u64,
+    sum: Sum,
+    x: Content,
     t: Announced,
     clock: u32,
     n: usize,
     rows: &[u32; 1024],
     listed: usize,
 ) -> Outcome
-    ensures { λ r. ⌜ r ≡ totalFoundOf group i plus minus x t clock n (take listed (now (rows .entry))) ⌝ }
+    ensures { λ r. ⌜ r ≡ totalFoundOf group i sum x t clock n (take listed (now (rows .entry))) ⌝ }
 {
-    if x <= 999999999999 {
-        let adds = totals::is_plus(totals::row_at(rows, listed, wide(i)));
-        let up = totals::added(plus, either(adds, x, 0));
-        let down = totals::added(minus, either(adds, 0, x));
+    if totals::count_of(x) <= 999999999999 {
+        let more = totals::sum_with(sum, totals::row_at(rows, listed, wide(i)), x);
         if totals::goes_on(rows, listed, group, i) {
-            let goal = totals::goal_at(rows, listed, group, wide(i) + 1, up, down);
+            let goal = totals::goal_at(rows, listed, group, wide(i) + 1, more);
             let place = Doing::ReadEnter { goal };
             return announcing::outcome_of(place, t, clock, n, Answer::Going);
         }
-        let answer = signed(up, down);
+        let answer = signed(more);
         return announcing::outcome_of(Doing::Idle, t, clock, n, answer);
     }
     announcing::outcome_of(Doing::Idle, t, clock, n, Answer::No(18))
@@ -220,16 +205,6 @@ fn answer_for(x: Content) -> Answer
     match x {
         Content::NoReading => Answer::None,
         Content::Of(reading) => Answer::Value(reading),
-    }
-}
-
-// What a total adds for x.
-fn count_of(x: Content) -> u64
-    ensures { λ r. ⌜ r ≡ countWord x ⌝ }
-{
-    match x {
-        Content::NoReading => 0,
-        Content::Of(reading) => reading.count,
     }
 }
 
@@ -248,23 +223,9 @@ fn found(
     match purpose {
         Purpose::Single => announcing::outcome_of(Doing::Idle, t, clock, n, answer_for(x)),
         Purpose::Marked(_) => announcing::outcome_of(Doing::Idle, t, clock, n, answer_for(x)),
-        Purpose::Totaling {
-            group,
-            row,
-            plus,
-            minus,
-        } => total_found(
-            group,
-            row,
-            plus,
-            minus,
-            count_of(x),
-            t,
-            clock,
-            n,
-            rows,
-            listed,
-        ),
+        Purpose::Totaling { group, row, sum } => {
+            total_found(group, row, sum, x, t, clock, n, rows, listed)
+        }
     }
 }
 

@@ -1,15 +1,19 @@
 // The list of totals (H12): the list that comes with a setup, the rows that a hub keeps, of which the first n count, and sums over them.
 ghost use mathlib.Core.Path.{_≡_};
-ghost use mathlib.Core.Bool.{_&&_};
-ghost use Prim.Native.Nat.{_≤_};
+ghost use mathlib.Core.Bool.{cond, _&&_};
+ghost use Prim.Native.Nat.{_≤_, max};
 ghost use lib.Dec.{ltb, leb, eqb};
 ghost use lib.ListN.{length, take};
 ghost use Rattle.lists.specs.Over.{over};
 ghost use Rattle.model.specs.Totals.{groupOf, signOf, registerOf, rowFits, before, firstOf, rowAt, goesOn};
 ghost use Rattle.model.specs.Record.{rowsOf, listFits};
-ghost use Rattle.totals.specs.Rows.{goalIn, addedTo};
+ghost use Rattle.model.specs.Store.{countOf, statusOf};
+ghost use Rattle.values.specs.Meaning.{contentOf};
+ghost use Rattle.totals.specs.Rows.{noSum, goalIn, addedTo, sumWith};
+use values::Content;
 use worker::Goal;
 use worker::Purpose;
+use worker::Sum;
 
 // ---- a row
 
@@ -20,7 +24,7 @@ pub fn group_of(row: u32) -> u16
 }
 
 // Whether the row's register is added; else it is subtracted.
-pub fn is_plus(row: u32) -> bool
+fn is_plus(row: u32) -> bool
     ensures { λ r. ⌜ r ≡ eqb (signOf row) 0 ⌝ }
 {
     row / 256 % 256 == 0
@@ -136,26 +140,70 @@ pub fn goes_on(rows: &[u32; 1024], n: usize, group: u16, i: u16) -> bool
 }
 
 // A total of the group at row i, with the sums of the rows of its group before it.
-pub fn goal_at(rows: &[u32; 1024], n: usize, group: u16, i: usize, plus: u64, minus: u64) -> Goal
-    ensures { λ r. ⌜ r ≡ goalIn (take n (now (rows .entry))) group i plus minus ⌝ }
+pub fn goal_at(rows: &[u32; 1024], n: usize, group: u16, i: usize, sum: Sum) -> Goal
+    ensures { λ r. ⌜ r ≡ goalIn (take n (now (rows .entry))) group i sum ⌝ }
 {
     let register = register_of(row_at(rows, n, i));
     let row = (i % 65536) as u16;
     Goal {
         register,
-        purpose: Purpose::Totaling {
-            group,
-            row,
-            plus,
-            minus,
-        },
+        purpose: Purpose::Totaling { group, row, sum },
     }
 }
 
 // ---- sums
 
+// Nothing was read.
+pub fn no_sum() -> Sum
+    ensures { λ r. ⌜ r ≡ noSum ⌝ }
+{
+    Sum {
+        plus: 0,
+        minus: 0,
+        status: 0,
+    }
+}
+
+// What a total adds for what a version holds, and the status that it reads there: without a reading 0.
+pub fn count_of(x: Content) -> u64
+    ensures { λ r. ⌜ r ≡ countOf (contentOf x) ⌝ }
+{
+    match x {
+        Content::NoReading => 0,
+        Content::Of(reading) => reading.count,
+    }
+}
+
+fn status_of(x: Content) -> u8
+    ensures { λ r. ⌜ r ≡ statusOf (contentOf x) ⌝ }
+{
+    match x {
+        Content::NoReading => 0,
+        Content::Of(reading) => reading.status,
+    }
+}
+
+fn larger(a: u8, b: u8) -> u8
+    ensures { λ r. ⌜ r ≡ max a b ⌝ }
+{
+    if a < b {
+        return b;
+    }
+    a
+}
+
+// The first number, or else the second.
+fn either(first: bool, x: u64, y: u64) -> u64
+    ensures { λ r. ⌜ r ≡ cond first x y ⌝ }
+{
+    if first {
+        return x;
+    }
+    y
+}
+
 // A sum with one value more. No value of more than twelve digits is added, and nothing to a sum of more than 31 of them.
-pub fn added(sum: u64, x: u64) -> u64
+fn added(sum: u64, x: u64) -> u64
     ensures { λ r. ⌜ r ≡ addedTo sum x ⌝ }
 {
     if sum <= 30999999999969 {
@@ -164,4 +212,20 @@ pub fn added(sum: u64, x: u64) -> u64
         }
     }
     sum
+}
+
+// The sums with what the register of a row holds, by the row's sign.
+pub fn sum_with(sum: Sum, row: u32, x: Content) -> Sum
+    ensures { λ r. ⌜ r ≡ sumWith sum row x ⌝ }
+{
+    let adds = is_plus(row);
+    let count = count_of(x);
+    let plus = added(sum.plus, either(adds, count, 0));
+    let minus = added(sum.minus, either(adds, 0, count));
+    let status = larger(sum.status, status_of(x));
+    Sum {
+        plus,
+        minus,
+        status,
+    }
 }

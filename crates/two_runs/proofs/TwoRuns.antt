@@ -9,7 +9,7 @@ use mathlib.Core.Option.{Option, none, some}
 use Prim.Native.Nat.{ℕ, _+_, _<_}
 use lib.Dec.{ltb}
 use borrow.Author.Tests as Tests
-use Rattle.model.specs.Store.{absent, markCount, Slot, Doing, Worker, Store, Hub, up, workerAt, withSlots, withWorkers, place}
+use Rattle.model.specs.Store.{absent, lastStatus, markCount, Slot, Doing, Worker, Store, Hub, up, workerAt, withSlots, withWorkers, place}
 use Rattle.model.specs.About.{about}
 use Rattle.model.specs.Marks.{MarkNeed, markOf, markRefusal}
 use Rattle.model.specs.Rights.{allowed}
@@ -17,7 +17,7 @@ use Rattle.model.specs.Rules.{Rules, Ruled}
 use Rattle.model.specs.Answer.{Answer, Ok, Applied, said}
 use Rattle.model.specs.Steps.{stepAt}
 use Rattle.model.specs.Record.{Operation, Put, SetUp, Begin, Step, Decoded, Asks, Refuses, decode, rowsOf}
-use Rattle.model.specs.Apply.{refuse, unless, fresh, setUp, TimeNeed, Terms, terms, namedBelow, groupThere, valueWithin, mayOpen, mayUseTime, isIdle}
+use Rattle.model.specs.Apply.{refuse, unless, fresh, setUp, TimeNeed, Terms, terms, namedBelow, groupThere, valueWithin, statusKnown, mayOpen, mayUseTime, isIdle}
 use Rattle.model.specs.Apply.{refusedBy, begin, step, obey, applyDecoded, apply, applyRuled}
 use Rattle.model.specs.Demand.{events, Call, Unfinished, endFor, Plain, plain₀, observe, effects, stepEffects, changeEffects, endEffects}
 use Rattle.two_runs.specs.TwoRuns.{Pairwise, PutsAlike, Alike, looksAt, looksBy, withoutValue, placeWith, barePlace, bareWorker, bareSlot, bare}
@@ -72,6 +72,7 @@ module _ (r : ℕ) (s : Store) (l : List Slot) (ws : List Worker) (sl : map bare
   -- two operations begin on the same terms, but for the value that is put
   begin-like : (b : Bool) (rules : Rules) (w : ℕ) (c c′ : Operation)
       → (valueWithin (rules .limit) (terms (s .site .rows) c .value) ≡ valueWithin (rules .limit) (terms (s .site .rows) c′ .value))
+      → statusKnown (terms (s .site .rows) c .value) ≡ statusKnown (terms (s .site .rows) c′ .value)
       → terms (s .site .rows) c .register ≡ terms (s .site .rows) c′ .register
       → terms (s .site .rows) c .group ≡ terms (s .site .rows) c′ .group
       → terms (s .site .rows) c .right ≡ terms (s .site .rows) c′ .right
@@ -80,18 +81,19 @@ module _ (r : ℕ) (s : Store) (l : List Slot) (ws : List Worker) (sl : map bare
       → barePlace (terms (s .site .rows) c .first) ≡ barePlace (terms (s .site .rows) c′ .first)
       → Same b (begin rules s w c) (begin rules t w c′)
   unfolding begin
-  begin-like b rules w c c′ value register group right time mark first =
+  begin-like b rules w c c′ value status register group right time mark first =
       tested b 3 (ltb w (s .site .P)) (ltb w (s .site .P)) _ _ refl
       (tested b 4 _ _ _ _
       (ap (λ (i : Option ℕ). namedBelow (s .site .V') i && namedBelow markCount (markOf (terms (s .site .rows) c .mark))) register
       ∙ ap (λ (i : MarkNeed). namedBelow (s .site .V') (terms (s .site .rows) c′ .register) && namedBelow markCount (markOf i)) mark)
       (tested b 17 _ _ _ _ (ap (groupThere (s .site .rows)) group)
       (tested b 16 _ _ _ _ value
+      (tested b 25 _ _ _ _ status
       (tested b 23 _ _ _ _ (ap (allowed (s .site .table) (s .site .V') w) right)
       (tested b 10 _ _ _ _ (idles w)
       (tested b 12 _ _ _ _ (asks mayOpen)
       (tested b 13 _ _ _ _ (asks mayUseTime)
-      (by-mark b _ _ _ _ (refusal-like s l ws sl sw (terms (s .site .rows) c .mark) ∙ ap (markRefusal t) mark) begun))))))))
+      (by-mark b _ _ _ _ (refusal-like s l ws sl sw (terms (s .site .rows) c .mark) ∙ ap (markRefusal t) mark) begun)))))))))
     where
       begun : Same b (record { hub = up (place s w (terms (s .site .rows) c .first)); answer = Ok })
           (record { hub = up (place t w (terms (s .site .rows) c′ .first)); answer = Ok })
@@ -150,7 +152,7 @@ module _ (r : ℕ) (s : Store) (l : List Slot) (ws : List Worker) (sl : map bare
     same-command : (rules : Rules) (d : Decoded) → Same (looksBy r (up s) d) (applyDecoded rules (up s) d) (applyDecoded rules (up t) d)
     unfolding applyDecoded obey setUp
     same-command rules (Asks (SetUp z)) = refused false 9
-    same-command rules (Asks (Begin w c)) = begin-like false rules w c c refl refl refl refl refl refl refl
+    same-command rules (Asks (Begin w c)) = begin-like false rules w c c refl refl refl refl refl refl refl refl
     same-command rules (Asks (Step w)) = step-same w
     same-command rules (Refuses k) = refused false k
 
@@ -158,7 +160,8 @@ module _ (r : ℕ) (s : Store) (l : List Slot) (ws : List Worker) (sl : map bare
         → Same (looksBy r (up s) d) (applyDecoded rules (up s) d) (applyDecoded rules (up t) d′)
     unfolding applyDecoded obey
     puts-same rules d d′ u =
-        rw (u .puts, u .puts′) (begin-like false rules (u .worker) (Put r (u .first)) (Put r (u .second)) (u .allowed) refl refl refl refl refl refl)
+        rw (u .puts, u .puts′) (begin-like false rules (u .worker) (Put r (u .first)) (Put r (u .second)) (u .allowed)
+        (Tests.le-leb (u .first .status) lastStatus (u .known) ∙ sym (Tests.le-leb (u .second .status) lastStatus (u .known′))) refl refl refl refl refl refl)
 
     decoded-same : (rules : Rules) (d d′ : Decoded) → AlikeDecoded r rules d d′
         → Same (looksBy r (up s) d) (applyDecoded rules (up s) d) (applyDecoded rules (up t) d′)

@@ -43,17 +43,17 @@ like-set f l l′ i x x′ e u = map-set f l i x ∙ ap (λ q. set q i (f x)) e 
 
 -- the reading that a place is to store, and its sums; none are zero
 abbrev pub readingOf : Doing → Reading
-readingOf Idle = record { count = 0 }
+readingOf Idle = record { count = 0; status = 0 }
 readingOf (PutPublish q z) = z
-readingOf (PutStamp q c) = record { count = 0 }
-readingOf (PutHandIn q c) = record { count = 0 }
-readingOf FlushTake = record { count = 0 }
-readingOf (FlushRead m ts) = record { count = 0 }
-readingOf (FlushFree m) = record { count = 0 }
-readingOf (OnTime y) = record { count = 0 }
-readingOf (ReadEnter g) = record { count = 0 }
-readingOf (ReadStand g c) = record { count = 0 }
-readingOf (GetShow q) = record { count = 0 }
+readingOf (PutStamp q c) = record { count = 0; status = 0 }
+readingOf (PutHandIn q c) = record { count = 0; status = 0 }
+readingOf FlushTake = record { count = 0; status = 0 }
+readingOf (FlushRead m ts) = record { count = 0; status = 0 }
+readingOf (FlushFree m) = record { count = 0; status = 0 }
+readingOf (OnTime y) = record { count = 0; status = 0 }
+readingOf (ReadEnter g) = record { count = 0; status = 0 }
+readingOf (ReadStand g c) = record { count = 0; status = 0 }
+readingOf (GetShow q) = record { count = 0; status = 0 }
 
 abbrev pub sumFor : Purpose → Sum
 sumFor Single = sum₀
@@ -109,9 +109,9 @@ place-twice x x′ y y′ (GetShow q) = refl
 pub place-is : (d e : Doing) → barePlace d ≡ barePlace e → e ≡ placeWith (readingOf e) (sumOf e) d
 place-is d e u =
     sym (place-own e)
-    ∙ sym (place-twice (readingOf e) (record { count = 0 }) (sumOf e) sum₀ e)
+    ∙ sym (place-twice (readingOf e) (record { count = 0; status = 0 }) (sumOf e) sum₀ e)
     ∙ ap (placeWith (readingOf e) (sumOf e)) (sym u)
-    ∙ place-twice (readingOf e) (record { count = 0 }) (sumOf e) sum₀ d
+    ∙ place-twice (readingOf e) (record { count = 0; status = 0 }) (sumOf e) sum₀ d
 
 -- what is asked of a place does not see values
 pub stance-reads : (m : ℕ) (d : Doing) → reads m (about (barePlace d) .stance) ≡ reads m (about d .stance)

@@ -9,7 +9,7 @@ use Prim.Native.Nat.{ℕ, zero, suc, _≤_, _<_}
 use lib.Dec.{eqb}
 use lib.ListN.{getD}
 use borrow.Author.Tests as Tests
-use Rattle.model.specs.Store.{Reading, Content, countOf, Slot, slot₀, Worker, startWorker, Store, workerAt, slotAt}
+use Rattle.model.specs.Store.{Reading, Content, Slot, slot₀, Worker, startWorker, Store, workerAt, slotAt, countOf}
 use Rattle.model.specs.Rules.{twelveDigits}
 use Rattle.model.specs.About.{Effect, NoEffect, ByStamp, ByClock, about}
 use Rattle.model.specs.Answer.{Answer, Ok, Going, Freed, At, Value, None, Below, Done, No, said}

@@ -8,11 +8,12 @@ use mathlib.Core.Option.{Option, none, some}
 use Prim.Native.Nat.{ℕ, _+_}
 use lib.Dec.{ltb, leb, eqb}
 use lib.ListN.{length, set, drop}
-use Rattle.model.specs.Totals.{Sum, sum₀, rowAt, goesOn, addRow}
-use Rattle.model.specs.Store.{absent, lastClock, Reading, Content, countOf, Slot, Range, OpenAnnounce, OpenPass, CloseWithdraw, MarkKeep}
+use Rattle.model.specs.Totals.{Sum, sum₀, rowAt, goesOn}
+use Rattle.model.specs.Store.{absent, lastClock, Reading, Content, Slot, Range, OpenAnnounce, OpenPass, CloseWithdraw, MarkKeep, countOf}
 use Rattle.model.specs.Store.{MarkRelease, Purpose, Single, Marked, Totaling, Goal, Doing, Idle, PutPublish, PutStamp, PutHandIn, FlushTake}
 use Rattle.model.specs.Store.{FlushRead, FlushFree, OnTime, ReadEnter, ReadStand, GetShow, Worker, Store, workerAt, slotAt, newestOf, rangeOf}
 use Rattle.model.specs.Store.{withClock, withSlots, withNewest, withFree, withQueue, withWorkers, withMarks, withWorker, withDoing, place}
+use Rattle.model.specs.Sums.{addRow}
 use Rattle.model.specs.Marks.{EmptyMark, UnreadMark, markRefusal, needFor, timeFor}
 use Rattle.model.specs.Rules.{twelveDigits}
 use Rattle.model.specs.Answer.{Answer, Going, Freed, At, None, Done, No, Stepped}
@@ -245,17 +246,17 @@ module _ (b : Bool) (s : Store) (l : List Slot) (ws : List Worker) (sl : map bar
   shows-like x x′ e =
       record { stores = goes Idle Idle refl; answers = unseen-answer x ∙ sym (unseen-answer x′); equal = λ u. ap answerFor (e u) }
 
-  total-like : (g i : ℕ) (z z′ : Sum) (x x′ : ℕ) → leb x twelveDigits ≡ leb x′ twelveDigits → (b ≡ false → (x ≡ x′) × (z′ ≡ z))
+  total-like : (g i : ℕ) (z z′ : Sum) (x x′ : Content) → leb (countOf x) twelveDigits ≡ leb (countOf x′) twelveDigits → (b ≡ false → (x ≡ x′) × (z′ ≡ z))
       → Like b (totalFound s w g i z x) (totalFound t w g i z′ x′)
   unfolding totalFound
   total-like g i z z′ x x′ e f =
-      cond-two (Like b) (leb x twelveDigits) (leb x′ twelveDigits) _ _ _ _ e
+      cond-two (Like b) (leb (countOf x) twelveDigits) (leb (countOf x′) twelveDigits) _ _ _ _ e
       (λ u. cond-two (Like b) (goesOn (s .site .rows) g i) _ _ _ _ _ refl
       (λ v. exact (goes _ _ refl) refl)
       (record {
         stores = goes Idle Idle refl;
         answers = unseen-signed _ ∙ sym (unseen-signed _);
-        equal = λ v. ap (λ (k : ℕ). signed (addRow z (rowAt (s .site .rows) i) k)) (f v .0)
+        equal = λ v. ap (λ (k : Content). signed (addRow z (rowAt (s .site .rows) i) k)) (f v .0)
             ∙ ap (λ (k : Sum). signed (addRow k (rowAt (s .site .rows) i) x′)) (sym (f v .1));
       }))
       (exact (goes Idle Idle refl) refl)
@@ -266,7 +267,7 @@ module _ (b : Bool) (s : Store) (l : List Slot) (ws : List Worker) (sl : map bar
   found-like y Single x x′ e f = shows-like x x′ (λ v. f v .0)
   found-like y (Marked m) x x′ e f = shows-like x x′ (λ v. f v .0)
   found-like y (Totaling g i z) x x′ e f =
-      total-like g i z y (countOf x) (countOf x′) e (λ v. (ap countOf (f v .0), ap sumFor (f v .1)))
+      total-like g i z y x x′ e (λ v. (f v .0, ap sumFor (f v .1)))
 
   pub time-like : (y : Sum) (u : Purpose) → timeFor (s .marks) (workerAt s w .announced) u ≡ timeFor (t .marks) (workerAt t w .announced) (purposeWith y u)
   time-like y Single = announced-like s l ws sl sw w

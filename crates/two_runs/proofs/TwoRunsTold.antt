@@ -12,10 +12,11 @@ use native.Mathlib.Omega.{arith}
 use lib.Dec.{leb, eqb}
 use lib.ListN.{length, take}
 use borrow.Author.Tests as Tests
-use Rattle.model.specs.Totals.{Sum, groupOf, registerOf, rowAt, ofGroup, addRow}
-use Rattle.model.specs.Store.{Reading, Content, countOf, Slot, Purpose, Single, Marked, Totaling, Goal, Doing, Idle, PutPublish, PutStamp}
+use Rattle.model.specs.Totals.{Sum, groupOf, registerOf, rowAt, ofGroup}
+use Rattle.model.specs.Store.{Reading, Content, Slot, Purpose, Single, Marked, Totaling, Goal, Doing, Idle, PutPublish, PutStamp, countOf}
 use Rattle.model.specs.Store.{PutHandIn, FlushTake, FlushRead, FlushFree, OnTime, ReadEnter, ReadStand, GetShow, Worker, Store, workerAt, slotAt}
 use Rattle.model.specs.Store.{newestOf, withSlots, withWorkers}
+use Rattle.model.specs.Sums.{addRow}
 use Rattle.model.specs.Marks.{timeFor}
 use Rattle.model.specs.Rules.{twelveDigits}
 use Rattle.model.specs.Versions.{stamp, stampSlots}
@@ -71,8 +72,8 @@ unfolding sumOver names
 sum-like r f f′ e [] n = refl
 sum-like r f f′ e (x ∷ l) n =
     let u = or-false _ _ n in
-    ap (λ (y : Sum). addRow y x (countOf (f (registerOf x)))) (sum-like r f f′ e l (u .1))
-    ∙ ap (λ (y : Content). addRow (sumOver f′ l) x (countOf y)) (e (registerOf x) (u .0))
+    ap (λ (y : Sum). addRow y x (f (registerOf x))) (sum-like r f f′ e l (u .1))
+    ∙ ap (λ (y : Content). addRow (sumOver f′ l) x y) (e (registerOf x) (u .0))
 
 ------------------------------------------------------------------------
 -- Contents

@@ -1,4 +1,4 @@
--- Two runs that differ only in values put to one register: what each of them answers, and what their hubs have in common. Proved in
+-- Two runs that differ only in readings put to one register, in their values and statuses: what each of them answers, and what their hubs have in common. Proved in
 -- proofs/TwoRuns.antt, and for one worker in proofs/TwoRunsWorker.antt.
 --
 -- A value put to register r reaches nobody but the workers that look at r: those whose operation is a get, a read or a marked read of r, or a total
@@ -12,7 +12,7 @@ use mathlib.Core.Option.{none, some}
 use Prim.Native.Nat.{ℕ, _≤_}
 use lib.Dec.{eqb}
 use Rattle.model.specs.Totals.{registerOf, ofGroup, Sum, sum₀}
-use Rattle.model.specs.Store.{Reading, Slot, Range, TimeStep, Purpose, Single, Marked, Totaling, Goal, Doing, Idle, PutPublish, PutStamp}
+use Rattle.model.specs.Store.{Reading, lastStatus, Slot, Range, TimeStep, Purpose, Single, Marked, Totaling, Goal, Doing, Idle, PutPublish, PutStamp}
 use Rattle.model.specs.Store.{PutHandIn, FlushTake, FlushRead, FlushFree, OnTime, ReadEnter, ReadStand, GetShow, Worker, Store, Lent, Hub, blank, up}
 use Rattle.model.specs.Store.{workerAt, withSlots, withWorkers, withDoing}
 use Rattle.model.specs.Rights.{ToRead, mayOn}
@@ -33,8 +33,8 @@ Pairwise R (x ∷ l) (y ∷ m) = R x y × Pairwise R l m
 ------------------------------------------------------------------------
 -- Records that differ in a value put to register r
 
--- Both begin a put of the same worker to register r, of a value of at most twelve digits each (H7.9). The rules under which they are handed in
--- allow both values or neither, as those of docs/HUB.md and of document 01 do: they allow every value of twelve digits.
+-- Both begin a put of the same worker to register r, of a value of at most twelve digits each (H7.9) with any status that there is (H16.1). The rules
+-- under which they are handed in allow both values or neither, as those of docs/HUB.md and of document 01 do: they allow every value of twelve digits.
 pub record PutsAlike (r : ℕ) (rules : Rules) (d d′ : Decoded) : Type 0 where
   pub worker : ℕ
   pub first : Reading
@@ -43,7 +43,9 @@ pub record PutsAlike (r : ℕ) (rules : Rules) (d d′ : Decoded) : Type 0 where
   pub puts′ : d′ ≡ Asks (Begin worker (Put r second))
   pub few : first .count ≤ twelveDigits
   pub few′ : second .count ≤ twelveDigits
-  pub allowed : valueWithin (rules .limit) (some (first .count)) ≡ valueWithin (rules .limit) (some (second .count))
+  pub known : first .status ≤ lastStatus
+  pub known′ : second .status ≤ lastStatus
+  pub allowed : valueWithin (rules .limit) (some first) ≡ valueWithin (rules .limit) (some second)
 
 -- records under the same rules, of the same bytes or with such puts
 pub record Alike (r : ℕ) (b b′ : Ruled) : Type 0 where
@@ -89,7 +91,7 @@ looksBy r (up s) (Refuses k) = false
 ------------------------------------------------------------------------
 -- Answers and hubs but for values
 
--- an answer without the value that it tells: value, none and below zero are one
+-- an answer without the reading that it tells, value and status: value, none and below zero are one
 abbrev pub withoutValue : Answer → Answer
 withoutValue Ok = Ok
 withoutValue Going = Going
@@ -126,7 +128,7 @@ placeWith x y (GetShow q) = GetShow q
 
 -- a place, a worker's record, a slot and a store without values: no reading to store, no sums, no reading in any slot
 abbrev pub barePlace : Doing → Doing
-barePlace d = placeWith (record { count = 0 }) sum₀ d
+barePlace d = placeWith (record { count = 0; status = 0 }) sum₀ d
 
 abbrev pub bareWorker : Worker → Worker
 bareWorker x = withDoing x (barePlace (x .doing))

@@ -51,6 +51,8 @@ alike r e e′ D =
             puts′ = u .puts′;
             few = u .few;
             few′ = u .few′;
+            known = u .known;
+            known′ = u .known′;
             allowed = le-leb (u .first .count) twelveDigits (u .few) ∙ sym (le-leb (u .second .count) twelveDigits (u .few′));
           }))
           (D .bytes);

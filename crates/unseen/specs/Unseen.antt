@@ -4,7 +4,7 @@ use mathlib.Core.Path.{_≡_}
 use mathlib.Core.Logic.{_⊎_}
 use mathlib.Core.List.{List}
 use Prim.Native.Nat.{ℕ, _≤_}
-use Rattle.model.specs.Store.{Reading}
+use Rattle.model.specs.Store.{Reading, lastStatus}
 use Rattle.model.specs.Rules.{twelveDigits}
 use Rattle.model.specs.Record.{Put, Begin, Decoded, Asks, decode}
 use Rattle.model.specs.Demand.{Exchange}
@@ -14,7 +14,8 @@ use Rattle.simulation.specs.Memory.{Memory}
 use Rattle.simulation.specs.Holds.{Decided}
 use Rattle.simulation.specs.Demands.{CallIn, Calls, exchanges}
 
--- What differs: both records begin a put of the same worker to register r, each of a value of at most twelve digits (H7.9).
+-- What differs: both records begin a put of the same worker to register r, each of a value of at most twelve digits (H7.9) with any status that there
+-- is (H16.1).
 pub record OtherValue (r : ℕ) (d d′ : Decoded) : Type 0 where
   pub worker : ℕ
   pub first : Reading
@@ -23,6 +24,8 @@ pub record OtherValue (r : ℕ) (d d′ : Decoded) : Type 0 where
   pub puts′ : d′ ≡ Asks (Begin worker (Put r second))
   pub few : first .count ≤ twelveDigits
   pub few′ : second .count ≤ twelveDigits
+  pub known : first .status ≤ lastStatus
+  pub known′ : second .status ≤ lastStatus
 
 -- Else the records are the same, and the same list of totals is lent.
 pub record Differ (r : ℕ) (e e′ : Exchange) : Type 0 where

@@ -9,7 +9,7 @@ use Rattle.values.specs.declared.Answer.{Answer}
 use Rattle.values.specs.declared.Answer.the-variants.{Ok, Going, Freed, At, Value, None, Below, Done, No}
 
 abbrev pub readingOf : Reading → Model.Reading
-readingOf x = record { count = x .count }
+readingOf x = record { count = x .count; status = x .status }
 
 -- what a version holds, and the same as the code has it
 abbrev pub contentOf : Content → Model.Content
@@ -18,7 +18,7 @@ contentOf (Of x) = some (readingOf x)
 
 abbrev pub contentRep : Model.Content → Content
 contentRep none = NoReading
-contentRep (some x) = Of (record { count = x .count })
+contentRep (some x) = Of (record { count = x .count; status = x .status })
 
 -- a slot, a time, a reading, or the number of the refusal
 abbrev pub answerOf : Answer → Model·Answer.Answer

@@ -1,8 +1,9 @@
 // The values that the crates hand to each other.
 
-// A reading: a count of watt-hours.
+// A reading: a count of watt-hours and its status, 0 read, 1 estimated, 2 corrected.
 pub struct Reading {
     pub count: u64,
+    pub status: u8,
 }
 
 // What a version holds: no reading, where it is from setup, or the one that a put brought.

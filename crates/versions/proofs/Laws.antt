@@ -1,16 +1,16 @@
 -- Laws of a row of words as the slots that it means: what is loaded and stored, a turn of the setup, and the neighbours of slots past the
 -- end.
-use mathlib.Core.Path.{_≡_, refl, sym, ap, ap₂, _∙_}
+use mathlib.Core.Path.{_≡_, refl, sym, ap, ap₂, _∙_, subst}
 use mathlib.Core.Bool.{Bool, true, false, _&&_}
 use mathlib.Core.List.{List, [], _∷_}
-use Prim.Native.Nat.{ℕ, zero, suc, _≤_, _<_, _+_, _-_, min}
-use native.Mathlib.Nat.{add-zero, add-suc}
+use Prim.Native.Nat.{ℕ, zero, suc, _≤_, _<_, _+_, _-_, _%_, min}
+use native.Mathlib.Nat.{add-zero, add-suc, mod-eq-of-lt}
 use native.Mathlib.Numerals.{add-one}
 use native.Mathlib.Omega.{arith}
 use lib.Dec.{leb}
 use lib.ListN.{length, getD, set, length-map, List·getD-map, List·getD-eq-default}
 use lib.Seq.{set-out}
-use borrow.Author.Tests.{leb-true, leb-false, lt-ltb}
+use borrow.Author.Tests.{leb-true, leb-false, lt-ltb, ne-eqb}
 use Rattle.values.specs.declared.Content.{Content}
 use Rattle.values.specs.declared.Content.the-variants.{NoReading, Of}
 use Rattle.slots.specs.declared.Slot.{Slot}
@@ -33,17 +33,19 @@ row-set (y ∷ l) zero x = refl
 row-set (y ∷ l) (suc i) x = ap (λ (z : List Slot). slotIn y ∷ z) (row-set l i x)
 
 -- the two words of what a version holds mean that
-content-words : (c : Content) → contentIn (countWord c) (heldWord c) ≡ c
-content-words NoReading = refl
-content-words (Of x) = refl
+content-words : (c : Content) → heldWord c ≤ 256 → contentIn (countWord c) (heldWord c) ≡ c
+content-words NoReading h = refl
+content-words (Of x) h =
+    rw (ne-eqb (x .status + 1) 0 (omega arith))
+    (ap (λ (k : ℕ). Of (record { count = x .count; status = k })) (ap (λ (k : ℕ). k % 256) (omega arith) ∙ mod-eq-of-lt (omega (arith, h))))
 
 -- the words of a slot, stored
-pub row-stored : (l : List (List ℕ)) (i : ℕ) (s : Slot) (x k : ℕ) → x ≡ countWord (s .value) → k ≡ heldWord (s .value)
+pub row-stored : (l : List (List ℕ)) (i : ℕ) (s : Slot) (x k : ℕ) → x ≡ countWord (s .value) → (k ≡ heldWord (s .value)) × (k ≤ 256)
     → rowOf (set l i (x ∷ s .low ∷ s .high ∷ s .older ∷ s .newer ∷ k ∷ [])) ≡ set (rowOf l) i s
 row-stored l i s x k e f =
     row-set l i (x ∷ s .low ∷ s .high ∷ s .older ∷ s .newer ∷ k ∷ [])
     ∙ ap (λ (c : Content). set (rowOf l) i (record { value = c; low = s .low; high = s .high; older = s .older; newer = s .newer }))
-    (ap₂ contentIn e f ∙ content-words (s .value))
+    (ap₂ contentIn e (f .0) ∙ content-words (s .value) (subst (λ (j : ℕ). j ≤ 256) (f .0) (f .1)))
 
 pub row-out : (l : List (List ℕ)) (i : ℕ) (s : Slot) → length l ≤ i → rowOf l ≡ set (rowOf l) i s
 row-out l i s h = sym (set-out (rowOf l) i s (rw (length-map l slotIn) h))

@@ -2,7 +2,7 @@
 -- words mean.
 use mathlib.Core.Bool.{cond}
 use mathlib.Core.List.{List, map}
-use Prim.Native.Nat.{ℕ}
+use Prim.Native.Nat.{ℕ, _+_, _-_, _%_}
 use lib.Dec.{eqb}
 use lib.ListN.{getD, set}
 use Rattle.model.specs.Store.{absent}
@@ -15,20 +15,20 @@ use Rattle.slots.specs.Slots.{vacantSlot}
 ------------------------------------------------------------------------
 -- Words
 
--- what a version holds, of the word that has its count and the word that is 0 where there is no reading
+-- what a version holds, of the word that has its count and the word that has its status plus one, 0 where there is no reading
 abbrev pub contentIn : ℕ → ℕ → Content
-contentIn x k = cond (eqb k 0) NoReading (Of (record { count = x }))
+contentIn x k = cond (eqb k 0) NoReading (Of (record { count = x; status = (k - 1) % 256 }))
 
--- the two words of what a version holds: its count, and 0 where there is no reading; whether there is one
+-- the two words of what a version holds: its count, and its status plus one; both 0 where there is no reading
 abbrev pub countWord : Content → ℕ
 countWord NoReading = 0
 countWord (Of x) = x .count
 
 abbrev pub heldWord : Content → ℕ
 heldWord NoReading = 0
-heldWord (Of x) = 1
+heldWord (Of x) = x .status + 1
 
--- H1.7: the count, low and high time, older and newer neighbour, and whether there is a reading
+-- H1.7, H16.1: the count, low and high time, older and newer neighbour, and the status
 abbrev pub slotIn : List ℕ → Slot
 slotIn l = record { value = contentIn (getD l 0 0) (getD l 5 0); low = getD l 1 0; high = getD l 2 0; older = getD l 3 0; newer = getD l 4 0 }
 

@@ -1,7 +1,7 @@
 // The version slots as one lent row of words, six a slot: what stands in a slot, the test of neighbours and a setup. The words are the
-// count of its reading, low, high, older, newer, and one that is 0 where there is no reading.
+// count of its reading, low, high, older, newer, and the status of its reading plus one, which is 0 where there is none.
 ghost use mathlib.Core.Path.{_≡_};
-ghost use Prim.Native.Nat.{min};
+ghost use Prim.Native.Nat.{_≤_, min};
 ghost use lib.ListN.{set, getD};
 ghost use Rattle.slots.specs.Slots.{vacantSlot, linkedTo, madeTo};
 ghost use Rattle.versions.specs.Versions.{rowOf, contentIn, countWord, heldWord};
@@ -16,7 +16,8 @@ fn content(x: u64, held: u64) -> Content
     if held == 0 {
         return Content::NoReading;
     }
-    Content::Of(Reading { count: x })
+    let status = ((held - 1) % 256) as u8;
+    Content::Of(Reading { count: x, status })
 }
 
 // The two words of what a version holds.
@@ -29,12 +30,18 @@ fn count(c: Content) -> u64
     }
 }
 
+fn wide(x: u8) -> u64
+    ensures { λ r. ⌜ (r ≡ x) × (r ≤ 255) ⌝ }
+{
+    x as u64
+}
+
 fn held(c: Content) -> u64
-    ensures { λ r. ⌜ r ≡ heldWord c ⌝ }
+    ensures { λ r. ⌜ (r ≡ heldWord c) × (r ≤ 256) ⌝ }
 {
     match c {
         Content::NoReading => 0,
-        Content::Of(_) => 1,
+        Content::Of(x) => wide(x.status) + 1,
     }
 }
 

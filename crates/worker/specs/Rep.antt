@@ -5,6 +5,7 @@ use Prim.Native.Nat.{ℕ}
 use lib.Dec.{ltb}
 use lib.ListN.{length, replicate}
 use Rattle.lists.specs.Over.{over}
+use Rattle.model.specs.Totals.{Sum as Model·Sum}
 use Rattle.model.specs.Store as Model
 use Rattle.model.specs.Store.{Range, absent}
 use Rattle.model.specs.About.{Hand, Empty, Covered, Merged, Needless, about}
@@ -28,6 +29,7 @@ use Rattle.worker.specs.declared.Doing.the-variants.{
 }
 use Rattle.worker.specs.declared.TimeStep.{TimeStep}
 use Rattle.worker.specs.declared.TimeStep.the-variants.{OpenAnnounce, OpenPass, CloseWithdraw, MarkKeep, MarkRelease}
+use Rattle.worker.specs.declared.Sum.{Sum}
 use Rattle.worker.specs.declared.Purpose.{Purpose}
 use Rattle.worker.specs.declared.Purpose.the-variants.{Single, Marked, Totaling}
 use Rattle.worker.specs.declared.Goal.{Goal}
@@ -57,7 +59,7 @@ timeOf Nothing = absent
 timeOf (At a) = a
 
 abbrev pub readingRep : Model.Reading → Reading
-readingRep x = record { count = x .count }
+readingRep x = record { count = x .count; status = x .status }
 
 abbrev pub timeStepRep : Model.TimeStep → TimeStep
 timeStepRep Model.OpenAnnounce = OpenAnnounce
@@ -66,10 +68,13 @@ timeStepRep Model.CloseWithdraw = CloseWithdraw
 timeStepRep (Model.MarkKeep m) = MarkKeep m
 timeStepRep (Model.MarkRelease m) = MarkRelease m
 
+abbrev pub sumRep : Model·Sum → Sum
+sumRep y = record { plus = y .plus; minus = y .minus; status = y .status }
+
 abbrev pub purposeRep : Model.Purpose → Purpose
 purposeRep Model.Single = Single
 purposeRep (Model.Marked m) = Marked m
-purposeRep (Model.Totaling g i y) = Totaling g i (y .plus) (y .minus)
+purposeRep (Model.Totaling g i y) = Totaling g i (sumRep y)
 
 abbrev pub goalRep : Model.Goal → Goal
 goalRep g = record { register = g .register; purpose = purposeRep (g .purpose) }

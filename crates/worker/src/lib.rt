@@ -36,17 +36,19 @@ pub enum TimeStep {
     MarkRelease(u16),
 }
 
+// The sums of a total: what was added, what was subtracted, and the largest status that was read.
+pub struct Sum {
+    pub plus: u64,
+    pub minus: u64,
+    pub status: u8,
+}
+
 // What a value is read for: it is the answer, as of the worker's time; or as of a mark's (H13.5); or it goes into a total: the group, the index
 // of the row in the list, and the sums of the rows before it.
 pub enum Purpose {
     Single,
     Marked(u16),
-    Totaling {
-        group: u16,
-        row: u16,
-        plus: u64,
-        minus: u64,
-    },
+    Totaling { group: u16, row: u16, sum: Sum },
 }
 
 // What a read, a marked read or a total is at: the register that it reads, and what for.
@@ -176,8 +178,7 @@ fn mark_read(x: Purpose) -> Named
         Purpose::Totaling {
             group: _,
             row: _,
-            plus: _,
-            minus: _,
+            sum: _,
         } => Named::Nothing,
     }
 }

@@ -14,24 +14,26 @@ use borrow.Author.Needs.{needs}
 use Rattle.gate.proofs.begin.Statement.{statement}
 use Rattle.gate.proofs.begin.Tie as tie
 
--- the decision from what the tests gave: the worker is below p, its register and its mark are known, its group is there, its value fits, it has
--- the right, it is idle, it may open, it may use its time, and the refusal that its mark meets
-abbrev decided : ℕ → Doing → Bool → Bool → Bool → Bool → Bool → Bool → Bool → Bool → ℕ → Gate
-decided w d below known there fits may idle opens uses k =
+-- the decision from what the tests gave: the worker is below p, its register and its mark are known, its group is there, its value fits, its status
+-- is known, it has the right, it is idle, it may open, it may use its time, and the refusal that its mark meets
+abbrev decided : ℕ → Doing → Bool → Bool → Bool → Bool → Bool → Bool → Bool → Bool → Bool → ℕ → Gate
+decided w d below known there fits status may idle opens uses k =
     cond below
     (cond known
     (cond there
     (cond fits
+    (cond status
     (cond may
     (cond idle (cond opens (cond uses (cond (eqb k 0) (Start w d) (Refuse k)) (Refuse 13)) (Refuse 12)) (Refuse 10))
     (Refuse 23))
+    (Refuse 25))
     (Refuse 16))
     (Refuse 17))
     (Refuse 4))
     (Refuse 3)
 
 tests : (c : tie.After-refusal)
-    → let fits = c .before .before .before .before .before in
+    → let fits = c .before .before .before .before .before .before in
     let there = fits .before in
     let known = there .before .before .before in
     let x = known .before .before .terms-of .result in
@@ -43,6 +45,7 @@ tests : (c : tie.After-refusal)
     (known .named-ok .result && there .before .named-ok2 .result)
     (there .group-ok .result)
     (fits .value-ok .result)
+    (c .before .before .before .before .before .status-ok .result)
     (c .before .before .before .before .is-allowed .result)
     (c .before .before .before .about .result .idle)
     (c .before .before .open-ok .result)
@@ -50,7 +53,7 @@ tests : (c : tie.After-refusal)
     (c .refusal .result)
 unfolding beginGate
 tests c =
-    let fits = c .before .before .before .before .before in
+    let fits = c .before .before .before .before .before .before in
     let there = fits .before in
     let known = there .before .before .before in
     rw (
@@ -62,6 +65,7 @@ tests c =
       ← there .before .named-ok2 .ensures,
       ← there .group-ok .ensures,
       ← fits .value-ok .ensures,
+      ← c .before .before .before .before .before .status-ok .ensures,
       ← c .before .before .before .about .ensures,
       ← c .before .before .open-ok .ensures,
       ← c .before .time-ok .ensures,
@@ -89,6 +93,9 @@ group-ok-requires c κs = search needs
 value-ok-requires : tie.Need-value-ok-requires
 value-ok-requires c κs = search needs
 
+status-ok-requires : tie.Need-status-ok-requires
+status-ok-requires c κs = search needs
+
 is-allowed-requires : tie.Need-is-allowed-requires
 is-allowed-requires c κs = search needs
 
@@ -110,7 +117,8 @@ returns c =
     let opens = uses .before in
     let idle = opens .before in
     let may = idle .before in
-    let fits = may .before in
+    let status = may .before in
+    let fits = status .before in
     let there = fits .before in
     let known = there .before in
     let below = known .before in
@@ -120,11 +128,12 @@ returns c =
       known .if2 .taken,
       there .if3 .taken,
       fits .if4 .taken,
-      may .if5 .taken,
-      idle .if6 .taken,
-      opens .if7 .taken,
-      uses .if8 .taken,
-      eq-eqb _ _ (c .if9 .taken),
+      status .if5 .taken,
+      may .if6 .taken,
+      idle .if7 .taken,
+      opens .if8 .taken,
+      uses .if9 .taken,
+      eq-eqb _ _ (c .if10 .taken),
     )
 
 returns-2 : tie.Need-returns-2
@@ -133,7 +142,8 @@ returns-2 c =
     let opens = uses .before in
     let idle = opens .before in
     let may = idle .before in
-    let fits = may .before in
+    let status = may .before in
+    let fits = status .before in
     let there = fits .before in
     let known = there .before in
     let below = known .before in
@@ -143,11 +153,12 @@ returns-2 c =
       known .if2 .taken,
       there .if3 .taken,
       fits .if4 .taken,
-      may .if5 .taken,
-      idle .if6 .taken,
-      opens .if7 .taken,
-      uses .if8 .taken,
-      ne-eqb _ _ (c .if9 .left),
+      status .if5 .taken,
+      may .if6 .taken,
+      idle .if7 .taken,
+      opens .if8 .taken,
+      uses .if9 .taken,
+      ne-eqb _ _ (c .if10 .left),
     )
 
 returns-3 : tie.Need-returns-3
@@ -155,7 +166,8 @@ returns-3 c =
     let opens = c .before in
     let idle = opens .before in
     let may = idle .before in
-    let fits = may .before in
+    let status = may .before in
+    let fits = status .before in
     let there = fits .before in
     let known = there .before in
     let below = known .before in
@@ -165,17 +177,19 @@ returns-3 c =
       known .if2 .taken,
       there .if3 .taken,
       fits .if4 .taken,
-      may .if5 .taken,
-      idle .if6 .taken,
-      opens .if7 .taken,
-      c .if8 .left,
+      status .if5 .taken,
+      may .if6 .taken,
+      idle .if7 .taken,
+      opens .if8 .taken,
+      c .if9 .left,
     )
 
 returns-4 : tie.Need-returns-4
 returns-4 c =
     let idle = c .before in
     let may = idle .before in
-    let fits = may .before in
+    let status = may .before in
+    let fits = status .before in
     let there = fits .before in
     let known = there .before in
     let below = known .before in
@@ -185,15 +199,17 @@ returns-4 c =
       known .if2 .taken,
       there .if3 .taken,
       fits .if4 .taken,
-      may .if5 .taken,
-      idle .if6 .taken,
-      c .if7 .left,
+      status .if5 .taken,
+      may .if6 .taken,
+      idle .if7 .taken,
+      c .if8 .left,
     )
 
 returns-5 : tie.Need-returns-5
 returns-5 c =
     let may = c .before in
-    let fits = may .before in
+    let status = may .before in
+    let fits = status .before in
     let there = fits .before in
     let known = there .before in
     let below = known .before in
@@ -203,12 +219,30 @@ returns-5 c =
       known .if2 .taken,
       there .if3 .taken,
       fits .if4 .taken,
-      may .if5 .taken,
-      c .if6 .left,
+      status .if5 .taken,
+      may .if6 .taken,
+      c .if7 .left,
     )
 
 returns-6 : tie.Need-returns-6
 returns-6 c =
+    let status = c .before in
+    let fits = status .before in
+    let there = fits .before in
+    let known = there .before in
+    let below = known .before in
+    rw (
+      tests (below .before),
+      below .if1 .taken,
+      known .if2 .taken,
+      there .if3 .taken,
+      fits .if4 .taken,
+      status .if5 .taken,
+      c .if6 .left,
+    )
+
+returns-7 : tie.Need-returns-7
+returns-7 c =
     let fits = c .before in
     let there = fits .before in
     let known = there .before in
@@ -222,8 +256,8 @@ returns-6 c =
       c .if5 .left,
     )
 
-returns-7 : tie.Need-returns-7
-returns-7 c =
+returns-8 : tie.Need-returns-8
+returns-8 c =
     let there = c .before in
     let known = there .before in
     let below = known .before in
@@ -235,8 +269,8 @@ returns-7 c =
       c .if4 .left,
     )
 
-returns-8 : tie.Need-returns-8
-returns-8 c =
+returns-9 : tie.Need-returns-9
+returns-9 c =
     let known = c .before in
     let below = known .before in
     rw (
@@ -246,8 +280,8 @@ returns-8 c =
       c .if3 .left,
     )
 
-returns-9 : tie.Need-returns-9
-returns-9 c =
+returns-10 : tie.Need-returns-10
+returns-10 c =
     let below = c .before in
     rw (
       tests (below .before),
@@ -255,8 +289,8 @@ returns-9 c =
       c .if2 .left,
     )
 
-returns-10 : tie.Need-returns-10
-returns-10 c =
+returns-11 : tie.Need-returns-11
+returns-11 c =
     rw (
       tests (c .before),
       c .if1 .left,
@@ -273,6 +307,7 @@ begin-spec =
     named-ok-requires-2
     group-ok-requires
     value-ok-requires
+    status-ok-requires
     is-allowed-requires
     about-requires
     open-ok-requires
@@ -287,4 +322,5 @@ begin-spec =
     returns-7
     returns-8
     returns-9
-    returns-10)
+    returns-10
+    returns-11)

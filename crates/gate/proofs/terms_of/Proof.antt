@@ -42,6 +42,9 @@ enum-known-o-4 c = search needs
 first-of-requires : tie.Need-first-of-requires
 first-of-requires c κs = search needs
 
+no-sum-requires : tie.Need-no-sum-requires
+no-sum-requires c κs = search needs
+
 goal-at-requires : tie.Need-goal-at-requires
 goal-at-requires c κs = search needs
 
@@ -82,7 +85,9 @@ returns-6 : tie.Need-returns-6
 returns-6 c = rw (c .before .enum-told3 .given .1) (c .bare3 .ensures)
 
 returns-7 : tie.Need-returns-7
-returns-7 c = rw (c .before .before .before .o4 .given .1, c .goal-at .ensures, c .before .first-of .ensures .0)
+returns-7 c =
+    let first = c .before .before in
+    rw (first .before .before .o4 .given .1, c .goal-at .ensures, c .before .no-sum .ensures, first .first-of .ensures .0)
 
 returns-8 : tie.Need-returns-8
 returns-8 c = rw (c .before .before .o5 .given .1) (c .on-mark .ensures)
@@ -110,6 +115,7 @@ terms-of-spec =
     bare-requires-3
     enum-known-o-4
     first-of-requires
+    no-sum-requires
     goal-at-requires
     cast-row
     enum-known-o-5

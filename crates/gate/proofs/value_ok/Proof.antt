@@ -13,7 +13,7 @@ returns : tie.Need-returns
 returns c = search needs
 
 returns-2 : tie.Need-returns-2
-returns-2 c = rw (c .before .x .given .1)
+returns-2 c = rw (c .before .before .x .given .1)
 
 pub value-ok-spec : {M : Type 1} → statement M
 value-ok-spec = tie.close (tie.spec enum-told enum-known-x returns returns-2)

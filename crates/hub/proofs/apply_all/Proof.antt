@@ -27,7 +27,7 @@ use types.Run.{pass1, pass0, free1, free0}
 use sound.WpLaws.{FmC, fmOf, WpFn-mono}
 use denote.RattleType.{owns}
 use denote.Laws.{Is}
-use denote.Builtin.{u8, u64}
+use denote.Builtin.{u8, u16, u64}
 use denote.Slice.{sliceVal, MutSlice, Room, slice-vals, mut-slice-tells}
 use denote.Signature.{plain}
 use denote.Struct.Laws as LL
@@ -90,7 +90,7 @@ module _ {M : Type 1} (𝓤 : URA M) (H : Heap 𝓤) (A : Atoms 𝓤) (W : Given
     (κ : Lft) (ks : Lfts 9)
     (q : Share) (qs : Shares 9) (b o : ℕ) (γ : GName) (ys : List Slot) (hub : Hub) (x : Buffer)
     (room : Room T.the-row (length ys)) (gh : Is B.the-row hub (hub-vals hub)) (room₀ : Room u8 (length (x .0 .now)))
-    (room₁ : Room u8 (length (x .1 .0 .now))) (room₂ : Room u8 (length (x .1 .1 .0 .now))) (room₃ : Room u64 (length (x .1 .1 .1 .0 .now)))
+    (room₁ : Room u8 (length (x .1 .0 .now))) (room₂ : Room u16 (length (x .1 .1 .0 .now))) (room₃ : Room u64 (length (x .1 .1 .1 .0 .now)))
     (ws : List (List ℕ)) (is-zeros : replicate 2048 (replicate 6 0) ≡ ws) (k : ℕ) (is-k : min (length ys) 2048 ≡ k) where
   abbrev n : ℕ
   n = length ys

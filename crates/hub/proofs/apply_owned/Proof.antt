@@ -27,7 +27,7 @@ use types.Run.{pass0, free1, free0}
 use sound.WpLaws.{fmOf, WpFn-mono}
 use denote.RattleType.{owns}
 use denote.Laws.{Is}
-use denote.Builtin.{u8, u64}
+use denote.Builtin.{u8, u16, u64}
 use denote.Array.{Array, array-vals, array-tells}
 use denote.Slice.{Room}
 use denote.Signature.{plain}
@@ -79,7 +79,7 @@ module _ {M : Type 1} (𝓤 : URA M) (H : Heap 𝓤) (A : Atoms 𝓤) (W : Given
     (ks : Lfts 9) (qs : Shares 9)
     (ys : List Slot) (hub : Hub) (x : Buffer)
     (gy : Is (Array T.the-row 2048) ys (array-vals vals ys)) (gh : Is B.the-row hub (hub-vals hub)) (room₀ : Room u8 (length (x .0 .now)))
-    (room₁ : Room u8 (length (x .1 .0 .now))) (room₂ : Room u8 (length (x .1 .1 .0 .now))) (room₃ : Room u64 (length (x .1 .1 .1 .0 .now))) where
+    (room₁ : Room u8 (length (x .1 .0 .now))) (room₂ : Room u16 (length (x .1 .1 .0 .now))) (room₃ : Room u64 (length (x .1 .1 .1 .0 .now))) where
   abbrev at : Vals f.signature ks
   at = (array-vals vals ys, (hub-vals hub, buffer-vals x))
 
@@ -88,14 +88,11 @@ module _ {M : Type 1} (𝓤 : URA M) (H : Heap 𝓤) (A : Atoms 𝓤) (W : Given
 
   -- what is given back
   abbrev back : Counted → List Slot → Owned
-  back r zs = record { hub = r .hub; slots = zs; count = r .count }
+  back r zs = record { applied = r; slots = zs }
 
   is-back : (r : Counted) (zs : List Slot) → Is L.the-row r (left-vals r) → Is (Array T.the-row 2048) zs (array-vals vals zs)
       → Is O.the-row (back r zs) (owned-vals (back r zs))
-  is-back r zs gr gz = LL.owes O.the-type O′.the-laws (back r zs) (
-    LL.owed L.the-type L′.the-laws r _ gr .0,
-    (field-is zs gz, (LL.owed L.the-type L′.the-laws r _ gr .1 .0, tt)),
-  )
+  is-back r zs gr gz = LL.owes O.the-type O′.the-laws (back r zs) (gr, (field-is zs gz, tt))
 
   -- 2048 slots are all that the door reads
   all-of-them : (r : Counted) (zs : List Slot) (z : BufferLeft) → length zs ≡ 2048 → Through hub ys x r zs z → AllDoes hub ys x (r .count) (r .hub) zs z
@@ -122,67 +119,64 @@ module _ {M : Type 1} (𝓤 : URA M) (H : Heap 𝓤) (A : Atoms 𝓤) (W : Given
         alloc1 ! (λ l0. alloc1 ! (λ l1. alloc1 ! (λ l2. alloc1 ! (λ l3. alloc1 ! (λ l4. alloc1 ! (λ l5. alloc1 ! (λ l6. alloc1 ! (λ l7.
         alloc1 ! (λ l8. alloc1 ! (λ l9. alloc1 ! (λ l10. alloc1 ! (λ l11. alloc1 ! (λ l12. alloc1 ! (λ l13. alloc1 ! (λ l14. alloc1 ! (λ l15.
         alloc1 ! (λ l16. alloc1 ! (λ l17. alloc1 ! (λ l18. alloc1 ! (λ l19. alloc1 ! (λ l20. alloc1 ! (λ l21. alloc1 ! (λ l22. alloc1 ! (λ l23.
-        alloc1 ! (λ l24. alloc1 ! (λ l25. alloc1 ! (λ l26. alloc0 ! $ params1 ! $
-        pass1 ! (init ! 50 refl (typed-slots 𝓤 H A W ys gy)) $ pass1 ! (init ! 48 refl (typed-hub 𝓤 H A W hub gh)) $
-        pass1 ! (init ! 46 refl (tt, (tt, (record { fits = room₀ .0 }, tt)))) $
-        pass1 ! (init ! 44 refl (tt, (tt, (record { fits = room₁ .0 }, tt)))) $
-        pass1 ! (init ! 42 refl (tt, (tt, (record { fits = room₂ .0 }, tt)))) $
-        pass1 ! (init ! 40 refl (tt, (tt, (record { fits = room₃ .0 }, tt)))) $ pass1 ! (init ! 38 refl (tt, tt)) $
-        pass1 ! (init ! 36 refl (tt, tt)) $
-        pass1 ! (init ! 34 refl (tt, tt)) $ pass1 ! (init ! 32 refl (tt, tt)) $ pass1 ! (init ! 30 refl (tt, tt)) $ pass0 ! $
-        move ! (55 ∷ []) $ fsplit ! $ drop ! $ fsplit ! $ drop ! $ move ! (55 ∷ 0 ∷ []) $
-        -- [the tokens; what is lent; _26; …; _0]: local i stands at 54 - 2 i
-        assigns ! (of-opd ! (load ! (from ! (stop !)) (look ! 52 refl))) (from ! (stop !)) (init ! 30 refl (typed-slots 𝓤 H A W ys gy)) $
+        alloc1 ! (λ l24. alloc1 ! (λ l25. alloc0 ! $ params1 ! $
+        pass1 ! (init ! 48 refl (typed-slots 𝓤 H A W ys gy)) $ pass1 ! (init ! 46 refl (typed-hub 𝓤 H A W hub gh)) $
+        pass1 ! (init ! 44 refl (tt, (tt, (record { fits = room₀ .0 }, tt)))) $
+        pass1 ! (init ! 42 refl (tt, (tt, (record { fits = room₁ .0 }, tt)))) $
+        pass1 ! (init ! 40 refl (tt, (tt, (record { fits = room₂ .0 }, tt)))) $
+        pass1 ! (init ! 38 refl (tt, (tt, (record { fits = room₃ .0 }, tt)))) $ pass1 ! (init ! 36 refl (tt, tt)) $
+        pass1 ! (init ! 34 refl (tt, tt)) $
+        pass1 ! (init ! 32 refl (tt, tt)) $ pass1 ! (init ! 30 refl (tt, tt)) $ pass1 ! (init ! 28 refl (tt, tt)) $ pass0 ! $
+        move ! (53 ∷ []) $ fsplit ! $ drop ! $ fsplit ! $ drop ! $ move ! (53 ∷ 0 ∷ []) $
+        -- [the tokens; what is lent; _25; …; _0]: local i stands at 52 - 2 i
+        assigns ! (of-opd ! (load ! (from ! (stop !)) (look ! 50 refl))) (from ! (stop !)) (init ! 28 refl (typed-slots 𝓤 H A W ys gy)) $
         assigns ! (addr ! (from ! (stop !))) (from ! (stop !)) (init ! 24 refl (tt, tt)) $
         assigns ! (agg ! (and-then ! (load ! (from ! (stop !)) (look ! 24 refl)) (and-then ! (big-lit ! (record { fits = lit< tt })) (no-more !))))
         (from ! (stop !)) (init ! 22 refl (tt, (tt, (record { fits = lit< tt }, tt)))) $
-        assigns ! (addr ! (from ! (fld ! refl (hop ! (look-in ! 44 (sub ! 0 refl (whole !))) (stop !))))) (from ! (stop !))
+        assigns ! (addr ! (from ! (fld ! refl (hop ! (look-in ! 42 (sub ! 0 refl (whole !))) (stop !))))) (from ! (stop !))
         (init ! 20 refl (tt, tt)) $
         assigns ! (agg ! (and-then ! (load ! (from ! (stop !)) (look ! 20 refl))
-        (and-then ! (load ! (from ! (fld ! refl (stop !))) (look-in ! 44 (sub ! 1 refl (whole !)))) (no-more !)))) (from ! (stop !))
+        (and-then ! (load ! (from ! (fld ! refl (stop !))) (look-in ! 42 (sub ! 1 refl (whole !)))) (no-more !)))) (from ! (stop !))
         (init ! 18 refl (tt, (tt, (record { fits = room₂ .0 }, tt)))) $
-        assigns ! (addr ! (from ! (fld ! refl (hop ! (look-in ! 42 (sub ! 0 refl (whole !))) (stop !))))) (from ! (stop !))
+        assigns ! (addr ! (from ! (fld ! refl (hop ! (look-in ! 40 (sub ! 0 refl (whole !))) (stop !))))) (from ! (stop !))
         (init ! 16 refl (tt, tt)) $
         assigns ! (agg ! (and-then ! (load ! (from ! (stop !)) (look ! 16 refl))
-        (and-then ! (load ! (from ! (fld ! refl (stop !))) (look-in ! 42 (sub ! 1 refl (whole !)))) (no-more !)))) (from ! (stop !))
+        (and-then ! (load ! (from ! (fld ! refl (stop !))) (look-in ! 40 (sub ! 1 refl (whole !)))) (no-more !)))) (from ! (stop !))
         (init ! 14 refl (tt, (tt, (record { fits = room₃ .0 }, tt)))) $
-        assigns ! (addr ! (from ! (hop ! (look ! 40 refl) (stop !)))) (from ! (stop !)) (init ! 12 refl (tt, tt)) $
-        assigns ! (addr ! (from ! (hop ! (look ! 38 refl) (stop !)))) (from ! (stop !)) (init ! 10 refl (tt, tt)) $
-        assigns ! (addr ! (from ! (hop ! (look ! 36 refl) (stop !)))) (from ! (stop !)) (init ! 8 refl (tt, tt)) $
-        assigns ! (addr ! (from ! (hop ! (look ! 34 refl) (stop !)))) (from ! (stop !)) (init ! 6 refl (tt, tt)) $
-        assigns ! (addr ! (from ! (hop ! (look ! 32 refl) (stop !)))) (from ! (stop !)) (init ! 4 refl (tt, tt)) $
+        assigns ! (addr ! (from ! (hop ! (look ! 38 refl) (stop !)))) (from ! (stop !)) (init ! 12 refl (tt, tt)) $
+        assigns ! (addr ! (from ! (hop ! (look ! 36 refl) (stop !)))) (from ! (stop !)) (init ! 10 refl (tt, tt)) $
+        assigns ! (addr ! (from ! (hop ! (look ! 34 refl) (stop !)))) (from ! (stop !)) (init ! 8 refl (tt, tt)) $
+        assigns ! (addr ! (from ! (hop ! (look ! 32 refl) (stop !)))) (from ! (stop !)) (init ! 6 refl (tt, tt)) $
+        assigns ! (addr ! (from ! (hop ! (look ! 30 refl) (stop !)))) (from ! (stop !)) (init ! 4 refl (tt, tt)) $
         -- `_12` is lent
-        move ! (30 ∷ []) $ lends-local ! tt T.the-row tt vals tells 2048 l12 (makes 𝓤 H A) ys gy slots-roomy (λ ν δ. move ! (0 ∷ 1 ∷ 3 ∷ 4 ∷ 2 ∷ []) $
-        -- [the slots; their token; the other tokens; what else is lent; the lender's part; _26; …; that _12 dies; …; _0; …]
+        move ! (28 ∷ []) $ lends-local ! tt T.the-row tt vals tells 2048 l12 (makes 𝓤 H A) ys gy slots-roomy (λ ν δ. move ! (0 ∷ 1 ∷ 3 ∷ 4 ∷ 2 ∷ []) $
+        -- [the slots; their token; the other tokens; what else is lent; the lender's part; _25; …; that _12 dies; …; _0; …]
         call-apply-all ! mem run (fmOf 𝓤 H (W .laws) 𝓣) known 2048 l12 0 ys (gy .1 .0 .1) slots-roomy hub ks qs x gh
-        (λ i j. and-then ! (load ! (from ! (stop !)) (look ! 23 refl)) (and-then ! (load ! (from ! (stop !)) (look ! 50 refl))
-        (and-then ! (load ! (from ! (stop !)) (look ! 48 refl)) (and-then ! (load ! (from ! (stop !)) (look ! 46 refl)) (and-then ! (load ! (from ! (stop !)) (look ! 19 refl))
+        (λ i j. and-then ! (load ! (from ! (stop !)) (look ! 23 refl)) (and-then ! (load ! (from ! (stop !)) (look ! 48 refl))
+        (and-then ! (load ! (from ! (stop !)) (look ! 46 refl)) (and-then ! (load ! (from ! (stop !)) (look ! 44 refl)) (and-then ! (load ! (from ! (stop !)) (look ! 19 refl))
         (and-then ! (load ! (from ! (stop !)) (look ! 15 refl)) (and-then ! (load ! (from ! (stop !)) (look ! 13 refl))
         (and-then ! (load ! (from ! (stop !)) (look ! 11 refl)) (and-then ! (load ! (from ! (stop !)) (look ! 9 refl))
         (and-then ! (load ! (from ! (stop !)) (look ! 7 refl)) (and-then ! (load ! (from ! (stop !)) (look ! 5 refl)) (no-more !))))))))))))
-        (λ r zs z e long gr. land ! (from ! (stop !)) (init ! 31 refl (typed-left 𝓤 H A W r gr)) $
+        (λ r zs z e long gr. land ! (from ! (stop !)) (init ! 29 refl (typed-left 𝓤 H A W r gr)) $
         -- `_12` is back
         move ! (0 ∷ 1 ∷ 4 ∷ []) $ takes-back ! tt T.the-row tt vals tells 2048 l12 ν δ zs (λ gz.
-        assigns ! (of-opd ! (load ! (from ! (fld ! refl (stop !))) (look-in ! 29 (sub ! 0 refl (whole !))))) (from ! (stop !))
-        (init ! 27 refl (typed-hub 𝓤 H A W (r .hub) (LL.owed L.the-type L′.the-laws r _ gr .0))) $
         assigns ! (of-opd ! (load ! (from ! (stop !)) (look ! 0 refl))) (from ! (stop !)) (init ! 3 refl (typed-slots 𝓤 H A W zs gz)) $
-        rewrite ! 3 (λ (v : Val). ‵ (fat fullShare (tyArray T′.mir 2048) l26 0 v)) (field-val zs) refl $
+        rewrite ! 3 (λ (v : Val). ‵ (fat fullShare (tyArray T′.mir 2048) l25 0 v)) (field-val zs) refl $
         assigns ! (agg ! (and-then ! (load ! (from ! (stop !)) (look ! 27 refl))
-        (and-then ! (load ! (from ! (stop !)) (look ! 3 refl))
-        (and-then ! (load ! (from ! (fld ! refl (stop !))) (look-in ! 29 (sub ! 1 refl (whole !))))
-        (no-more !))))) (from ! (stop !)) (init ! 54 refl (typed-owned 𝓤 H A W (back r zs) (is-back r zs gr gz))) $
-        returns ! (look ! 54 refl) $ forget ! 54 refl $ forget ! 52 refl $ forget ! 50 refl $ forget ! 48 refl $ forget ! 46 refl $ forget ! 44 refl $ forget ! 42 refl $
-        forget ! 40 refl $ forget ! 38 refl $ forget ! 36 refl $ forget ! 34 refl $ forget ! 32 refl $ forget ! 0 refl $ forget ! 29 refl $
-        forget ! 27 refl $ forget ! 25 refl $ forget ! 23 refl $ forget ! 21 refl $ forget ! 19 refl $ forget ! 17 refl $ forget ! 15 refl $
-        forget ! 13 refl $ forget ! 11 refl $ forget ! 9 refl $ forget ! 7 refl $ forget ! 5 refl $ forget ! 3 refl $
-        move ! (54 ∷ 55 ∷ []) $ free1 ! $ move ! (52 ∷ 53 ∷ []) $ free1 ! $ move ! (50 ∷ 51 ∷ []) $ free1 ! $ move ! (48 ∷ 49 ∷ []) $ free1 ! $ move ! (46 ∷ 47 ∷ []) $ free1 ! $
+        (and-then ! (load ! (from ! (stop !)) (look ! 3 refl)) (no-more !)))) (from ! (stop !))
+        (init ! 52 refl (typed-owned 𝓤 H A W (back r zs) (is-back r zs gr gz))) $
+        returns ! (look ! 52 refl) $ forget ! 52 refl $ forget ! 50 refl $ forget ! 48 refl $ forget ! 46 refl $ forget ! 44 refl $
+        forget ! 42 refl $ forget ! 40 refl $ forget ! 38 refl $ forget ! 36 refl $ forget ! 34 refl $ forget ! 32 refl $ forget ! 30 refl $
+        forget ! 0 refl $ forget ! 27 refl $ forget ! 25 refl $ forget ! 23 refl $ forget ! 21 refl $ forget ! 19 refl $ forget ! 17 refl $
+        forget ! 15 refl $ forget ! 13 refl $ forget ! 11 refl $ forget ! 9 refl $ forget ! 7 refl $ forget ! 5 refl $ forget ! 3 refl $
+        move ! (52 ∷ 53 ∷ []) $ free1 ! $ move ! (50 ∷ 51 ∷ []) $ free1 ! $ move ! (48 ∷ 49 ∷ []) $ free1 ! $ move ! (46 ∷ 47 ∷ []) $ free1 ! $
         move ! (44 ∷ 45 ∷ []) $ free1 ! $ move ! (42 ∷ 43 ∷ []) $ free1 ! $ move ! (40 ∷ 41 ∷ []) $ free1 ! $ move ! (38 ∷ 39 ∷ []) $ free1 ! $
-        move ! (36 ∷ 37 ∷ []) $ free1 ! $ move ! (34 ∷ 35 ∷ []) $ free1 ! $ move ! (32 ∷ 33 ∷ []) $ free1 ! $ move ! (0 ∷ 31 ∷ []) $ free1 ! $
-        move ! (28 ∷ 29 ∷ []) $ free1 ! $ move ! (26 ∷ 27 ∷ []) $ free1 ! $ move ! (24 ∷ 25 ∷ []) $ free1 ! $ move ! (22 ∷ 23 ∷ []) $ free1 ! $
+        move ! (36 ∷ 37 ∷ []) $ free1 ! $ move ! (34 ∷ 35 ∷ []) $ free1 ! $ move ! (32 ∷ 33 ∷ []) $ free1 ! $ move ! (30 ∷ 31 ∷ []) $ free1 ! $
+        move ! (0 ∷ 29 ∷ []) $ free1 ! $ move ! (26 ∷ 27 ∷ []) $ free1 ! $ move ! (24 ∷ 25 ∷ []) $ free1 ! $ move ! (22 ∷ 23 ∷ []) $ free1 ! $
         move ! (20 ∷ 21 ∷ []) $ free1 ! $ move ! (18 ∷ 19 ∷ []) $ free1 ! $ move ! (16 ∷ 17 ∷ []) $ free1 ! $ move ! (14 ∷ 15 ∷ []) $ free1 ! $
         move ! (12 ∷ 13 ∷ []) $ free1 ! $ move ! (10 ∷ 11 ∷ []) $ free1 ! $ move ! (8 ∷ 9 ∷ []) $ free1 ! $ move ! (6 ∷ 7 ∷ []) $ free1 ! $
         move ! (4 ∷ 5 ∷ []) $ free1 ! $ move ! (2 ∷ 3 ∷ []) $ free1 ! $ free0 ! $
-        by ! (exits r zs z (all-of-them r zs z long (e .0)) (e .1) (is-back r zs gr gz))))))))))))))))))))))))))))))))
+        by ! (exits r zs z (all-of-them r zs z long (e .0)) (e .1) (is-back r zs gr gz)))))))))))))))))))))))))))))))
 
 module _ {M : Type 1} (𝓤 : URA M) (H : Heap 𝓤) (A : Atoms 𝓤) (W : Given 𝓤 H A) (mem : Memory → SProp 𝓤) (run : Routine → Fun 𝓤) (𝓣 : Tables 𝓤 H)
     (known : Triple 𝓤 (𝓣 .C #hub·apply-all) (ApplyAll 𝓤 H A mem run)) where

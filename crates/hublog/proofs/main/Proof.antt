@@ -21,7 +21,7 @@ slice-aggregate-block : tie.Need-slice-aggregate-block Inv-loop μ-loop
 slice-aggregate-block c = search needs
 
 slice-aggregate-text : tie.Need-slice-aggregate-text Inv-loop μ-loop
-slice-aggregate-text c = sym (length-replicate {0} {A = ℕ} 802816 0)
+slice-aggregate-text c = sym (length-replicate {0} {A = ℕ} 1146880 0)
 
 slice-aggregate-kinds : tie.Need-slice-aggregate-kinds Inv-loop μ-loop
 slice-aggregate-kinds c = search needs

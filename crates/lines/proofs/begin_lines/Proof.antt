@@ -65,6 +65,9 @@ shared-slice-read-spill-line c =
 mul-spill-line : tie.Need-mul-spill-line Inv-loop μ-loop
 mul-spill-line c = search needs
 
+mul-spill-line-2 : tie.Need-mul-spill-line-2 Inv-loop μ-loop
+mul-spill-line-2 c = search needs
+
 shared-slice-read-spill-line-2 : tie.Need-shared-slice-read-spill-line-2 Inv-loop μ-loop
 shared-slice-read-spill-line-2 c =
     let I = c .before .before .before .before .before in
@@ -148,8 +151,9 @@ begin-lines-spec =
     sub-stop
     sub-limit
     loop-holds
-    shared-slice-read-spill-line
     mul-spill-line
+    shared-slice-read-spill-line
+    mul-spill-line-2
     shared-slice-read-spill-line-2
     spill-line-requires
     add-last-2

@@ -28,6 +28,9 @@ shared-slice-read-write-line c = search needs
 mul-write-line : tie.Need-mul-write-line Inv-loop μ-loop
 mul-write-line c = search needs
 
+mul-write-line-2 : tie.Need-mul-write-line-2 Inv-loop μ-loop
+mul-write-line-2 c = search needs
+
 shared-slice-read-write-line-2 : tie.Need-shared-slice-read-write-line-2 Inv-loop μ-loop
 shared-slice-read-write-line-2 c = search needs
 
@@ -64,8 +67,9 @@ end-lines-spec =
     add-spell
     spell-requires
     loop-holds
-    shared-slice-read-write-line
     mul-write-line
+    shared-slice-read-write-line
+    mul-write-line-2
     shared-slice-read-write-line-2
     write-line-requires
     count-up-requires

@@ -20,8 +20,11 @@ two-requires c κs = search needs
 eight-requires : tie.Need-eight-requires
 eight-requires c κs = search needs
 
-no-four-requires : tie.Need-no-four-requires
-no-four-requires c κs = search needs
+one-requires : tie.Need-one-requires
+one-requires c κs = search needs
+
+none-5-to-7-requires : tie.Need-none-5-to-7-requires
+none-5-to-7-requires c κs = search needs
 
 begin-requires : tie.Need-begin-requires
 begin-requires c κs = search needs
@@ -95,8 +98,8 @@ begin-requires-9 c κs = search needs
 two-requires-7 : tie.Need-two-requires-7
 two-requires-7 c κs = search needs
 
-one-requires : tie.Need-one-requires
-one-requires c κs = search needs
+one-requires-2 : tie.Need-one-requires-2
+one-requires-2 c κs = search needs
 
 wide16-requires : tie.Need-wide16-requires
 wide16-requires c κs = search needs
@@ -113,8 +116,9 @@ returns c = rw (c .before .match .keys1) (c .set-up .ensures)
 returns-2 : tie.Need-returns-2
 unfolding commandOf unusedZero
 returns-2 c =
-    let r = c .before .before .before in
-    rw (r .before .match .keys2, ← r .two .ensures, ← c .before .before .eight .ensures, ← c .before .no-four .ensures) (c .begin .ensures)
+    let e = c .before .before .before in
+    let r = e .before in
+    rw (r .before .match .keys2, c .begin .ensures, r .two .ensures, e .eight .ensures, c .before .before .one .ensures, c .before .none-5-to-7 .ensures)
 
 returns-3 : tie.Need-returns-3
 unfolding commandOf unusedZero
@@ -161,7 +165,7 @@ unfolding commandOf unusedZero
 returns-12 c =
     let o = c .before .before .before in
     let r = o .before in
-    rw (r .before .match .keys12, c .begin10 .ensures, r .two7 .ensures, c .before .before .wide16 .ensures .0, o .one .ensures, c .before .none-from-5 .ensures)
+    rw (r .before .match .keys12, c .begin10 .ensures, r .two7 .ensures, c .before .before .wide16 .ensures .0, o .one2 .ensures, c .before .none-from-5 .ensures)
 
 returns-13 : tie.Need-returns-13
 returns-13 c =
@@ -181,7 +185,8 @@ asked-spec =
     set-up-requires
     two-requires
     eight-requires
-    no-four-requires
+    one-requires
+    none-5-to-7-requires
     begin-requires
     none-from-2-requires
     begin-requires-2
@@ -206,7 +211,7 @@ asked-spec =
     none-from-4-requires-5
     begin-requires-9
     two-requires-7
-    one-requires
+    one-requires-2
     wide16-requires
     none-from-5-requires
     begin-requires-10

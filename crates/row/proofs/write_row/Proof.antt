@@ -3,7 +3,7 @@ use mathlib.Core.Path.{refl}
 use Prim.Native.Nat.{_+_, _*_}
 use native.Mathlib.Omega.{arith}
 use lib.ListN.{length}
-use borrow.Author.Tests.{le-ltb, lt-ltb}
+use borrow.Author.Tests.{le-ltb, lt-ltb, le-leb, lt-leb}
 use Rattle.model.specs.Row.{writeRow}
 use Rattle.row.proofs.Row.{row-back}
 use borrow.Author.Needs.{needs}
@@ -26,20 +26,25 @@ returns-2 c =
     let a = c .before .before .before .args in
     simp (lt-ltb _ _ (c .before .if1 .left), lt-ltb (length (a .out .now)) (16 * (a .register + 1)) (omega arith)) (refl, refl)
 
-returns-3 : tie.Need-returns-3
-unfolding writeRow
-returns-3 c =
-    let s = c .before .before in
-    let a = s .before .before .before .args in
-    simp
-    (lt-ltb _ _ (s .before .if1 .left), le-ltb (length (a .out .now)) (16 * (a .register + 1)) (omega (arith, s .if2 .left)), c .enum-told .given .1)
-    (refl, refl)
-
 enum-told : tie.Need-enum-told
 enum-told c = search needs
 
 enum-known-content : tie.Need-enum-known-content
 enum-known-content c = search needs
+
+returns-3 : tie.Need-returns-3
+unfolding writeRow
+returns-3 c =
+    let k = c .before .before .before in
+    let s = k .before .before in
+    let a = s .before .before .before .args in
+    simp (
+      lt-ltb _ _ (s .before .if1 .left),
+      le-ltb (length (a .out .now)) (16 * (a .register + 1)) (omega (arith, s .if2 .left)),
+      k .content .given .1,
+      lt-leb _ _ (c .if3 .taken),
+    )
+    (refl, refl)
 
 sub-put-row : tie.Need-sub-put-row
 sub-put-row c = search needs
@@ -53,17 +58,31 @@ part-put-row-end c = search needs
 put-row-requires : tie.Need-put-row-requires
 put-row-requires c κs = search needs
 
-same-length : tie.Need-same-length
-same-length c = search needs
-
 returns-4 : tie.Need-returns-4
 unfolding writeRow
 returns-4 c =
-    let k = c .before .before .before .before .before in
-    let s = k .before .before in
+    let s = c .before .before in
     let a = s .before .before .before .args in
     simp
-    (lt-ltb _ _ (s .before .if1 .left), le-ltb (length (a .out .now)) (16 * (a .register + 1)) (omega (arith, s .if2 .left)), k .content .given .1)
+    (lt-ltb _ _ (s .before .if1 .left), le-ltb (length (a .out .now)) (16 * (a .register + 1)) (omega (arith, s .if2 .left)), c .enum-told .given .1)
+    (refl, refl)
+
+same-length : tie.Need-same-length
+same-length c = search needs
+
+returns-5 : tie.Need-returns-5
+unfolding writeRow
+returns-5 c =
+    let few = c .before .before .before .before in
+    let k = few .before .before .before in
+    let s = k .before .before in
+    let a = s .before .before .before .args in
+    simp (
+      lt-ltb _ _ (s .before .if1 .left),
+      le-ltb (length (a .out .now)) (16 * (a .register + 1)) (omega (arith, s .if2 .left)),
+      k .content .given .1,
+      le-leb _ _ (few .if3 .left),
+    )
     (refl, row-back (a .out .now) _ _ (16 * a .register) (c .before .before .put-row .ensures))
 
 pub write-row-spec : {M : Type 1} → statement M
@@ -76,10 +95,11 @@ write-row-spec =
     returns-2
     enum-told
     enum-known-content
+    returns-3
     sub-put-row
     part-put-row-start
     part-put-row-end
     put-row-requires
-    returns-3
+    returns-4
     same-length
-    returns-4)
+    returns-5)

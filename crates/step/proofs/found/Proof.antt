@@ -24,9 +24,6 @@ outcome-of-requires-2 c κs = search needs
 enum-known-purpose : tie.Need-enum-known-purpose
 enum-known-purpose c = search needs
 
-count-of-requires : tie.Need-count-of-requires
-count-of-requires c κs = search needs
-
 total-found-requires : tie.Need-total-found-requires
 total-found-requires c κs = search needs
 
@@ -37,7 +34,7 @@ returns-2 : tie.Need-returns-2
 returns-2 c = rw (c .before .before .enum-told2 .given .1, ← c .before .answer-for2 .ensures) (c .outcome-of2 .ensures)
 
 returns-3 : tie.Need-returns-3
-returns-3 c = rw (c .before .before .before .purpose .given .1, ← c .before .count-of .ensures) (c .total-found .ensures)
+returns-3 c = rw (c .before .before .purpose .given .1) (c .total-found .ensures)
 
 pub found-spec : {M : Type 1} → statement M
 found-spec =
@@ -50,7 +47,6 @@ found-spec =
     answer-for-requires-2
     outcome-of-requires-2
     enum-known-purpose
-    count-of-requires
     total-found-requires
     returns
     returns-2

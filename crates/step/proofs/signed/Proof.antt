@@ -5,13 +5,13 @@ use Rattle.step.proofs.signed.Statement.{statement}
 use Rattle.step.proofs.signed.Tie as tie
 
 returns : tie.Need-returns
-returns c = rw (le-leb _ _ (c .if1 .taken))
+returns c = rw (le-leb _ _ (c .before .if1 .taken))
 
-sub-t6 : tie.Need-sub-t6
-sub-t6 c = search needs
+sub-count : tie.Need-sub-count
+sub-count c = search needs
 
 returns-2 : tie.Need-returns-2
-returns-2 c = rw (lt-leb _ _ (c .if1 .left))
+returns-2 c = rw (lt-leb _ _ (c .before .if1 .left))
 
 pub signed-spec : {M : Type 1} → statement M
-signed-spec = tie.close (tie.spec returns sub-t6 returns-2)
+signed-spec = tie.close (tie.spec returns sub-count returns-2)

@@ -1,21 +1,33 @@
 -- `total_found` meets its contract: the test of the value and the one of the row behind decide, and what the calls ensure is what a total leaves, by
 -- the laws of proofs/Totals.antt.
+use mathlib.Core.Path.{_≡_}
+use mathlib.Core.Bool.{true}
+use lib.Dec.{leb}
 use lib.ListN.{take}
 use denote.Ref.{now}
 use borrow.Author.Tests.{le-leb, lt-leb}
 use borrow.Author.Needs.{needs}
-use Rattle.step.proofs.Totals.{Summed, summed, total-refused, total-next, total-answered}
+use Rattle.model.specs.Rules.{twelveDigits}
+use Rattle.model.specs.Totals.{rowAt}
+use Rattle.model.specs.Store.{countOf}
+use Rattle.values.specs.Meaning.{contentOf}
+use Rattle.totals.specs.Rows.{sumWith}
+use Rattle.step.proofs.Totals.{total-refused, total-next, total-answered}
 use Rattle.step.proofs.total_found.Statement.{statement}
 use Rattle.step.proofs.total_found.Tie as tie
 
--- the sums with the value
-sums : (c : tie.After-added2) →
-    let a = c .before .before .before .before .before .before .before .before .args in
-    Summed (take (a .listed) (now (a .rows))) (a .i) (a .plus) (a .minus) (a .x) (c .before .before .added .result) (c .added2 .result)
-sums c =
-    let sign = c .before .before .before .before in
-    summed _ _ _ _ _ (sign .before .before .wide .ensures) (sign .before .row-at .ensures) (sign .is-plus .ensures)
-    (c .before .before .before .either .ensures) (c .before .before .added .ensures) (c .before .either2 .ensures) (c .added2 .ensures)
+-- what was found has at most twelve digits
+fits : (c : tie.After-sum-with) → leb (countOf (contentOf (c .before .before .before .before .before .args .x))) twelveDigits ≡ true
+fits c = rw (← c .before .before .before .before .count-of .ensures) (le-leb _ _ (c .before .before .before .if1 .taken))
+
+-- the sums with it
+sums : (c : tie.After-sum-with) →
+    let a = c .before .before .before .before .before .args in
+    c .sum-with .result ≡ sumWith (a .sum) (rowAt (take (a .listed) (now (a .rows))) (a .i)) (a .x)
+sums c = rw (c .sum-with .ensures, c .before .row-at .ensures, c .before .before .wide .ensures)
+
+count-of-requires : tie.Need-count-of-requires
+count-of-requires c κs = search needs
 
 wide-requires : tie.Need-wide-requires
 wide-requires c κs = search needs
@@ -23,20 +35,8 @@ wide-requires c κs = search needs
 row-at-requires : tie.Need-row-at-requires
 row-at-requires c κs = search needs
 
-is-plus-requires : tie.Need-is-plus-requires
-is-plus-requires c κs = search needs
-
-either-requires : tie.Need-either-requires
-either-requires c κs = search needs
-
-added-requires : tie.Need-added-requires
-added-requires c κs = search needs
-
-either-requires-2 : tie.Need-either-requires-2
-either-requires-2 c κs = search needs
-
-added-requires-2 : tie.Need-added-requires-2
-added-requires-2 c κs = search needs
+sum-with-requires : tie.Need-sum-with-requires
+sum-with-requires c κs = search needs
 
 goes-on-requires : tie.Need-goes-on-requires
 goes-on-requires c κs = search needs
@@ -56,9 +56,8 @@ outcome-of-requires c κs = search needs
 returns : tie.Need-returns
 returns c =
     let on = c .before .before .before in
-    let added = on .before .before in
-    let fits = le-leb _ _ (added .before .before .before .before .before .before .before .if1 .taken) in
-    total-next _ _ _ _ _ fits (sums added) (on .before .goes-on .ensures) (on .if2 .taken) (c .before .before .wide2 .ensures)
+    let more = on .before .before in
+    total-next _ _ _ _ (fits more) (sums more) (on .before .goes-on .ensures) (on .if2 .taken) (c .before .before .wide2 .ensures)
     (c .before .goal-at .ensures) (c .outcome-of .ensures)
 
 signed-requires : tie.Need-signed-requires
@@ -70,28 +69,24 @@ outcome-of-requires-2 c κs = search needs
 returns-2 : tie.Need-returns-2
 returns-2 c =
     let off = c .before .before in
-    let added = off .before .before in
-    let fits = le-leb _ _ (added .before .before .before .before .before .before .before .if1 .taken) in
-    total-answered _ _ _ _ _ _ fits (sums added) (off .before .goes-on .ensures) (off .if2 .left) (c .before .signed .ensures)
+    let more = off .before .before in
+    total-answered _ _ _ _ _ (fits more) (sums more) (off .before .goes-on .ensures) (off .if2 .left) (c .before .signed .ensures)
     (c .outcome-of2 .ensures)
 
 outcome-of-requires-3 : tie.Need-outcome-of-requires-3
 outcome-of-requires-3 c κs = search needs
 
 returns-3 : tie.Need-returns-3
-returns-3 c = total-refused _ _ _ _ _ _ (lt-leb _ _ (c .before .if1 .left)) (c .outcome-of3 .ensures)
+returns-3 c = total-refused _ _ _ _ _ (rw (← c .before .before .count-of .ensures) (lt-leb _ _ (c .before .if1 .left))) (c .outcome-of3 .ensures)
 
 pub total-found-spec : {M : Type 1} → statement M
 total-found-spec =
     tie.close
     (tie.spec
+    count-of-requires
     wide-requires
     row-at-requires
-    is-plus-requires
-    either-requires
-    added-requires
-    either-requires-2
-    added-requires-2
+    sum-with-requires
     goes-on-requires
     wide-requires-2
     add-goal-at

@@ -1,18 +1,18 @@
--- `answer` meets its contract: each arm rewrites with its kind, and in the last the kind is none of those before.
+-- `answer_with` meets its contract: each arm rewrites with its kind, and in the last the kind is none of those before.
 use Prim.Native.Nat.{zero-le}
 use Rattle.answers.proofs.Refusals.{past-three, refusal-past}
 use borrow.Author.Needs.{needs}
-use Rattle.answers.proofs.answer.Statement.{statement}
-use Rattle.answers.proofs.answer.Tie as tie
+use Rattle.answers.proofs.answer_with.Statement.{statement}
+use Rattle.answers.proofs.answer_with.Tie as tie
 
-cast-t5 : tie.Need-cast-t5
-cast-t5 c = search needs
+cast-t6 : tie.Need-cast-t6
+cast-t6 c = search needs
 
-cast-t7 : tie.Need-cast-t7
-cast-t7 c = search needs
+cast-t8 : tie.Need-cast-t8
+cast-t8 c = search needs
 
-cast-t11 : tie.Need-cast-t11
-cast-t11 c = search needs
+cast-t12 : tie.Need-cast-t12
+cast-t12 c = search needs
 
 returns : tie.Need-returns
 returns c = search needs
@@ -42,15 +42,15 @@ returns-9 : tie.Need-returns-9
 returns-9 c =
     let r = c .match .rest in
     let a = past-three 0 zero-le (r .0 .0 .0 .0 .0 .0 .0 .1) (r .0 .0 .0 .0 .0 .0 .1) (r .0 .0 .0 .0 .0 .1) in
-    refusal-past _ _ (past-three 3 a (r .0 .0 .0 .0 .1) (r .0 .0 .0 .1) (r .0 .0 .1)) (r .0 .1) (r .1)
+    refusal-past _ _ _ (past-three 3 a (r .0 .0 .0 .0 .1) (r .0 .0 .0 .1) (r .0 .0 .1)) (r .0 .1) (r .1)
 
-pub answer-spec : {M : Type 1} → statement M
-answer-spec =
+pub answer-with-spec : {M : Type 1} → statement M
+answer-with-spec =
     tie.close
     (tie.spec
-    cast-t5
-    cast-t7
-    cast-t11
+    cast-t6
+    cast-t8
+    cast-t12
     returns
     returns-2
     returns-3
