@@ -1,5 +1,6 @@
 //! Answers and refusals, with the numbers that documents 01 and 02 give them.
 
+use crate::reading::{Reading, Shown};
 use std::fmt;
 
 /// A refusal; its discriminant is the number in document 01's two tables or in a request of 02.
@@ -54,11 +55,13 @@ pub enum Refusal {
     Forbidden = 23,
     /// 24: no table of rights (A7). Given for a table, never for a record.
     Table = 24,
+    /// 25: status above 2 in a put or in the row writer (A8).
+    Status = 25,
 }
 
 impl Refusal {
     /// All refusals, in the order of their numbers.
-    pub const ALL: [Refusal; 24] = [
+    pub const ALL: [Refusal; 25] = [
         Refusal::Operation,
         Refusal::UnusedByte,
         Refusal::Worker,
@@ -83,6 +86,7 @@ impl Refusal {
         Refusal::Coding,
         Refusal::Forbidden,
         Refusal::Table,
+        Refusal::Status,
     ];
 
     /// The refusal's number.
@@ -120,12 +124,13 @@ pub enum Answer {
     Freed(u16),
     /// An open's answer: its time.
     At(u32),
-    /// A get's, read's or marked read's answer, and a total's that is not below 0.
-    Value(u64),
+    /// A get's, read's or marked read's answer, and a total's that is not below 0: the sum with the
+    /// largest status that it read (A8).
+    Value(Reading),
     /// A get's, read's or marked read's answer where there is no reading (A5).
     None,
-    /// A total's answer below 0: how far below.
-    Minus(u64),
+    /// A total's answer below 0: how far below, with that status.
+    Minus(Reading),
     /// The end of a put, close, collect, mark or release.
     Done,
     /// Refused.
@@ -135,27 +140,36 @@ pub enum Answer {
 impl Answer {
     /// The answer of a get, read or marked read.
     #[inline]
-    pub const fn reading(reading: Option<u64>) -> Answer {
+    pub const fn reading(reading: Option<Reading>) -> Answer {
         match reading {
-            Some(value) => Answer::Value(value),
+            Some(reading) => Answer::Value(reading),
             None => Answer::None,
         }
     }
 
+    /// This value with this status.
+    #[inline]
+    pub const fn value(value: u64, status: u8) -> Answer {
+        Answer::Value(Reading { value, status })
+    }
+
     /// A total's answer.
     #[inline]
-    pub const fn total(sum: i64) -> Answer {
+    pub const fn total(sum: i64, status: u8) -> Answer {
+        let reading = Reading { value: sum.unsigned_abs(), status };
         match sum {
-            0.. => Answer::Value(sum as u64),
-            _ => Answer::Minus(sum.unsigned_abs()),
+            0.. => Answer::Value(reading),
+            _ => Answer::Minus(reading),
         }
     }
 
-    /// The number that a get, read, marked read or total shows; `none` shows no value.
-    pub fn shown(self) -> Option<i128> {
+    /// What a get, read, marked read or total shows; `none` shows no value.
+    pub fn shown(self) -> Option<Shown> {
         match self {
-            Answer::Value(value) => Some(i128::from(value)),
-            Answer::Minus(below) => Some(-i128::from(below)),
+            Answer::Value(reading) => Some(reading.into()),
+            Answer::Minus(Reading { value, status }) => {
+                Some(Shown { value: -i128::from(value), status })
+            }
             _ => None,
         }
     }
@@ -164,13 +178,13 @@ impl Answer {
 /// The words of the log.
 impl fmt::Display for Answer {
     fn fmt(&self, f: &mut fmt::Formatter) -> fmt::Result {
-        match self {
+        match *self {
             Answer::Ok => write!(f, "ok"),
             Answer::Going => write!(f, "going"),
             Answer::Freed(slot) => write!(f, "freed {slot}"),
             Answer::At(time) => write!(f, "at {time}"),
-            Answer::Value(value) => write!(f, "value {value}"),
-            Answer::Minus(below) => write!(f, "value -{below}"),
+            Answer::Value(Reading { value, status }) => write!(f, "value {value} {status}"),
+            Answer::Minus(Reading { value, status }) => write!(f, "value -{value} {status}"),
             Answer::None => write!(f, "none"),
             Answer::Done => write!(f, "done"),
             Answer::No(refusal) => write!(f, "no {}", refusal.number()),

@@ -25,8 +25,9 @@ impl Observer for () {
 
 macro_rules! branches {
     ($($name:ident $text:literal)*) => {
-        /// A branch of the steps, or of the tests that a put above A1's limit, a total, a list, a
-        /// mark, a right or a table meets, or what is found where a reading is looked for.
+        /// A branch of the steps, or of the tests that a put above A1's limit or of a status above 2, a
+        /// total, a list, a mark, a right or a table meets, or what is found where a reading is looked
+        /// for.
         #[derive(Clone, Copy, Debug, PartialEq, Eq)]
         #[repr(usize)]
         pub enum Branch { $(#[doc = $text] $name,)* }
@@ -217,6 +218,35 @@ branches! {
     TableLast "a table gets 24 for a last register above 255"
     TableFalling "a table gets 24 for a first register above the last"
     TableMany "a table gets 24 for more than 64 rows"
+    PutRead "a put of status 0 begins"
+    PutEstimated "a put of status 1 begins"
+    PutCorrected "a put of status 2 begins"
+    PutOfThree "a put of status 3 gets 25"
+    StatusIdle "a put of a status above 2 gets 25 on an idle worker"
+    StatusBusy "a put of a status above 2 gets 25 on a busy worker"
+    StatusForbidden "a put of a status above 2 gets 25, and has no right"
+    StatusLarge "a put of a status above 2 and above the limit gets 16"
+    StatusNoRegister "a put of a status above 2 gets 4"
+    StatusNoWorker "a put of a status above 2 gets 3"
+    StatusNotSetUp "a put of a status above 2 gets 8"
+    GetRead "get shows status 0"
+    GetEstimated "get shows status 1"
+    GetCorrected "get shows status 2"
+    GetOther "get shows another status than the version under it has"
+    ReadRead "read (2) shows status 0"
+    ReadEstimated "read (2) shows status 1"
+    ReadCorrected "read (2) shows status 2"
+    ReadOther "read (2) shows another status than the version over it has"
+    MarkedRead "marked read (2) shows status 0"
+    MarkedEstimated "marked read (2) shows status 1"
+    MarkedCorrected "marked read (2) shows status 2"
+    MarkedOther "marked read (2) shows another status than the version over it has"
+    TotalRead "a total shows status 0"
+    TotalEstimated "a total shows status 1"
+    TotalCorrected "a total shows status 2"
+    TotalStatusEarlier "a total shows a larger status than its last row has"
+    TotalStatusLast "a total shows its last row's status, which is larger than all before"
+    TotalOfNothing "a total of no reading at all answers"
 }
 
 impl Branch {
@@ -304,6 +334,19 @@ impl Branch {
             Unfit::Many => Branch::TableMany,
         }
     }
+
+    /// Those of statuses: of puts, and wherever a status is shown.
+    pub fn of_statuses() -> impl Iterator<Item = Branch> {
+        Branch::from_to(Branch::PutRead, Branch::TotalOfNothing)
+    }
+
+    /// Those of the status that a get, a read and a marked read show.
+    pub(crate) const OF_GET_STATUS: [Branch; 4] =
+        [Branch::GetRead, Branch::GetEstimated, Branch::GetCorrected, Branch::GetOther];
+    pub(crate) const OF_READ_STATUS: [Branch; 4] =
+        [Branch::ReadRead, Branch::ReadEstimated, Branch::ReadCorrected, Branch::ReadOther];
+    pub(crate) const OF_MARKED_STATUS: [Branch; 4] =
+        [Branch::MarkedRead, Branch::MarkedEstimated, Branch::MarkedCorrected, Branch::MarkedOther];
 
     /// Those from one to another, both included.
     fn from_to(first: Branch, last: Branch) -> impl Iterator<Item = Branch> {

@@ -12,13 +12,14 @@ use crate::invariant;
 use crate::list::Groups;
 use crate::marks::MARKS;
 use crate::pool::Range;
+use crate::reading::Reading;
 use crate::record::Record;
 use crate::store::{Doing, Store};
 use std::collections::HashSet;
 use std::hash::{BuildHasherDefault, Hasher};
 
-/// The hub to explore: its setup with a list and a table, the values of puts, and how many marks are
-/// used. In each state every record is taken with each of `max_values` as the largest value that a put may
+/// The hub to explore: its setup with a list and a table, the values of puts, each with every status, and
+/// how many marks are used. In each state every record is taken with each of `max_values` as the largest value that a put may
 /// bring.
 #[derive(Clone, Copy, Debug)]
 pub struct Size {
@@ -29,6 +30,7 @@ pub struct Size {
     pub list: &'static [u8],
     pub table: &'static [u8],
     pub values: &'static [u64],
+    pub statuses: &'static [u8],
     pub max_values: &'static [u64],
     pub marks: u8,
 }
@@ -105,7 +107,7 @@ fn store<F: Fault>(hub: &Hub<F>) -> &Store {
     hub.store().expect("set up")
 }
 
-/// Every record whose fields fit, with the values of the alphabet and each largest value. With a list,
+/// Every record whose fields fit, with the values and statuses of the alphabet and each largest value. With a list,
 /// also totals of a group that has no rows; with marks, also mark 12.
 fn alphabet(size: Size, groups: &Groups) -> Vec<(Record, u64)> {
     let last = groups.all().last().map(|row| u16::from(row.group));
@@ -123,8 +125,12 @@ fn alphabet(size: Size, groups: &Groups) -> Vec<(Record, u64)> {
         for register in 0..size.registers {
             records.push(Record::Read { worker, register });
             records.push(Record::Get { worker, register });
-            let put = |&value| Record::Put { worker, register, value };
-            records.extend(size.values.iter().map(put));
+            for (&value, &status) in
+                size.values.iter().flat_map(|value| size.statuses.iter().map(move |s| (value, s)))
+            {
+                let reading = Reading { value, status };
+                records.push(Record::Put { worker, register, reading });
+            }
             records.extend(marks().map(|mark| Record::Marked { worker, register, mark }));
         }
     }
@@ -170,10 +176,11 @@ impl Coder {
         }
     }
 
-    /// There is no reading, or one of the alphabet.
-    fn reading(&self, reading: Option<u64>) -> u8 {
-        let place = |value| self.values.iter().position(|&known| known == value);
-        reading.and_then(place).map_or(0, |place| place as u8 + 1)
+    /// There is no reading, or one of the alphabet. Two bits are for the status.
+    fn reading(&self, reading: Option<Reading>) -> u8 {
+        let Some(Reading { value, status }) = reading else { return 0 };
+        let place = self.values.iter().position(|&known| known == value);
+        place.map_or(0, |place| (place as u8 + 1) << 2 | status & 3)
     }
 
     fn range(&self, range: &Range, code: &mut Vec<u8>) {
@@ -243,8 +250,8 @@ impl Coder {
         let own_version = |own: u16| if self.own_versions { own as u8 } else { Coder::NONE };
         match doing {
             Doing::Idle => code.push(0),
-            Doing::PutPublish { register, value } => {
-                code.extend([1, register as u8, self.reading(Some(value))]);
+            Doing::PutPublish { register, reading } => {
+                code.extend([1, register as u8, self.reading(Some(reading))]);
             }
             Doing::PutStamp { register, covered, own } => {
                 code.extend([2, register as u8, covered as u8, own_version(own)]);
@@ -262,11 +269,11 @@ impl Coder {
             Doing::Get { register } => code.extend([12, register as u8]),
             Doing::Close => code.push(13),
             Doing::TotalStart { place, sum } => {
-                code.extend([14, place.row as u8]);
+                code.extend([14, place.row as u8, place.status]);
                 code.extend(sum.to_le_bytes());
             }
             Doing::TotalAt { slot, place, sum, .. } => {
-                code.extend([15, slot as u8, place.row as u8]);
+                code.extend([15, slot as u8, place.row as u8, place.status]);
                 code.extend(sum.to_le_bytes());
             }
             Doing::FlushMarks => code.push(16),

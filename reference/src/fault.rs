@@ -4,6 +4,7 @@
 //! The right hub has every constant false, so that the variants cost it nothing.
 
 use crate::answer::{Answer, Refusal};
+use crate::reading::{Reading, LAST_STATUS, READ};
 use crate::store::{Doing, Slot, MAX_VALUE};
 
 macro_rules! faults {
@@ -227,6 +228,37 @@ faults! {
     PairUntested PAIR_UNTESTED
     /// A7: accepts a row whose first register is above its last.
     OrderUntested ORDER_UNTESTED
+
+    /// A8: a read, marked read or total takes the status of the version over the one it finds.
+    StatusOfNewer STATUS_OF_NEWER
+    /// A8: a get shows the status of the version under the newest.
+    StatusOfCovered STATUS_OF_COVERED
+    /// A8: a put forgets its status where it is published.
+    PublishLosesStatus PUBLISH_LOSES_STATUS
+    /// A8: a version loses its status where it gets its low.
+    LowLosesStatus LOW_LOSES_STATUS
+    /// A8: a version loses its status where it gets its high.
+    HighLosesStatus HIGH_LOSES_STATUS
+    /// A8: a total shows the last status that it read and not the largest.
+    TotalLastStatus TOTAL_LAST_STATUS
+    /// A8: refuses a put of status 2.
+    CorrectedRefused CORRECTED_REFUSED
+    /// A8: accepts a put of status 3.
+    ThreeAccepted THREE_ACCEPTED
+    /// A8: tests 25 before 16.
+    StatusBeforeValue STATUS_BEFORE_VALUE
+    /// A8: tests 25 after 23.
+    StatusAfterForbidden STATUS_AFTER_FORBIDDEN
+    /// A8: tests 25 after 23 and 10.
+    StatusAfterBusy STATUS_AFTER_BUSY
+    /// A8: sets the worker idle with 25, as 14 and 15 do.
+    StatusIdles STATUS_IDLES
+    /// A8: the row writer tests 25 before 7.
+    RowStatusBeforeBuffer ROW_STATUS_BEFORE_BUFFER
+    /// A8: the row writer finds 25 only after the row is written.
+    RowStatusWritten ROW_STATUS_WRITTEN
+    /// A8: the row writer has the status in byte 3.
+    RowStatusLater ROW_STATUS_LATER
 }
 
 /// The largest value that a put may bring, or what a fault takes for it.
@@ -251,6 +283,33 @@ pub(crate) fn largest_summed<F: Fault>() -> u64 {
     }
 }
 
+/// The last status that a put may give, or what a fault takes for it.
+#[inline(always)]
+pub(crate) fn last_status<F: Fault>() -> u8 {
+    if F::CORRECTED_REFUSED {
+        LAST_STATUS - 1
+    } else if F::THREE_ACCEPTED {
+        LAST_STATUS + 1
+    } else {
+        LAST_STATUS
+    }
+}
+
+/// The largest status that a total has read, with one reading more; or what a fault takes for it.
+#[inline(always)]
+pub(crate) fn largest_status<F: Fault>(before: u8, reading: Option<Reading>) -> u8 {
+    match reading {
+        Some(Reading { status, .. }) if F::TOTAL_LAST_STATUS => status,
+        Some(Reading { status, .. }) => before.max(status),
+        None => before,
+    }
+}
+
+/// Forgets the status of what a slot holds, with a fault.
+pub(crate) fn lose_status(slot: &mut Slot) {
+    slot.reading = slot.reading.map(|reading| Reading { status: READ, ..reading });
+}
+
 /// What a total ends with at a version that holds no reading, with a fault.
 #[inline(always)]
 pub(crate) fn without_reading<F: Fault>(version: &Slot) -> Option<Answer> {
@@ -270,7 +329,9 @@ pub(crate) fn shown<F: Fault>(doing: Doing, answer: Answer, max_value: u64) -> A
         _ => false,
     };
     match answer {
-        Answer::Value(value) if hides => Answer::Value(value.min(max_value)),
+        Answer::Value(reading) if hides => {
+            Answer::value(reading.value.min(max_value), reading.status)
+        }
         answer => answer,
     }
 }

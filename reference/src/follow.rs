@@ -6,6 +6,7 @@ use crate::answer::{Answer, Refusal};
 use crate::fault::Right;
 use crate::list::{Groups, Row};
 use crate::order::{Action, Claim, Held, Operation, Order, Outcome, Step, Violation};
+use crate::reading::LAST_STATUS;
 use crate::record::{Record, LENGTH};
 use crate::rights::{self, permits, Need};
 use std::fmt;
@@ -118,7 +119,9 @@ impl Follower<'_> {
                 return self.set_up(workers, registers, slots, clock, answer);
             }
             Record::Step { worker } => return self.step(worker, answer),
-            Record::Put { worker, register, value } => (worker, Action::Put { register, value }),
+            Record::Put { worker, register, reading } => {
+                (worker, Action::Put { register, reading })
+            }
             Record::Open { worker } => (worker, Action::Open),
             Record::Read { worker, register } => (worker, Action::Read { register }),
             Record::Close { worker } => (worker, Action::Close),
@@ -186,24 +189,7 @@ impl Follower<'_> {
         if state.operation.is_some() {
             return self.unfit(format!("worker {worker} is busy, and begins an operation"));
         }
-        let (register, mark) = match action {
-            Action::Put { register, .. } | Action::Read { register } => (Some(register), None),
-            Action::Get { register } => (Some(register), None),
-            Action::Mark { mark } | Action::Release { mark } => (None, Some(mark)),
-            Action::Marked { register, mark } => (Some(register), Some(mark)),
-            _ => (None, None),
-        };
-        if let Some(register) = register.filter(|&register| register >= self.order.registers) {
-            return self.unfit(format!("register {register} does not exist"));
-        }
-        if let Some(mark) = mark.filter(|&mark| mark > 11) {
-            return self.unfit(format!("mark {mark} does not exist"));
-        }
-        if let Action::Total { group } = action {
-            if self.order.groups.rows(group).is_empty() {
-                return self.unfit(format!("group {group} has no rows"));
-            }
-        }
+        self.test_fields(action)?;
         let Order { registers, groups, .. } = &self.order;
         if !permits(&self.table, worker, need(action), *registers, groups) {
             let sentence = format!("worker {worker} has no right to its {action}, and begins it");
@@ -220,6 +206,35 @@ impl Follower<'_> {
             outcome: Outcome::Unfinished,
             shown: None,
         });
+        Ok(())
+    }
+
+    /// Its register, mark, status and group exist.
+    fn test_fields(&self, action: Action) -> Result<(), Violation> {
+        let (register, mark) = match action {
+            Action::Put { register, .. } | Action::Read { register } => (Some(register), None),
+            Action::Get { register } => (Some(register), None),
+            Action::Mark { mark } | Action::Release { mark } => (None, Some(mark)),
+            Action::Marked { register, mark } => (Some(register), Some(mark)),
+            _ => (None, None),
+        };
+        if let Some(register) = register.filter(|&register| register >= self.order.registers) {
+            return self.unfit(format!("register {register} does not exist"));
+        }
+        if let Some(mark) = mark.filter(|&mark| mark > 11) {
+            return self.unfit(format!("mark {mark} does not exist"));
+        }
+        if let Action::Put { reading, .. } = action {
+            if reading.status > LAST_STATUS {
+                let status = reading.status;
+                return self.unfit(format!("status {status} does not exist, and is put"));
+            }
+        }
+        if let Action::Total { group } = action {
+            if self.order.groups.rows(group).is_empty() {
+                return self.unfit(format!("group {group} has no rows"));
+            }
+        }
         Ok(())
     }
 

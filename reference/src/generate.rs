@@ -9,6 +9,7 @@ use crate::list::{Groups, GROUPS};
 use crate::log;
 use crate::marks::MARKS;
 use crate::profile::{Marking, Profile, Weights};
+use crate::reading::{Reading, LAST_STATUS};
 use crate::record::{Record, LAST_OPERATION, LENGTH};
 use crate::rights::Need;
 use crate::store::{Doing, Store, MAX_REGISTERS, MAX_SLOTS, MAX_VALUE, MAX_WORKERS};
@@ -112,10 +113,13 @@ pub enum Kind {
     Empty,
     /// Tables of rights, three in ten of them unfit, and records that they forbid.
     Rights,
+    /// Puts of statuses above 2, often with another reason to be refused; gets, reads and totals of all
+    /// statuses.
+    Statuses,
 }
 
 impl Kind {
-    pub const ALL: [(Kind, &'static str); 22] = [
+    pub const ALL: [(Kind, &'static str); 23] = [
         (Kind::Uniform, "uniform"),
         (Kind::Mixed, "mixed"),
         (Kind::Slots, "slots"),
@@ -138,6 +142,7 @@ impl Kind {
         (Kind::Held, "held"),
         (Kind::Empty, "empty"),
         (Kind::Rights, "rights"),
+        (Kind::Statuses, "statuses"),
     ];
 
     /// The kind with this name.
@@ -178,6 +183,9 @@ impl Script {
 /// Tables are drawn from numbers of their own: a script without one is as if there were none.
 const TABLES: u64 = 0x00a7_0000_0000_0000;
 
+/// So are statuses: all else is as if there were none.
+const STATUSES: u64 = 0x00a8_0000_0000_0000;
+
 /// A script of `count` records, the last one maybe short.
 pub fn script(kind: Kind, seed: u64, count: usize) -> Script {
     script_across(kind, seed, count, 0)
@@ -194,7 +202,8 @@ pub fn script_across(kind: Kind, seed: u64, count: usize, before: usize) -> Scri
         file.extend((0..count * LENGTH).map(|_| random.bits() as u8));
         (any(&mut random), any(&mut rights))
     } else {
-        let mut writer = Writer::new(kind, &mut random, &mut rights);
+        let statuses = Random::new(seed ^ (kind as u64) << 56 ^ STATUSES);
+        let mut writer = Writer::new(kind, &mut random, &mut rights, statuses);
         writer.write(&mut file, count, before, &mut random);
         (writer.list, writer.table)
     };
@@ -222,12 +231,14 @@ struct Writer {
     groups: Vec<u16>,
     /// The marks that are used are below this.
     marks: u64,
+    /// What the statuses of puts are drawn from.
+    statuses: Random,
     /// For each worker, up to which record it is still.
     still: [usize; MAX_WORKERS],
 }
 
 impl Writer {
-    fn new(kind: Kind, random: &mut Random, rights: &mut Random) -> Writer {
+    fn new(kind: Kind, random: &mut Random, rights: &mut Random, statuses: Random) -> Writer {
         let profile = Profile::of(kind);
         let mut from = |(low, high)| random.between(low, high);
         let (workers, registers) = (from(profile.workers), from(profile.registers));
@@ -255,6 +266,7 @@ impl Writer {
             table,
             groups: (0..GROUPS as u16).filter(|&group| !rows.rows(group).is_empty()).collect(),
             marks,
+            statuses,
             still: [0; MAX_WORKERS],
         }
     }
@@ -364,7 +376,11 @@ impl Writer {
         ];
         let register = random.below(self.registers) as u16;
         match random.weighted(&weights) {
-            0 => Record::Put { worker, register, value: value(self.hub.max_value, random) },
+            0 => {
+                let value = value(self.hub.max_value, random);
+                let reading = Reading { value, status: any_status(&mut self.statuses) };
+                Record::Put { worker, register, reading }
+            }
             1 => Record::Open { worker },
             2 => Record::Read { worker, register },
             3 => Record::Close { worker },
@@ -423,11 +439,16 @@ impl Writer {
             return self.any_setup(random).encode();
         }
         let record = if random.chance(self.profile.large) {
-            Record::Put { worker, register, value: large(random) }
+            let reading = Reading { value: large(random), status: self.large_status() };
+            Record::Put { worker, register, reading }
         } else {
             match random.below(13) {
                 0 => self.any_setup(random),
-                1 => Record::Put { worker, register, value: value(self.hub.max_value, random) },
+                1 => {
+                    let value = value(self.hub.max_value, random);
+                    let reading = Reading { value, status: any_status(&mut self.statuses) };
+                    Record::Put { worker, register, reading }
+                }
                 2 => Record::Open { worker },
                 3 => Record::Read { worker, register },
                 4 => Record::Close { worker },
@@ -445,14 +466,37 @@ impl Writer {
                 }
             }
         };
-        let mut bytes = record.encode();
-        // Half of these only meet the state, busy or idle, a time or none, and the limit.
+        let mut bytes = self.of_status(record, worker, register).encode();
+        // Half of these only meet the state, busy or idle, a time or none, the limit and the status.
         if random.chance(500) {
             for _ in 0..random.between(1, 3) {
                 self.spoil(&mut bytes, random);
             }
         }
         bytes
+    }
+
+    /// The status of a put above the limit: often one above 2.
+    fn large_status(&mut self) -> u8 {
+        let above = self.statuses.chance(400);
+        if above {
+            no_status(&mut self.statuses)
+        } else {
+            any_status(&mut self.statuses)
+        }
+    }
+
+    /// This record, or in its turn a put of a status above 2, with the record's value if it has one.
+    fn of_status(&mut self, record: Record, worker: u8, register: u16) -> Record {
+        if !self.statuses.chance(self.profile.status) {
+            return record;
+        }
+        let value = match record {
+            Record::Put { reading, .. } => reading.value,
+            _ => value(self.hub.max_value, &mut self.statuses),
+        };
+        let reading = Reading { value, status: no_status(&mut self.statuses) };
+        Record::Put { worker, register, reading }
     }
 
     /// Gives a record one more reason to be refused.
@@ -499,6 +543,21 @@ fn value(max_value: u64, random: &mut Random) -> u64 {
         2 => 0,
         3..7 if max_value > MAX_VALUE => large(random),
         _ => random.between(1, 999_999),
+    }
+}
+
+/// A status: every second one is 0.
+fn any_status(random: &mut Random) -> u8 {
+    random.pick(&[0, 0, 1, 2])
+}
+
+/// A status above 2: the next one, with one bit more than a status, the largest, or any.
+fn no_status(random: &mut Random) -> u8 {
+    match random.below(4) {
+        0 => LAST_STATUS + 1,
+        1 => random.pick(&[4, 5, 6, 8, 16, 32, 64, 128, 129, 130]),
+        2 => u8::MAX,
+        _ => random.between(u64::from(LAST_STATUS) + 1, 255) as u8,
     }
 }
 

@@ -5,18 +5,19 @@ use crate::answer::{Answer, Refusal};
 use crate::invariant::{ensure, holds, list, slot};
 use crate::list::Row;
 use crate::marks::MARKS;
+use crate::reading::{Reading, LAST_STATUS, READ};
 use crate::record::Record;
 use crate::rights::{permits, Need};
-use crate::store::{Doing, Slot, Store, LAST_CLOCK, MAX_VALUE};
+use crate::store::{Doing, Store, LAST_CLOCK, MAX_VALUE};
 
-/// The plain registers and copies, kept up by watching the store before and after each record. A
-/// register starts without a value.
+/// The plain registers and copies, values with their statuses, kept up by watching the store before and
+/// after each record. A register starts without a value.
 #[derive(Clone, Debug, PartialEq, Eq)]
 pub struct Ghost {
-    pub registers: Vec<Option<u64>>,
-    pub copies: Vec<Option<Vec<Option<u64>>>>,
+    pub registers: Vec<Option<Reading>>,
+    pub copies: Vec<Option<Vec<Option<Reading>>>>,
     /// What each mark keeps: a time and the copy of the worker that had it.
-    pub marks: Vec<Option<(u32, Vec<Option<u64>>)>>,
+    pub marks: Vec<Option<(u32, Vec<Option<Reading>>)>>,
     /// The register that a worker's read or marked read under way is of.
     pub reading: Vec<Option<u16>>,
 }
@@ -43,7 +44,8 @@ impl Ghost {
         after: &Store,
     ) -> Result<(), String> {
         let Record::Step { worker } = record else {
-            return self.check_begin(before, record, max_value, answer);
+            self.check_begin(before, record, max_value, answer)?;
+            return check_put(record, answer, after);
         };
         let w = usize::from(worker);
         let doing = before.workers[w].doing;
@@ -65,10 +67,15 @@ impl Ghost {
             (Doing::Idle, answer) => {
                 ensure!(answer == Answer::No(Refusal::Idle), "an idle worker's step: {answer:?}");
             }
-            (Doing::PutPublish { .. }, answer) => {
+            (Doing::PutPublish { register, reading }, answer) => {
                 let full = before.free.is_empty();
                 let expected = if full { Answer::No(Refusal::NoFreeSlot) } else { Answer::Going };
                 ensure!(answer == expected, "14 is not exact: {answer:?}");
+                let newest = slot(after, after.newest[usize::from(register)]).reading;
+                ensure!(
+                    full || newest == Some(reading),
+                    "a put publishes {newest:?}, not {reading:?}"
+                );
             }
             (Doing::OpenAnnounce, answer) => {
                 let last = before.clock == LAST_CLOCK;
@@ -91,18 +98,20 @@ impl Ghost {
                 ensure!(answer == Answer::Going, "a total's step (1): {answer:?}");
             }
             (Doing::TotalAt { slot: at, place, .. }, answer) => {
-                let Slot { reading, low, .. } = *slot(before, at);
+                let version = slot(before, at);
+                let low = version.low;
                 let found = low.is_some() && low <= before.workers[w].announced;
-                let large = reading > Some(MAX_VALUE);
+                let large = version.is_above(MAX_VALUE);
                 let expected = if !found || !large && place.left > 0 {
                     Answer::Going
                 } else if large {
                     Answer::No(Refusal::Summand)
                 } else {
                     let group = before.groups.row(place).group;
-                    Answer::total(self.sum(w, before.groups.rows(u16::from(group)))?)
+                    let (sum, status) = self.sum(w, before.groups.rows(u16::from(group)))?;
+                    Answer::total(sum, status)
                 };
-                ensure!(answer == expected, "a total: {answer:?}, not {expected:?}");
+                ensure!(answer == expected, "a total: {answer}, not {expected}");
             }
             (Doing::Mark { .. } | Doing::Release { .. } | Doing::MarkedStart { .. }, answer) => {
                 self.follow_mark(before, w, answer)?;
@@ -170,22 +179,21 @@ impl Ghost {
         }
     }
 
-    /// The sum of these rows over the worker's copy, a register without a value as 0. The values of a
-    /// total that has not met 18 are within the limit.
-    fn sum(&self, w: usize, rows: &[Row]) -> Result<i64, String> {
+    /// The sum of these rows over the worker's copy, a register without a value as 0, and their largest
+    /// status. The values of a total that has not met 18 are within the limit.
+    fn sum(&self, w: usize, rows: &[Row]) -> Result<(i64, u8), String> {
         let copy = self.copies[w].as_ref().ok_or("a total without a copy")?;
-        let signed = |row: &Row| {
-            let value = copy[usize::from(row.register)].unwrap_or(0) as i64;
-            if row.minus {
-                -value
-            } else {
-                value
-            }
-        };
-        Ok(rows.iter().map(signed).sum())
+        let (mut sum, mut largest) = (0, READ);
+        for Row { register, minus, .. } in rows {
+            let Some(Reading { value, status }) = copy[usize::from(*register)] else { continue };
+            sum += if *minus { -(value as i64) } else { value as i64 };
+            largest = largest.max(status);
+        }
+        Ok((sum, largest))
     }
 
-    /// The sum so far of a worker's total is that of the rows before its place, over the copy.
+    /// The sum and the status so far of a worker's total are those of the rows before its place, over
+    /// the copy.
     fn check_sum(&self, store: &Store, w: usize) -> Result<(), String> {
         let (place, sum) = match store.workers[w].doing {
             Doing::TotalStart { place, sum } | Doing::TotalAt { place, sum, .. } => (place, sum),
@@ -196,7 +204,8 @@ impl Ghost {
         let taken = taken.ok_or(format!("worker {w}: {} rows left", place.left))?;
         ensure!(rows[taken] == store.groups.row(place), "worker {w}: a row of another place");
         let expected = self.sum(w, &rows[..taken])?;
-        ensure!(sum == expected, "worker {w}: {sum} so far, not {expected}");
+        let so_far = (sum, place.status);
+        ensure!(so_far == expected, "worker {w}: {so_far:?} so far, not {expected:?}");
         Ok(())
     }
 
@@ -257,7 +266,10 @@ impl Ghost {
             Record::Setup { .. } | Record::Step { .. } => return Ok(()),
         };
         let state = &before.workers[usize::from(worker)];
-        let too_large = matches!(record, Record::Put { value, .. } if value > max_value);
+        let put = match record {
+            Record::Put { reading, .. } => reading,
+            _ => Reading::default(),
+        };
         let no_rows =
             matches!(record, Record::Total { group, .. } if before.groups.rows(group).is_empty());
         let marking = match record {
@@ -273,8 +285,10 @@ impl Ghost {
         let permitted = permits(rows, worker, Need::of(record), registers, &before.groups);
         let expected = if no_mark {
             Answer::No(Refusal::Register)
-        } else if too_large {
+        } else if put.value > max_value {
             Answer::No(Refusal::Value)
+        } else if put.status > LAST_STATUS {
+            Answer::No(Refusal::Status)
         } else if no_rows {
             Answer::No(Refusal::Group)
         } else if !permitted {
@@ -294,10 +308,19 @@ impl Ghost {
     }
 }
 
+/// A put that begins has the reading of its record.
+fn check_put(record: Record, answer: Answer, after: &Store) -> Result<(), String> {
+    let Record::Put { worker, register, reading } = record else { return Ok(()) };
+    let begun = Doing::PutPublish { register, reading };
+    let doing = after.workers[usize::from(worker)].doing;
+    ensure!(answer != Answer::Ok || doing == begun, "a put begins with {doing:?}, not {begun:?}");
+    Ok(())
+}
+
 /// For each register there is one version whose range holds the time, and it has the copied reading.
-fn check_copy(store: &Store, time: u32, copy: &[Option<u64>]) -> Result<(), String> {
+fn check_copy(store: &Store, time: u32, copy: &[Option<Reading>]) -> Result<(), String> {
     for (register, &copied) in copy.iter().enumerate() {
-        let held: Vec<Option<u64>> = list(store, register)?
+        let held: Vec<Option<Reading>> = list(store, register)?
             .iter()
             .filter(|&&s| holds(slot(store, s), time))
             .map(|&s| slot(store, s).reading)

@@ -80,7 +80,7 @@ impl<F: Fault, O: Observer> Hub<F, O> {
     }
 
     /// Takes one record's bytes, with the list that is lent with them. Refusals on reading come in the
-    /// order 6, 1, 2, 8 or 9, 5, 3, 4 or 17, 16, 23, then 10 or 11, then 12 or 13, then 19, 20 or 21.
+    /// order 6, 1, 2, 8 or 9, 5, 3, 4 or 17, 16, 25, 23, then 10 or 11, then 12 or 13, then 19, 20 or 21.
     #[inline]
     pub fn take(&mut self, bytes: &[u8], list: &[u8]) -> Answer {
         match Record::decode(bytes) {
@@ -93,11 +93,13 @@ impl<F: Fault, O: Observer> Hub<F, O> {
     #[inline]
     pub fn take_record(&mut self, record: Record, list: &[u8]) -> Answer {
         if F::LARGE_NOT_SET_UP {
-            let large = Some(self.max_value);
-            self.store.take_if(|store| store.slots.iter().any(|slot| slot.reading > large));
+            let max_value = self.max_value;
+            self.store.take_if(|store| store.slots.iter().any(|slot| slot.is_above(max_value)));
         }
         let result = match (&mut self.store, record) {
-            (_, Record::Put { value, .. }) if F::VALUE_FIRST && value > self.max_value => {
+            (_, Record::Put { reading, .. })
+                if F::VALUE_FIRST && reading.value > self.max_value =>
+            {
                 Err(Refusal::Value)
             }
             (Some(store), record) => store.take::<F, O>(record, self.max_value, &mut self.observer),

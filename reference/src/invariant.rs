@@ -2,6 +2,7 @@
 //! each record.
 
 use crate::pool::Range;
+use crate::reading::LAST_STATUS;
 use crate::store::{Doing, Slot, Store, LAST_CLOCK};
 
 /// Fails with a sentence unless the condition holds.
@@ -65,7 +66,8 @@ pub fn check(store: &Store) -> Result<(), String> {
     (0..store.workers.len()).try_for_each(|w| check_worker(store, w, &home))
 }
 
-/// Readings, lows and highs of one list, newest first. Only what setup wrote holds no reading.
+/// Readings, lows and highs of one list, newest first. Only what setup wrote holds no reading, and no
+/// status is above 2.
 fn check_versions(store: &Store, versions: &[u16]) -> Result<(), String> {
     let newest = slot(store, versions[0]);
     ensure!(newest.high.is_none(), "a newest version has a high");
@@ -76,6 +78,8 @@ fn check_versions(store: &Store, versions: &[u16]) -> Result<(), String> {
         let Slot { reading, low, .. } = *slot(store, index);
         ensure!(reading.is_none() == (low == Some(0)), "slot {index}: {reading:?} from {low:?}");
         ensure!(reading.is_some() || place == versions.len(), "slot {index} covers another");
+        let status = reading.map_or(0, |reading| reading.status);
+        ensure!(status <= LAST_STATUS, "slot {index}: status {status}");
     }
     let mut unstamped_above = newest.low.is_none();
     for pair in versions.windows(2) {
@@ -190,6 +194,10 @@ fn check_worker(store: &Store, w: usize, home: &[Option<usize>]) -> Result<(), S
     let announced = || store.workers.iter().filter_map(|worker| worker.announced);
     let times = || announced().chain(store.marks.iter().flatten().copied());
     match worker.doing {
+        Doing::PutPublish { reading, .. } => {
+            let status = reading.status;
+            ensure!(status <= LAST_STATUS, "worker {w}: puts status {status}");
+        }
         Doing::FlushFree { .. } => {
             ensure!(worker.local.is_empty(), "worker {w}: a pool after the split");
             for range in in_hand(store, w) {

@@ -1,5 +1,5 @@
 //! An independent reading of document 01 and of the requests of document 02 that have landed (A1 to
-//! A3 and A5 to A7): the hub's snapshot store, its log, its rows, and the tools that check them.
+//! A3 and A5 to A8): the hub's snapshot store, its log, its rows, and the tools that check them.
 //!
 //! Each module has one topic. `hub` answers records over the `store`; `steps`, `flush` and `marks`
 //! are what its workers do. `order` is the checker of demand 3 and shares no code with them;
@@ -29,6 +29,7 @@ pub mod order;
 pub mod plot;
 pub mod pool;
 mod profile;
+pub mod reading;
 pub mod record;
 pub mod rights;
 mod rights_asked;
@@ -43,4 +44,5 @@ pub mod workload;
 
 pub use answer::{Answer, Refusal};
 pub use hub::Hub;
+pub use reading::Reading;
 pub use record::Record;

@@ -2,6 +2,7 @@
 //! subtracts.
 
 use crate::fault::Fault;
+use crate::reading::READ;
 use std::fmt;
 
 /// Bytes in a row: group, sign, register.
@@ -92,11 +93,13 @@ impl Tests {
     }
 }
 
-/// Where a total is: at this row of the list, with so many of its group after it.
+/// Where a total is: at this row of the list, with so many of its group after it, and with the largest
+/// status that it has read before it.
 #[derive(Clone, Copy, Debug, PartialEq, Eq)]
 pub struct Place {
     pub row: u16,
     pub left: u8,
+    pub status: u8,
 }
 
 impl Place {
@@ -104,7 +107,7 @@ impl Place {
     #[inline]
     pub fn next(self) -> Option<Place> {
         let left = self.left.checked_sub(1)?;
-        Some(Place { row: self.row + 1, left })
+        Some(Place { row: self.row + 1, left, ..self })
     }
 }
 
@@ -181,7 +184,7 @@ impl Groups {
             end = end.max(self.bounds(group + 1).1);
         }
         let left = (end - row).checked_sub(1)?;
-        Some(Place { row, left: left as u8 })
+        Some(Place { row, left: left as u8, status: READ })
     }
 
     /// The row at a place.

@@ -53,8 +53,8 @@ impl Sentences {
             false => "",
         };
         let words = format!(
-            "what {showing} finds in plain registers, which are fed the operations in this \
-             order{without}"
+            "the value and status that {showing} finds in plain registers, which are fed the \
+             operations in this order{without}"
         );
         wrapped("  plain registers show  ", 24, &words)
     }

@@ -4,6 +4,7 @@ use crate::answer::{Answer, Refusal};
 use crate::coverage::Observer;
 use crate::fault::Fault;
 use crate::hub::Hub;
+use crate::reading::Reading;
 use crate::record;
 use std::io::{self, Read, Write};
 
@@ -58,6 +59,19 @@ fn append_number(text: &mut Vec<u8>, mut number: u64) {
     text.extend_from_slice(&digits[start..]);
 }
 
+/// Appends these words, the value, a space and the status.
+fn append_reading(text: &mut Vec<u8>, words: &[u8], Reading { value, status }: Reading) {
+    text.extend_from_slice(words);
+    append_number(text, value);
+    match status {
+        ..10 => text.extend_from_slice(&[b' ', b'0' + status]),
+        _ => {
+            text.push(b' ');
+            append_number(text, status.into());
+        }
+    }
+}
+
 /// Appends an answer's words; `Display` has the same, more slowly.
 #[inline]
 pub fn append_answer(text: &mut Vec<u8>, answer: Answer) {
@@ -68,8 +82,8 @@ pub fn append_answer(text: &mut Vec<u8>, answer: Answer) {
         Answer::None => return text.extend_from_slice(b"none"),
         Answer::Freed(slot) => (b"freed ", u64::from(slot)),
         Answer::At(time) => (b"at ", u64::from(time)),
-        Answer::Value(value) => (b"value ", value),
-        Answer::Minus(below) => (b"value -", below),
+        Answer::Value(reading) => return append_reading(text, b"value ", reading),
+        Answer::Minus(below) => return append_reading(text, b"value -", below),
         Answer::No(refusal) => (b"no ", u64::from(refusal.number())),
     };
     text.extend_from_slice(words);
@@ -102,10 +116,18 @@ pub fn parse_answer(words: &str) -> Option<Answer> {
             "none" => Answer::None,
             _ => return None,
         },
-        Some(("value", number)) => match number.strip_prefix('-') {
-            Some(below) => Answer::Minus(parse_number(below).filter(|&below| below > 0)?),
-            None => Answer::Value(parse_number(number)?),
-        },
+        Some(("value", shown)) => {
+            let (number, status) = shown.split_once(' ')?;
+            let status = parse_number(status)?.try_into().ok()?;
+            let reading = |value| Reading { value, status };
+            match number.strip_prefix('-') {
+                Some(below) => {
+                    let below = parse_number(below).filter(|&below| below > 0)?;
+                    Answer::Minus(reading(below))
+                }
+                None => Answer::Value(reading(parse_number(number)?)),
+            }
+        }
         Some((word, number)) => {
             let number = parse_number(number)?;
             match word {

@@ -3,7 +3,7 @@
 use crate::answer::{Answer, Refusal};
 use crate::coverage::{Branch, Observer};
 use crate::fault::Fault;
-use crate::observe::observe_reading;
+use crate::observe::{observe_reading, observe_status};
 use crate::rights::Need;
 use crate::store::{Doing, Store};
 
@@ -161,7 +161,7 @@ impl Store {
             seen.branch(Branch::MarkedEmptyAtStep);
             return (Doing::Idle, Answer::No(Refusal::MarkEmpty));
         };
-        let stamped = self.stamp(register);
+        let stamped = self.stamp::<F>(register);
         seen.branch(if stamped { Branch::MarkedStamps } else { Branch::MarkedStampedAlready });
         let slot = self.newest[usize::from(register)];
         (Doing::MarkedAt { slot, first: true, mark, time }, Answer::Going)
@@ -188,7 +188,12 @@ impl Store {
                 [Branch::MarkedNone, Branch::MarkedNoneSince, Branch::MarkedZero],
                 seen,
             );
-            return (Doing::Idle, self.shown::<F>(slot, F::MARKED_ZERO));
+            if O::ON {
+                let over = self.neighbour(version.newer);
+                observe_status(version.reading, over, Branch::OF_MARKED_STATUS, seen);
+            }
+            let other = version.newer.filter(|_| F::STATUS_OF_NEWER);
+            return (Doing::Idle, self.shown::<F>(slot, F::MARKED_ZERO, other));
         }
         seen.branch(Branch::MarkedMoves);
         // As in read (2), there is an older version.

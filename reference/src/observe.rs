@@ -1,12 +1,14 @@
-//! What an observer is told of the tests that a record meets on reading: of puts above A1's limit,
-//! totals, lists, marks and, in `rights_asked`, rights; and of what is found where a reading is looked for.
+//! What an observer is told of the tests that a record meets on reading: of puts above A1's limit or of a
+//! status above 2, totals, lists, marks and, in `rights_asked`, rights; and of what is found where a reading
+//! is looked for, and with which status.
 
 use crate::answer::{Answer, Refusal};
 use crate::coverage::{Branch, Observer};
 use crate::fault::{Fault, Right};
 use crate::hub::Hub;
-use crate::list::{Groups, Row, Unfit, GROUPS, MAX_LENGTH, MAX_ROWS};
+use crate::list::{Groups, Place, Row, Unfit, GROUPS, MAX_LENGTH, MAX_ROWS};
 use crate::marks::MARKS;
+use crate::reading::{Reading, LAST_STATUS};
 use crate::record::Record;
 use crate::rights_asked::Asked;
 use crate::store::{Doing, Slot, Store};
@@ -22,8 +24,66 @@ pub(crate) fn observe_reading<O: Observer>(
     match version.reading {
         None if version.newer.is_some() => seen.branch(since),
         None => seen.branch(none),
-        Some(0) => seen.branch(zero),
+        Some(Reading { value: 0, .. }) => seen.branch(zero),
         Some(_) => {}
+    }
+}
+
+/// Tells the status that a get, a read or a marked read shows, by these branches: one for each status,
+/// and one where the version over it, for a get the one under it, has another.
+pub(crate) fn observe_status<O: Observer>(
+    reading: Option<Reading>,
+    beside: Option<Reading>,
+    [read, estimated, corrected, other]: [Branch; 4],
+    seen: &mut O,
+) {
+    let Some(Reading { status, .. }) = reading else { return };
+    seen.branch([read, estimated, corrected][usize::from(status.min(LAST_STATUS))]);
+    if beside.is_some_and(|beside| beside.status != status) {
+        seen.branch(other);
+    }
+}
+
+impl Store {
+    /// Tells what a total answers: its sign, its status and where that comes from.
+    pub(crate) fn observe_sum<O: Observer>(
+        &self,
+        w: usize,
+        sum: i64,
+        last: Option<Reading>,
+        place: Place,
+        seen: &mut O,
+    ) {
+        seen.branch(match sum {
+            ..0 => Branch::TotalBelow0,
+            0 => Branch::Total0,
+            _ => Branch::TotalAbove0,
+        });
+        let (before, own) = (place.status, last.map_or(0, |last| last.status));
+        let statuses = [Branch::TotalRead, Branch::TotalEstimated, Branch::TotalCorrected];
+        seen.branch(statuses[usize::from(before.max(own).min(LAST_STATUS))]);
+        let rows = self.groups.rows(self.groups.row(place).group.into());
+        if before > own {
+            seen.branch(Branch::TotalStatusEarlier);
+        } else if before < own && rows.len() > 1 {
+            seen.branch(Branch::TotalStatusLast);
+        }
+        if rows.iter().all(|row| self.at_time(row.register, self.workers[w].announced).is_none()) {
+            seen.branch(Branch::TotalOfNothing);
+        }
+    }
+
+    /// What a register holds at a time.
+    fn at_time(&self, register: u16, time: Option<u32>) -> Option<Reading> {
+        let mut next = Some(self.newest[usize::from(register)]);
+        while let Some(slot) = next {
+            let version = &self.slots[usize::from(slot)];
+            if version.low.is_some() && version.low <= time {
+                return version.reading;
+            }
+            next = version.older;
+        }
+        None
     }
 }
 
@@ -32,7 +92,10 @@ impl<F: Fault, O: Observer> Hub<F, O> {
     pub(crate) fn observe(&mut self, record: Record, list: &[u8], result: Result<Answer, Refusal>) {
         self.observe_right(record, result);
         match record {
-            Record::Put { worker, value, .. } => self.observe_put(worker, value, result),
+            Record::Put { worker, reading: Reading { value, status }, .. } => {
+                self.observe_put(worker, value, result);
+                self.observe_put_status(worker, value, status, result);
+            }
             Record::Total { worker, group } => self.observe_total(worker, group, result),
             Record::Setup { .. } => self.observe_setup(record, list, result),
             Record::Mark { worker, mark } => self.observe_mark(worker, mark, result),
@@ -121,6 +184,33 @@ impl<F: Fault, O: Observer> Hub<F, O> {
             Err(Refusal::Register) if value > self.max_value => Branch::LargeNoRegister,
             Err(Refusal::Worker) if value > self.max_value => Branch::LargeNoWorker,
             Err(Refusal::NotSetUp) if value > self.max_value => Branch::LargeNotSetUp,
+            Err(_) => return,
+        });
+    }
+
+    /// Which status a put begins with, and which test one above 2 meets first.
+    fn observe_put_status(
+        &mut self,
+        worker: u8,
+        value: u64,
+        status: u8,
+        result: Result<Answer, Refusal>,
+    ) {
+        let busy = self.busy(worker);
+        if result == Err(Refusal::Status) && status == LAST_STATUS + 1 {
+            self.observer.branch(Branch::PutOfThree);
+        }
+        self.observer.branch(match result {
+            Ok(_) if status == 0 => Branch::PutRead,
+            Ok(_) if status == 1 => Branch::PutEstimated,
+            Ok(_) => Branch::PutCorrected,
+            Err(_) if status <= LAST_STATUS => return,
+            Err(Refusal::Status) if busy => Branch::StatusBusy,
+            Err(Refusal::Status) => Branch::StatusIdle,
+            Err(Refusal::Value) if value > self.max_value => Branch::StatusLarge,
+            Err(Refusal::Register) => Branch::StatusNoRegister,
+            Err(Refusal::Worker) => Branch::StatusNoWorker,
+            Err(Refusal::NotSetUp) => Branch::StatusNotSetUp,
             Err(_) => return,
         });
     }

@@ -6,12 +6,13 @@
 use crate::answer::{Answer, Refusal};
 use crate::follow::follow;
 use crate::list::{Groups, Row};
+use crate::reading::{Reading, Shown, CORRECTED, ESTIMATED, READ};
 use std::fmt;
 
 /// What an operation does. `Marked` is a marked read.
 #[derive(Clone, Copy, Debug, PartialEq, Eq)]
 pub enum Action {
-    Put { register: u16, value: u64 },
+    Put { register: u16, reading: Reading },
     Open,
     Read { register: u16 },
     Close,
@@ -25,8 +26,13 @@ pub enum Action {
 
 impl fmt::Display for Action {
     fn fmt(&self, f: &mut fmt::Formatter) -> fmt::Result {
-        match self {
-            Action::Put { register, value } => write!(f, "put of {value} to register {register}"),
+        match *self {
+            Action::Put { register, reading: Reading { value, status } } => match status {
+                READ => write!(f, "put of {value} to register {register}"),
+                ESTIMATED => write!(f, "put of {value}, estimated, to register {register}"),
+                CORRECTED => write!(f, "put of {value}, corrected, to register {register}"),
+                _ => write!(f, "put of {value}, status {status}, to register {register}"),
+            },
             Action::Open => write!(f, "open"),
             Action::Read { register } => write!(f, "read of register {register}"),
             Action::Close => write!(f, "close"),
@@ -63,9 +69,10 @@ pub struct Operation {
     /// The record of its effect in the order, if it had one.
     pub effect: Option<usize>,
     pub outcome: Outcome,
-    /// The value that the plain registers show for a get, read, marked read or total in the order;
-    /// none before its register's first put, and none without a copy to look into.
-    pub shown: Option<i128>,
+    /// What the plain registers show for a get, read, marked read or total in the order: a value and
+    /// its status, for a total the sum and the largest status; none before its register's first put,
+    /// and none without a copy to look into.
+    pub shown: Option<Shown>,
 }
 
 /// In a sentence.
@@ -107,6 +114,21 @@ impl Operation {
             (Action::Total { .. }, Answer::None) => false,
             (_, Answer::Value(_) | Answer::Minus(_) | Answer::None) => answer.shown() == self.shown,
             _ => false,
+        }
+    }
+
+    /// What an answer breaks that does not say what they show: the value, or with that value the
+    /// status.
+    fn why_not(&self, answer: Answer) -> (Claim, String) {
+        match (answer.shown(), self.shown) {
+            (Some(said), Some(Shown { value, status })) if said.value == value => {
+                let why = match self.action {
+                    Action::Total { .. } => format!("the largest status is {status}"),
+                    _ => format!("the put of {value} has status {status}"),
+                };
+                (Claim::Status, why)
+            }
+            _ => (Claim::Value, format!("{} is shown", self.shown_words())),
         }
     }
 
@@ -182,7 +204,7 @@ impl fmt::Display for Order {
 
 impl Order {
     /// What breaks the order as it stands: an operation that stands there too often or not at all,
-    /// one that stands before an earlier one, or a value that is not shown.
+    /// one that stands before an earlier one, or a value or a status that is not shown.
     pub fn violation(&self) -> Option<Violation> {
         let found = [check_once(self), check_between(self), check_values(self)];
         found.into_iter().filter_map(Result::err).min_by_key(|found| found.record)
@@ -198,8 +220,10 @@ pub enum Claim {
     Once,
     /// An operation that ended before another began stands before it.
     Between,
-    /// The X in `value X` equals what is shown, and `none` is answered exactly where no value is.
+    /// The X in `value X S` equals what is shown, and `none` is answered exactly where no value is.
     Value,
+    /// So does the S: it is of the same put as X, and for a total the largest.
+    Status,
     /// No version that an open snapshot or a held mark needs is freed.
     NeededFreed,
     /// Between two `freed S` a put took that slot.
@@ -289,12 +313,13 @@ fn check_between(order: &Order) -> Result<(), Violation> {
     Ok(())
 }
 
-/// Plain registers, or a copy of them. Each register starts without a value.
-type Registers = Vec<Option<u64>>;
+/// Plain registers, or a copy of them: what a put brought, value and status. Each register starts
+/// without a value.
+type Registers = Vec<Option<Reading>>;
 
 /// What a register shows in a copy: no value before its first put, and none without a copy.
-fn shown_in(copy: Option<&Registers>, register: u16) -> Option<i128> {
-    copy.and_then(|copy| copy[usize::from(register)]).map(i128::from)
+fn shown_in(copy: Option<&Registers>, register: u16) -> Option<Shown> {
+    copy.and_then(|copy| copy[usize::from(register)]).map(Shown::from)
 }
 
 /// Feeds the plain registers in the order and keeps what they show.
@@ -307,7 +332,9 @@ fn replay(order: &mut Order) {
         let operation = &mut operations[index];
         let copy = &mut copies[usize::from(operation.worker)];
         match operation.action {
-            Action::Put { register, value } => registers[usize::from(register)] = Some(value),
+            Action::Put { register, reading } => {
+                registers[usize::from(register)] = Some(reading);
+            }
             Action::Open => *copy = Some(registers.clone()),
             Action::Close => *copy = None,
             Action::Collect => {}
@@ -325,26 +352,29 @@ fn replay(order: &mut Order) {
     }
 }
 
-/// The sum over a copy: the registers of the rows with a plus, less those with a minus. A register
-/// without a value adds 0.
-fn total(rows: &[Row], copy: &[Option<u64>]) -> i128 {
+/// The sum over a copy: the registers of the rows with a plus, less those with a minus; and the largest
+/// status among them, 0 without one. A register without a value adds 0 and has no status.
+fn total(rows: &[Row], copy: &[Option<Reading>]) -> Shown {
+    let read = |row: &Row| copy[usize::from(row.register)];
     let of = |minus: bool| -> i128 {
         let rows = rows.iter().filter(|row| row.minus == minus);
-        rows.filter_map(|row| copy[usize::from(row.register)]).map(i128::from).sum()
+        rows.filter_map(read).map(|reading| i128::from(reading.value)).sum()
     };
-    of(false) - of(true)
+    let statuses = rows.iter().filter_map(read).map(|reading| reading.status);
+    Shown { value: of(false) - of(true), status: statuses.max().unwrap_or(READ) }
 }
 
-/// Every finished get, read, marked read and total answers what is shown: `none` where no value is.
+/// Every finished get, read, marked read and total answers what is shown: `none` where no value is, and
+/// with a value the status of the same put, or the largest of a total.
 fn check_values(order: &Order) -> Result<(), Violation> {
     for &index in &order.sequence {
         let operation = &order.operations[index];
         if let (true, Outcome::Finished { record, answer }) = (operation.shows(), operation.outcome)
         {
             if !operation.answered_by(answer) {
-                let shown = operation.shown_words();
-                let sentence = format!("{operation} answers `{answer}` where {shown} is shown");
-                return Err(Violation { record, claim: Claim::Value, sentence });
+                let (claim, why) = operation.why_not(answer);
+                let sentence = format!("{operation} answers `{answer}` where {why}");
+                return Err(Violation { record, claim, sentence });
             }
         }
     }

@@ -47,6 +47,8 @@ pub struct Profile {
     pub setup: u64,
     /// Puts above the limit among the rest of them.
     pub large: u64,
+    /// Puts of a status above 2 in place of others of them.
+    pub status: u64,
     /// A busy worker falls still after a step.
     pub stall: u64,
     /// A read falls still after a step.
@@ -69,6 +71,7 @@ const MIXED: Profile = Profile {
     invalid: 20,
     setup: 5,
     large: 100,
+    status: 50,
     stall: 10,
     stall_read: 30,
     stillness: 200,
@@ -240,6 +243,20 @@ impl Profile {
                 total: 20,
                 marking: Marking { mark: 16, release: 8, marked: 16, marks: (1, 4) },
                 invalid: 150,
+                ..MIXED
+            },
+            Kind::Statuses => Profile {
+                workers: (2, 5),
+                registers: (1, 4),
+                spare: (4, 24),
+                list: Habit { missing: 20, unfit: 10, groups: (1, 4), rows: (1, 6) },
+                table: tables::Habit { missing: 400, unfit: 100 },
+                weights: Weights { put: 30, open: 14, read: 16, close: 8, get: 16, collect: 8 },
+                total: 20,
+                marking: Marking { mark: 8, release: 3, marked: 14, marks: (1, 4) },
+                invalid: 200,
+                large: 300,
+                status: 700,
                 ..MIXED
             },
         }

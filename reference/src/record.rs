@@ -1,6 +1,7 @@
 //! Records of sixteen bytes: decoding with the refusals 6, 1 and 2, encoding.
 
 use crate::answer::{Answer, Refusal};
+use crate::reading::Reading;
 
 /// Bytes in a record.
 pub const LENGTH: usize = 16;
@@ -9,11 +10,11 @@ pub const LENGTH: usize = 16;
 pub const LAST_OPERATION: u8 = 11;
 
 /// A record whose bytes are well formed. Whether its fields fit the hub is the hub's question.
-/// `Marked` is a marked read.
+/// `Marked` is a marked read; a put may have any status.
 #[derive(Clone, Copy, Debug, PartialEq, Eq, Hash)]
 pub enum Record {
     Setup { workers: u8, registers: u16, slots: u16, clock: u32 },
-    Put { worker: u8, register: u16, value: u64 },
+    Put { worker: u8, register: u16, reading: Reading },
     Open { worker: u8 },
     Read { worker: u8, register: u16 },
     Close { worker: u8 },
@@ -32,7 +33,7 @@ const UNUSED: [(u64, u64); LAST_OPERATION as usize + 1] = {
     const WORKER_REGISTER: (u64, u64) = (!0xffff_ffff, !0);
     [
         (!0xffff_ffff_ffff, !0xffff_ffff), // setup: bytes 0 to 5 and 8 to 11
-        (!0xffff_ffff, 0),                 // put: bytes 0 to 3 and 8 to 15
+        (!0xff_ffff_ffff, 0),              // put: bytes 0 to 4 and 8 to 15
         WORKER_ONLY,                       // open
         WORKER_REGISTER,                   // read
         WORKER_ONLY,                       // close
@@ -71,7 +72,10 @@ impl Record {
                 slots: (first >> 32) as u16,
                 clock: second as u32,
             },
-            1 => Record::Put { worker, register, value: second },
+            1 => {
+                let reading = Reading { value: second, status: (first >> 32) as u8 };
+                Record::Put { worker, register, reading }
+            }
             2 => Record::Open { worker },
             3 => Record::Read { worker, register },
             4 => Record::Close { worker },
@@ -94,7 +98,8 @@ impl Record {
                 bytes[8..12].copy_from_slice(&clock.to_le_bytes());
                 (0, workers, registers)
             }
-            Record::Put { worker, register, value } => {
+            Record::Put { worker, register, reading: Reading { value, status } } => {
+                bytes[4] = status;
                 bytes[8..].copy_from_slice(&value.to_le_bytes());
                 (1, worker, register)
             }

@@ -30,6 +30,7 @@ impl Asked<'_> {
         match result {
             Err(Refusal::Forbidden) => self.observe_forbidden(seen),
             Err(Refusal::Value) if !permitted => seen.branch(Branch::LargeForbidden),
+            Err(Refusal::Status) if !permitted => seen.branch(Branch::StatusForbidden),
             Err(Refusal::Register) if !permitted => {
                 let of_register = matches!(self.need, Need::Put(_) | Need::Read(_));
                 if of_register {

@@ -2,6 +2,7 @@
 
 use crate::answer::Refusal;
 use crate::fault::{Fault, Right};
+use crate::reading::{Reading, LAST_STATUS};
 
 /// Bytes in a row.
 pub const LENGTH: usize = 16;
@@ -19,13 +20,13 @@ pub enum Written {
 
 /// Writes the row of `register` into `buffer`, starting at byte 16 × register.
 ///
-/// Tests 4, then 7, then whether there is a reading, and where one of them fails leaves the buffer
-/// untouched. Other bytes keep their contents.
+/// Tests 4, then 7, then 25 for a status above 2, then whether there is a reading, and where one of them
+/// fails leaves the buffer untouched. Other bytes keep their contents.
 pub fn write_row(
     buffer: &mut [u8],
     register: u16,
     time: u32,
-    reading: Option<u64>,
+    reading: Option<Reading>,
 ) -> Result<Written, Refusal> {
     write_row_with::<Right>(buffer, register, time, reading)
 }
@@ -35,8 +36,9 @@ pub fn write_row_with<F: Fault>(
     buffer: &mut [u8],
     register: u16,
     time: u32,
-    reading: Option<u64>,
+    reading: Option<Reading>,
 ) -> Result<Written, Refusal> {
+    let no_status = reading.is_some_and(|reading| reading.status > LAST_STATUS);
     if F::ROW_NONE_FIRST && reading.is_none() {
         return Ok(Written::None);
     }
@@ -46,14 +48,24 @@ pub fn write_row_with<F: Fault>(
     if F::ROW_NONE_BEFORE_BUFFER && reading.is_none() {
         return Ok(Written::None);
     }
+    if F::ROW_STATUS_BEFORE_BUFFER && no_status {
+        return Err(Refusal::Status);
+    }
     let start = LENGTH * usize::from(register);
     let row = buffer.get_mut(start..start + LENGTH).ok_or(Refusal::Buffer)?;
-    let Some(value) = reading.or(F::ROW_OF_NONE.then_some(0)) else {
+    if no_status && !F::ROW_STATUS_WRITTEN {
+        return Err(Refusal::Status);
+    }
+    let none = F::ROW_OF_NONE.then_some(Reading::read(0));
+    let Some(Reading { value, status }) = reading.or(none) else {
         return Ok(Written::None);
     };
     row[0..2].copy_from_slice(&register.to_le_bytes());
-    row[2..4].fill(0);
+    row[2..4].copy_from_slice(&if F::ROW_STATUS_LATER { [0, status] } else { [status, 0] });
     row[4..8].copy_from_slice(&time.to_le_bytes());
     row[8..16].copy_from_slice(&value.to_le_bytes());
+    if no_status {
+        return Err(Refusal::Status);
+    }
     Ok(if reading.is_some() { Written::Row } else { Written::None })
 }

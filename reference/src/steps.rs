@@ -6,38 +6,46 @@ use crate::coverage::{Branch, Observer};
 use crate::fault::{self, Fault};
 use crate::flush;
 use crate::list::Place;
-use crate::observe::observe_reading;
+use crate::observe::{observe_reading, observe_status};
 use crate::pool::Range;
+use crate::reading::{Reading, READ};
 use crate::store::{Doing, Slot, Store, LAST_CLOCK};
 
 impl Store {
     /// Document 01's *stamp*: if the newest version has no low, sets that low and the next older
     /// version's high to the clock. Says whether it did.
     #[inline]
-    pub(crate) fn stamp(&mut self, register: u16) -> bool {
+    pub(crate) fn stamp<F: Fault>(&mut self, register: u16) -> bool {
         let newest = &mut self.slots[usize::from(self.newest[usize::from(register)])];
         if newest.low.is_some() {
             return false;
         }
         newest.low = Some(self.clock);
+        if F::LOW_LOSES_STATUS {
+            fault::lose_status(newest);
+        }
         if let Some(older) = newest.older {
-            self.slots[usize::from(older)].high = Some(self.clock);
+            let covered = &mut self.slots[usize::from(older)];
+            covered.high = Some(self.clock);
+            if F::HIGH_LOSES_STATUS {
+                fault::lose_status(covered);
+            }
         }
         true
     }
 
     /// Put (1).
-    pub(crate) fn put_publish<O: Observer>(
+    pub(crate) fn put_publish<F: Fault, O: Observer>(
         &mut self,
         register: u16,
-        value: u64,
+        reading: Reading,
         seen: &mut O,
     ) -> (Doing, Answer) {
         let Some(own) = self.free.pop() else {
             seen.branch(Branch::PutRefused);
             return (Doing::Idle, Answer::No(Refusal::NoFreeSlot));
         };
-        let stamped = self.stamp(register);
+        let stamped = self.stamp::<F>(register);
         seen.branch(if stamped {
             Branch::PutPublishStamps
         } else {
@@ -45,13 +53,17 @@ impl Store {
         });
         let covered = std::mem::replace(&mut self.newest[usize::from(register)], own);
         self.slots[usize::from(covered)].newer = Some(own);
-        self.slots[usize::from(own)] =
-            Slot { reading: Some(value), low: None, high: None, older: Some(covered), newer: None };
+        let slot = &mut self.slots[usize::from(own)];
+        let (reading, older) = (Some(reading), Some(covered));
+        *slot = Slot { reading, low: None, high: None, older, newer: None };
+        if F::PUBLISH_LOSES_STATUS {
+            fault::lose_status(slot);
+        }
         (Doing::PutStamp { register, covered, own }, Answer::Going)
     }
 
     /// Put (2).
-    pub(crate) fn put_stamp<O: Observer>(
+    pub(crate) fn put_stamp<F: Fault, O: Observer>(
         &mut self,
         register: u16,
         covered: u16,
@@ -60,7 +72,7 @@ impl Store {
     ) -> (Doing, Answer) {
         if self.slots[usize::from(covered)].high.is_none() {
             seen.branch(Branch::PutStamps);
-            self.stamp(register);
+            self.stamp::<F>(register);
         } else if O::ON {
             let newest = self.newest[usize::from(register)];
             seen.branch(if self.slots[usize::from(newest)].low.is_none() {
@@ -129,28 +141,45 @@ impl Store {
     }
 
     /// Read (1).
-    pub(crate) fn read_start<O: Observer>(
+    pub(crate) fn read_start<F: Fault, O: Observer>(
         &mut self,
         register: u16,
         seen: &mut O,
     ) -> (Doing, Answer) {
-        let stamped = self.stamp(register);
+        let stamped = self.stamp::<F>(register);
         seen.branch(if stamped { Branch::ReadStamps } else { Branch::ReadStampedAlready });
         let slot = self.newest[usize::from(register)];
         (Doing::ReadAt { slot, first: true }, Answer::Going)
     }
 
     /// What a get, a read or a marked read answers at a version, or what a fault takes for it: one
-    /// that shows 0 where there is no reading says so by `zero`.
+    /// that shows 0 where there is no reading says so by `zero`, one that shows another slot's status
+    /// by that slot.
     #[inline(always)]
-    pub(crate) fn shown<F: Fault>(&self, slot: u16, zero: bool) -> Answer {
+    pub(crate) fn shown<F: Fault>(&self, slot: u16, zero: bool, other: Option<u16>) -> Answer {
         let version = &self.slots[usize::from(slot)];
         match version.reading {
-            None if zero || F::NONE_BY_REGISTER && version.newer.is_some() => Answer::Value(0),
-            Some(0) if F::ZERO_NONE => Answer::None,
+            None if zero || F::NONE_BY_REGISTER && version.newer.is_some() => {
+                Answer::value(0, READ)
+            }
+            Some(Reading { value: 0, .. }) if F::ZERO_NONE => Answer::None,
             Some(_) if F::NONE_BY_SLOT && usize::from(slot) < self.newest.len() => Answer::None,
-            reading => Answer::reading(reading),
+            reading => Answer::reading(self.with_status(reading, other)),
         }
+    }
+
+    /// This reading; where a fault names a slot, with the status of the reading there.
+    #[inline(always)]
+    fn with_status(&self, reading: Option<Reading>, slot: Option<u16>) -> Option<Reading> {
+        match slot.and_then(|slot| self.slots[usize::from(slot)].reading) {
+            Some(Reading { status, .. }) => reading.map(|own| Reading { status, ..own }),
+            None => reading,
+        }
+    }
+
+    /// What a neighbour of a version holds; only an observer asks.
+    pub(crate) fn neighbour(&self, slot: Option<u16>) -> Option<Reading> {
+        slot.and_then(|slot| self.slots[usize::from(slot)].reading)
     }
 
     /// Read (2).
@@ -170,7 +199,12 @@ impl Store {
                 [Branch::ReadNone, Branch::ReadNoneSince, Branch::ReadZero],
                 seen,
             );
-            return (Doing::Idle, self.shown::<F>(slot, F::READ_ZERO));
+            if O::ON {
+                let over = self.neighbour(version.newer);
+                observe_status(version.reading, over, Branch::OF_READ_STATUS, seen);
+            }
+            let other = version.newer.filter(|_| F::STATUS_OF_NEWER);
+            return (Doing::Idle, self.shown::<F>(slot, F::READ_ZERO, other));
         }
         seen.branch(Branch::ReadMoves);
         // In the right hub there always is an older version here.
@@ -184,11 +218,13 @@ impl Store {
         register: u16,
         seen: &mut O,
     ) -> (Doing, Answer) {
-        let stamped = self.stamp(register);
+        let stamped = self.stamp::<F>(register);
         seen.branch(if stamped { Branch::GetStamps } else { Branch::GetStampedAlready });
         let newest = self.newest[usize::from(register)];
+        let version = &self.slots[usize::from(newest)];
         if O::ON || F::FIRST_PUT_NONE {
-            let version = &self.slots[usize::from(newest)];
+            let under = self.neighbour(version.older);
+            observe_status(version.reading, under, Branch::OF_GET_STATUS, seen);
             observe_reading(version, [Branch::GetNone, Branch::GetNone, Branch::GetZero], seen);
             let covered = version.older.map(|older| self.slots[usize::from(older)]);
             if stamped && covered.is_some_and(|covered| covered.reading.is_none()) {
@@ -198,18 +234,19 @@ impl Store {
                 }
             }
         }
-        (Doing::Idle, self.shown::<F>(newest, F::GET_ZERO))
+        let other = version.older.filter(|_| F::STATUS_OF_COVERED);
+        (Doing::Idle, self.shown::<F>(newest, F::GET_ZERO, other))
     }
 
     /// Total (1) of a row: as read (1).
-    pub(crate) fn total_start<O: Observer>(
+    pub(crate) fn total_start<F: Fault, O: Observer>(
         &mut self,
         place: Place,
         sum: i64,
         seen: &mut O,
     ) -> (Doing, Answer) {
         let register = self.groups.row(place).register;
-        let stamped = self.stamp(register);
+        let stamped = self.stamp::<F>(register);
         seen.branch(if stamped { Branch::TotalStamps } else { Branch::TotalStampedAlready });
         let slot = self.newest[usize::from(register)];
         (Doing::TotalAt { slot, first: true, place, sum }, Answer::Going)
@@ -242,33 +279,38 @@ impl Store {
         if let Some(answer) = fault::without_reading::<F>(version) {
             return (Doing::Idle, answer);
         }
-        self.total_found::<F, O>(version.reading, place, sum, seen)
+        let other = version.newer.filter(|_| F::STATUS_OF_NEWER);
+        self.total_found::<F, O>(w, self.with_status(version.reading, other), place, sum, seen)
     }
 
-    /// The rest of total (2), where the version is found: one without a reading adds 0.
+    /// The rest of total (2), where the version is found: one without a reading adds 0 and has no
+    /// status.
     #[inline]
     fn total_found<F: Fault, O: Observer>(
         &self,
-        reading: Option<u64>,
+        w: usize,
+        reading: Option<Reading>,
         place: Place,
         sum: i64,
         seen: &mut O,
     ) -> (Doing, Answer) {
-        let value = reading.unwrap_or(0);
+        let value = reading.map_or(0, |reading| reading.value);
         if value > fault::largest_summed::<F>() {
             seen.branch(if place.left == 0 { Branch::LargeLast } else { Branch::LargeEarlier });
             return (Doing::Idle, Answer::No(Refusal::Summand));
         }
         let sum = self.sum::<F>(place, sum, value as i64);
+        let status = fault::largest_status::<F>(place.status, reading);
         match place.next() {
-            Some(place) => (Doing::TotalStart { place, sum }, Answer::Going),
+            Some(next) => {
+                let place = Place { status, ..next };
+                (Doing::TotalStart { place, sum }, Answer::Going)
+            }
             None => {
-                seen.branch(match sum {
-                    ..0 => Branch::TotalBelow0,
-                    0 => Branch::Total0,
-                    _ => Branch::TotalAbove0,
-                });
-                (Doing::Idle, Answer::total(sum))
+                if O::ON {
+                    self.observe_sum(w, sum, reading, place, seen);
+                }
+                (Doing::Idle, Answer::total(sum, status))
             }
         }
     }

@@ -7,6 +7,7 @@ use crate::flush;
 use crate::list::{Groups, Place};
 use crate::marks::MARKS;
 use crate::pool::{batch_size, Queue, Range, MAX_BATCH};
+use crate::reading::Reading;
 use crate::record::Record;
 use crate::rights::{Need, Rights};
 
@@ -26,13 +27,20 @@ pub const LAST_CLOCK: u32 = u32::MAX;
 #[derive(Clone, Copy, Debug, Default, PartialEq, Eq)]
 pub struct Slot {
     /// What its put brought; none where it is from setup (A5).
-    pub reading: Option<u64>,
+    pub reading: Option<Reading>,
     /// None: unset, between publishing and stamping.
     pub low: Option<u32>,
     /// None: open, above every time.
     pub high: Option<u32>,
     pub older: Option<u16>,
     pub newer: Option<u16>,
+}
+
+impl Slot {
+    /// Does it hold a value above this?
+    pub fn is_above(&self, value: u64) -> bool {
+        self.reading.is_some_and(|reading| reading.value > value)
+    }
 }
 
 /// What a worker is doing: nothing, or one operation with its place in it.
@@ -43,7 +51,7 @@ pub enum Doing {
     /// Put (1).
     PutPublish {
         register: u16,
-        value: u64,
+        reading: Reading,
     },
     /// Put (2). `own` is the put's own version; only a fault looks at it.
     PutStamp {
@@ -220,8 +228,8 @@ impl Store {
         match record {
             Record::Step { worker } => return self.step::<F, O>(worker, max_value, seen),
             Record::Setup { .. } => return Err(Refusal::SetUp),
-            Record::Put { worker, register, value } => {
-                self.begin_put::<F>(worker, register, value, max_value)
+            Record::Put { worker, register, reading } => {
+                self.begin_put::<F>(worker, register, reading, max_value)
             }
             Record::Open { worker } => {
                 self.begin::<F>(worker, 0, Need::Nothing, Doing::OpenAnnounce)
@@ -286,29 +294,42 @@ impl Store {
         Ok(worker)
     }
 
-    /// Begins a put: 16 stands between 4 and 23.
+    /// Begins a put: 16 and then 25 stand between 4 and 23.
     fn begin_put<F: Fault>(
         &mut self,
         worker: u8,
         register: u16,
-        value: u64,
+        reading: Reading,
         max_value: u64,
     ) -> Result<(), Refusal> {
+        let Reading { value, status } = reading;
         let tested = if F::SIX_BYTES { value & 0xffff_ffff_ffff } else { value };
         let too_large = tested > fault::largest::<F>(max_value);
         if F::VALUE_BEFORE_REGISTER && too_large && self.worker_for(worker, 0).is_ok() {
             return Err(Refusal::Value);
         }
         let need = Need::Put(register);
-        let allowed = self.rights.allow(worker, need) || !F::FORBIDDEN_BEFORE_VALUE;
+        let later = F::STATUS_AFTER_FORBIDDEN || F::STATUS_AFTER_BUSY;
+        // Only faults ask here; `begin` tests 23 and 10.
+        let forbidden = (F::FORBIDDEN_BEFORE_VALUE || later) && !self.rights.allow(worker, need);
         let state = self.worker_for(worker, register)?;
-        if too_large && allowed && !(F::VALUE_AFTER_BUSY && state.doing != Doing::Idle) {
+        let busy = state.doing != Doing::Idle;
+        let no_status = status > fault::last_status::<F>();
+        let first = F::STATUS_BEFORE_VALUE && no_status;
+        let value_later = F::FORBIDDEN_BEFORE_VALUE && forbidden || F::VALUE_AFTER_BUSY && busy;
+        if too_large && !first && !value_later {
             if F::VALUE_IDLES {
                 state.doing = Doing::Idle;
             }
             return Err(Refusal::Value);
         }
-        self.begin::<F>(worker, register, need, Doing::PutPublish { register, value })
+        if no_status && !forbidden && !(F::STATUS_AFTER_BUSY && busy) {
+            if F::STATUS_IDLES {
+                state.doing = Doing::Idle;
+            }
+            return Err(Refusal::Status);
+        }
+        self.begin::<F>(worker, register, need, Doing::PutPublish { register, reading })
     }
 
     /// Begins a total: 17 stands where 4 does.
@@ -335,7 +356,7 @@ impl Store {
     /// Has a register of the group a newest value above this? Only a fault asks.
     fn sums_above(&self, group: u16, value: u64) -> bool {
         let newest = |register: u16| self.slots[usize::from(self.newest[usize::from(register)])];
-        self.groups.rows(group).iter().any(|row| newest(row.register).reading > Some(value))
+        self.groups.rows(group).iter().any(|row| newest(row.register).is_above(value))
     }
 
     /// Begins an operation: 3, 4, 23, 10, then 12 or 13, else the worker is busy with it.
@@ -370,15 +391,17 @@ impl Store {
         let doing = self.workers.get(w).ok_or(Refusal::Worker)?.doing;
         let (next, answer) = match doing {
             Doing::Idle => return Err(Refusal::Idle),
-            Doing::PutPublish { value, .. } if F::VALUE_AT_STEP && value > max_value => {
+            Doing::PutPublish { reading, .. } if F::VALUE_AT_STEP && reading.value > max_value => {
                 (Doing::Idle, Answer::No(Refusal::Value))
             }
             Doing::FlushFree { next } if F::LARGE_KEPT && self.frees_above(w, next, max_value) => {
                 (Doing::FlushFree { next: next + 1 }, Answer::Going)
             }
-            Doing::PutPublish { register, value } => self.put_publish(register, value, seen),
+            Doing::PutPublish { register, reading } => {
+                self.put_publish::<F, O>(register, reading, seen)
+            }
             Doing::PutStamp { register, covered, own } => {
-                self.put_stamp(register, covered, own, seen)
+                self.put_stamp::<F, O>(register, covered, own, seen)
             }
             Doing::PutHandIn { covered, own } => self.put_hand_in::<F, O>(w, covered, own, seen),
             Doing::FlushTake => self.flush_take::<F, O>(w, seen),
@@ -388,11 +411,11 @@ impl Store {
             Doing::FlushFree { next } => self.flush_free::<F, O>(w, next, seen),
             Doing::OpenAnnounce => self.open_announce(w, seen),
             Doing::OpenPass => self.open_pass(w, seen),
-            Doing::ReadStart { register } => self.read_start(register, seen),
+            Doing::ReadStart { register } => self.read_start::<F, O>(register, seen),
             Doing::ReadAt { slot, first } => self.read_at::<F, O>(w, slot, first, seen),
             Doing::Get { register } => self.get::<F, O>(register, seen),
             Doing::Close => self.close::<F, O>(w, seen),
-            Doing::TotalStart { place, sum } => self.total_start(place, sum, seen),
+            Doing::TotalStart { place, sum } => self.total_start::<F, O>(place, sum, seen),
             Doing::TotalAt { slot, first, place, sum } => {
                 self.total_at::<F, O>(w, (slot, first), place, sum, seen)
             }
@@ -412,6 +435,6 @@ impl Store {
     /// Is a flush about to free a version with a value above this? Only a fault asks.
     fn frees_above(&self, w: usize, next: u16, value: u64) -> bool {
         let range = self.workers[w].merged.get(usize::from(next));
-        range.is_some_and(|range| self.slots[usize::from(range.slot)].reading > Some(value))
+        range.is_some_and(|range| self.slots[usize::from(range.slot)].is_above(value))
     }
 }

@@ -5,7 +5,7 @@
 //!
 //! ```text
 //! setup P V N CLOCK
-//! put WORKER REGISTER VALUE
+//! put WORKER REGISTER VALUE [STATUS]
 //! open WORKER
 //! read WORKER REGISTER
 //! close WORKER
@@ -21,7 +21,9 @@
 //!
 //! `bytes` gives a record by its bytes, fewer than sixteen only as the last command. Unpacking writes
 //! it for a record that its bytes alone refuse, with 6, 1 or 2, and the reason as a comment. A put
-//! of any value is a `put`: whether it gets 16 or a refusal before that is the hub's question.
+//! of any value and status is a `put`: whether it gets 16, 25 or a refusal before them is the hub's
+//! question. A status is `read`, `estimated`, `corrected` or a number from 0 to 255; without one it is
+//! `read`. Unpacking leaves `read` out and has numbers from 3 on.
 //!
 //! A list has one row a line, with comments and blank lines as above:
 //!
@@ -48,6 +50,7 @@
 use crate::answer::Refusal;
 use crate::fault::Right;
 use crate::list::{self, Row, Tests, Unfit};
+use crate::reading::{Reading, CORRECTED, ESTIMATED, READ};
 use crate::record::{Record, LENGTH};
 use crate::rights;
 use crate::store::MAX_REGISTERS;
@@ -129,11 +132,10 @@ fn append_command(file: &mut Vec<u8>, words: &[&str]) -> Result<(), String> {
             slots: number(slots, "number of slots")?,
             clock: number(clock, "clock")?,
         },
-        ["put", worker, register, value] => Record::Put {
-            worker: number(worker, "worker")?,
-            register: number(register, "register")?,
-            value: number(value, "value")?,
-        },
+        ["put", worker, register, value] => put(worker, register, value, READ)?,
+        ["put", worker, register, value, status] => {
+            put(worker, register, value, status_of(status)?)?
+        }
         ["open", worker] => Record::Open { worker: number(worker, "worker")? },
         ["read", worker, register] => Record::Read {
             worker: number(worker, "worker")?,
@@ -174,6 +176,27 @@ fn append_command(file: &mut Vec<u8>, words: &[&str]) -> Result<(), String> {
     let bytes = record.encode();
     (0..repeat).for_each(|_| file.extend_from_slice(&bytes));
     Ok(())
+}
+
+fn put(worker: &str, register: &str, value: &str, status: u8) -> Result<Record, String> {
+    Ok(Record::Put {
+        worker: number(worker, "worker")?,
+        register: number(register, "register")?,
+        reading: Reading { value: number(value, "value")?, status },
+    })
+}
+
+/// The statuses with their words.
+const STATUSES: [(u8, &str); 3] =
+    [(READ, "read"), (ESTIMATED, "estimated"), (CORRECTED, "corrected")];
+
+/// The status of a word or a number.
+fn status_of(word: &str) -> Result<u8, String> {
+    let named = STATUSES.iter().find(|(_, name)| *name == word).map(|&(status, _)| status);
+    let number = || decimal(word).and_then(|number| u8::try_from(number).ok());
+    named.or_else(number).ok_or_else(|| {
+        format!("status {word:?} is not read, estimated, corrected or a number from 0 to 255")
+    })
 }
 
 /// Appends one row's bytes.
@@ -289,7 +312,7 @@ fn hex_bytes(words: &[&str], length: usize, what: &str) -> Result<Vec<u8>, Strin
 fn usage(name: &str) -> String {
     let form = match name {
         "setup" => "setup P V N CLOCK",
-        "put" => "put WORKER REGISTER VALUE",
+        "put" => "put WORKER REGISTER VALUE [STATUS]",
         "open" => "open WORKER",
         "read" => "read WORKER REGISTER",
         "close" => "close WORKER",
@@ -339,8 +362,13 @@ fn write_command(text: &mut String, record: Record) -> fmt::Result {
         Record::Setup { workers, registers, slots, clock } => {
             writeln!(text, "setup {workers} {registers} {slots} {clock}")
         }
-        Record::Put { worker, register, value } => {
-            writeln!(text, "put {worker} {register} {value}")
+        Record::Put { worker, register, reading: Reading { value, status } } => {
+            write!(text, "put {worker} {register} {value}")?;
+            match STATUSES.iter().find(|&&(known, _)| known == status) {
+                Some((READ, _)) => writeln!(text),
+                Some((_, name)) => writeln!(text, " {name}"),
+                None => writeln!(text, " {status}"),
+            }
         }
         Record::Open { worker } => writeln!(text, "open {worker}"),
         Record::Read { worker, register } => writeln!(text, "read {worker} {register}"),

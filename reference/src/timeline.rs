@@ -7,6 +7,7 @@
 
 use crate::answer::Answer;
 use crate::order::{Action, Operation, Order, Outcome, Violation};
+use crate::reading::{Reading, READ};
 use std::collections::BTreeSet;
 use std::fmt::{self, Display, Formatter};
 
@@ -368,27 +369,30 @@ fn classes(action: Action) -> &'static str {
     }
 }
 
-/// An operation in few letters.
+/// An operation in few letters; a put's status is left out where it is read.
 fn label(operation: &Operation) -> String {
     let kind = kind(operation.action);
     match operation.action {
         Action::Total { group } => format!("{kind} g{group}"),
         Action::Mark { mark } | Action::Release { mark } => format!("{kind} m{mark}"),
         Action::Marked { register, mark } => format!("{kind} r{register} m{mark}"),
-        Action::Put { register, value } => format!("{kind} r{register} = {value}"),
+        Action::Put { register, reading: Reading { value, status } } => match status {
+            READ => format!("{kind} r{register} = {value}"),
+            _ => format!("{kind} r{register} = {value} {status}"),
+        },
         Action::Read { register } | Action::Get { register } => format!("{kind} r{register}"),
         Action::Open | Action::Close | Action::Collect => kind.to_string(),
     }
 }
 
-/// The class and the words of its answer: none for `done`, and with a wrong value also what plain
-/// registers show.
+/// The class and the words of its answer: none for `done`, of a value the number and its status, and
+/// with a wrong one also what plain registers show.
 fn answer(operation: &Operation) -> (&'static str, String) {
     match operation.answer() {
         None | Some(Answer::Done) => ("answer", String::new()),
         Some(answer @ Answer::No(_)) => ("answer wrong", answer.to_string()),
         Some(answer) => {
-            let words = answer.shown().map_or(answer.to_string(), |value| value.to_string());
+            let words = answer.shown().map_or(answer.to_string(), |shown| shown.to_string());
             match operation.shows() && !operation.answered_by(answer) {
                 false => ("answer", words),
                 true => ("answer wrong", format!("{words} \u{2260} {}", operation.shown_words())),

@@ -6,6 +6,7 @@ use crate::hub::Hub;
 use crate::list::{GROUPS, MAX_ROWS};
 use crate::lists::Habit;
 use crate::marks::MARKS;
+use crate::reading::{Reading, CORRECTED, ESTIMATED, READ};
 use crate::record::{Record, LENGTH};
 use crate::store::{Doing, Store, MAX_REGISTERS, MAX_SLOTS, MAX_WORKERS};
 use std::collections::VecDeque;
@@ -409,9 +410,20 @@ impl Records {
     /// Puts a put on every register ahead.
     fn put_everywhere(&mut self, worker: u8) {
         for register in 0..self.store().newest.len() as u16 {
-            let value = self.random.between(1, 999_999);
-            self.whole(Record::Put { worker, register, value }, worker);
+            let reading = self.reading();
+            self.whole(Record::Put { worker, register, reading }, worker);
         }
+    }
+
+    /// A random value; of sixteen one is estimated and one corrected.
+    fn reading(&mut self) -> Reading {
+        let value = self.random.between(1, 999_999);
+        let status = match value % 16 {
+            1 => ESTIMATED,
+            2 => CORRECTED,
+            _ => READ,
+        };
+        Reading { value, status }
     }
 
     fn idle(&self, worker: u8) -> bool {
@@ -442,7 +454,8 @@ impl Records {
         let register = self.random.below(self.store().newest.len() as u64) as u16;
         match self.random.weighted(&weights) {
             0 if self.slot_left() => {
-                Record::Put { worker, register, value: self.random.between(1, 999_999) }
+                let reading = self.reading();
+                Record::Put { worker, register, reading }
             }
             1 => Record::Open { worker },
             2 => Record::Read { worker, register },

@@ -6,7 +6,7 @@ use common::{hub_after, last, no, run, store};
 use reference::fault::Right;
 use reference::pool::{batch_size, merge, Range, Split};
 use reference::row::{write_row, Written};
-use reference::{Answer, Hub, Refusal};
+use reference::{Answer, Hub, Reading, Refusal};
 
 #[test]
 fn setups_in_and_outside_the_ranges() {
@@ -172,17 +172,17 @@ fn a_put_published_at_5_and_stamped_at_6() {
     assert_eq!(last(&mut hub, "step 0"), Answer::Going);
     // The older version is from setup, without a reading.
     assert_eq!(last(&mut hub, "step 0"), Answer::None);
-    assert_eq!(last(&mut hub, "get 0 0\n step 0"), Answer::Value(7));
+    assert_eq!(last(&mut hub, "get 0 0\n step 0"), Answer::value(7, 0));
 }
 
 #[test]
 fn rows() {
     let mut short = [0xaa; 15];
-    assert_eq!(write_row(&mut short, 0, 1, Some(2)), Err(Refusal::Buffer));
+    assert_eq!(write_row(&mut short, 0, 1, Some(Reading::read(2))), Err(Refusal::Buffer));
     assert_eq!(short, [0xaa; 15]);
     let mut buffer = [0xaa; 16];
-    let value = 0x0807_0605_0403_0201;
-    assert_eq!(write_row(&mut buffer, 0, 0x0403_0201, Some(value)), Ok(Written::Row));
+    let reading = Some(Reading::read(0x0807_0605_0403_0201));
+    assert_eq!(write_row(&mut buffer, 0, 0x0403_0201, reading), Ok(Written::Row));
     assert_eq!(buffer, [0, 0, 0, 0, 1, 2, 3, 4, 1, 2, 3, 4, 5, 6, 7, 8]);
 }
 
@@ -191,14 +191,15 @@ fn rows_keep_other_bytes() {
     for register in [0, 1, 7, 255] {
         let start = 16 * usize::from(register);
         let mut buffer = vec![0xaa; 16 * 256 + 5];
-        assert_eq!(write_row(&mut buffer, register, u32::MAX, Some(u64::MAX)), Ok(Written::Row));
+        let reading = Some(Reading::read(u64::MAX));
+        assert_eq!(write_row(&mut buffer, register, u32::MAX, reading), Ok(Written::Row));
         let row = &buffer[start..start + 16];
         assert_eq!(row[..4], [register as u8, 0, 0, 0]);
         assert_eq!(row[4..], [0xff; 12]);
         buffer[start..start + 16].fill(0xaa);
         assert!(buffer.iter().all(|&byte| byte == 0xaa));
         let mut short = vec![0xaa; start + 15];
-        assert_eq!(write_row(&mut short, register, 1, Some(1)), Err(Refusal::Buffer));
+        assert_eq!(write_row(&mut short, register, 1, reading), Err(Refusal::Buffer));
         assert!(short.iter().all(|&byte| byte == 0xaa));
     }
 }
@@ -208,7 +209,8 @@ fn rows_test_4_then_7() {
     for register in [256, 257, 65535] {
         for length in [0, 15, 16 * 300, 16 * 65536] {
             let mut buffer = vec![0xaa; length];
-            assert_eq!(write_row(&mut buffer, register, 1, Some(1)), Err(Refusal::Register));
+            let answer = write_row(&mut buffer, register, 1, Some(Reading::read(1)));
+            assert_eq!(answer, Err(Refusal::Register));
             assert!(buffer.iter().all(|&byte| byte == 0xaa));
         }
     }

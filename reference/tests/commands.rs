@@ -117,7 +117,7 @@ fn the_sample_of_totals_has_its_log() {
     let rows = file("stairwell", &rows.stdout);
     let log = run(HUBLOG, &[rows.to_str().unwrap()], &packed.stdout).stdout;
     assert_eq!(text(&log), sample("stairwell.log"));
-    for words in [" value -500\n", " value 990\n", " value -595\n", " no 17\n", " no 13\n"] {
+    for words in [" value -500 0\n", " value 990 0\n", " value -595 0\n", " no 17\n", " no 13\n"] {
         assert!(text(&log).contains(words), "{words:?}");
     }
 }
@@ -128,8 +128,8 @@ fn the_sample_of_marks_has_its_log() {
     let script = records(&sample("month-end.txt"));
     let log = run(HUBLOG, &[], &script).stdout;
     assert_eq!(text(&log), sample("month-end.log"));
-    assert_eq!(text(&log).matches(" value 1200\n").count(), 2);
-    for words in [" value 1231\n", " value 800\n", " no 19\n", " no 20\n", " no 21\n"] {
+    assert_eq!(text(&log).matches(" value 1200 0\n").count(), 2);
+    for words in [" value 1231 0\n", " value 800 0\n", " no 19\n", " no 20\n", " no 21\n"] {
         assert!(text(&log).contains(words), "{words:?}");
     }
     assert!(text(&log).contains(" freed 2\n"));
@@ -148,13 +148,14 @@ fn the_sample_of_an_empty_flat_has_its_log() {
     let rows = rows.to_str().unwrap();
     let log = run(HUBLOG, &[rows], &script).stdout;
     assert_eq!(text(&log), sample("empty-flat.log"));
-    let counts = [" none\n", " value 0\n", " value 1200\n"].map(|w| text(&log).matches(w).count());
+    let counts =
+        [" none\n", " value 0 0\n", " value 1200 0\n"].map(|w| text(&log).matches(w).count());
     assert_eq!(counts, [3, 1, 1]);
     let (script, log) = (file("flat-records", &script), file("flat-log", &log));
     let [script, log] = [&script, &log].map(|path| path.to_str().unwrap());
     let listing = run(ORDER, &[script, log, rows], &[]);
     assert!(listing.status.success(), "{}", text(&listing.stderr));
-    assert_eq!(text(&listing.stdout).matches("none        no value\n").count(), 3);
+    assert_eq!(text(&listing.stdout).matches("none          no value\n").count(), 3);
 }
 
 /// A display sees its tenant's registers and total, and gets 23 for all else.
@@ -169,7 +170,8 @@ fn the_sample_of_a_display_has_its_log() {
     let log = run(HUBLOG, &[rows, rights], &script);
     assert_eq!((text(&log.stdout), text(&log.stderr)), (&*sample("display.log"), ""));
     let log = log.stdout;
-    let counted = [" value 1200\n", " value 300\n", " value 900\n", " value 800\n", " no 23\n"];
+    let counted =
+        [" value 1200 0\n", " value 300 0\n", " value 900 0\n", " value 800 0\n", " no 23\n"];
     let counts = counted.map(|words| text(&log).matches(words).count());
     assert_eq!(counts, [2, 1, 1, 1, 9]);
     assert!(text(&log).contains(" no 13\n") && text(&log).contains(" no 4\n"));
@@ -178,6 +180,38 @@ fn the_sample_of_a_display_has_its_log() {
     let listing = run(ORDER, &[script, log, rows, rights], &[]);
     assert!(listing.status.success(), "{}", text(&listing.stderr));
     assert!(run(CHECK_ORDER, &[script, log, rows, rights], &[]).status.success());
+}
+
+/// An estimate, a snapshot of it, and the correction, which the snapshot does not have.
+#[test]
+fn the_sample_of_a_silent_meter_has_its_log() {
+    let script = records(&sample("silent-meter.txt"));
+    let rows = run(RECORDS, &["pack-list"], sample("silent-meter.list").as_bytes()).stdout;
+    let rows = file("silent-meter", &rows);
+    let rows = rows.to_str().unwrap();
+    let log = run(HUBLOG, &[rows], &script).stdout;
+    assert_eq!(text(&log), sample("silent-meter.log"));
+    let counted = [
+        " value 800 0\n",
+        " value 830 1\n",
+        " value 2030 1\n",
+        " value 817 2\n",
+        " value 2017 2\n",
+    ];
+    let counts = counted.map(|words| text(&log).matches(words).count());
+    assert_eq!(counts, [1, 3, 2, 1, 1]);
+    assert!(text(&log).ends_with(" no 25\n"));
+    let (script, log) = (file("meter-records", &script), file("meter-log", &log));
+    let [script, log] = [&script, &log].map(|path| path.to_str().unwrap());
+    let listing = run(ORDER, &[script, log, rows], &[]);
+    assert!(listing.status.success(), "{}", text(&listing.stderr));
+    for words in ["put of 830, estimated, to register 1", "value 830 1   830 1\n"] {
+        assert!(text(&listing.stdout).contains(words), "{}", text(&listing.stdout));
+    }
+    let svg = run(ORDER, &["--svg", script, log, rows], &[]);
+    for words in [">put r1 = 817 2</text>", ">817 2</text>", ">2017 2</text>"] {
+        assert!(text(&svg.stdout).contains(words), "{words}: {}", text(&svg.stdout));
+    }
 }
 
 #[test]
@@ -293,16 +327,16 @@ fn hublog_takes_the_list_from_the_file_of_its_first_argument() {
     let named = |name: &str, contents: &[u8]| file(name, contents).to_str().unwrap().to_string();
     let told = |setup: &str, last: &str| (setup.to_string(), last.to_string());
     let one = named("one-row", &list("0 - 0"));
-    assert_eq!(summed(&[&one]), told("0 ok", "15 value -7"));
+    assert_eq!(summed(&[&one]), told("0 ok", "15 value -7 0"));
     // Arguments after the second are not looked at.
-    assert_eq!(summed(&[&one, "no/such/file", "/"]), told("0 ok", "15 value -7"));
+    assert_eq!(summed(&[&one, "no/such/file", "/"]), told("0 ok", "15 value -7 0"));
     // No argument, no such file, an empty file: no list.
     let empty = named("empty", b"");
     for arguments in [&[][..], &["no/such/file"], &["--other"], &[""], &[&empty]] {
         assert_eq!(summed(arguments), told("0 ok", "15 no 11"), "{arguments:?}");
     }
     let coverage = run(HUBLOG, &["--coverage", &one], &records(SUMMED));
-    assert!(text(&coverage.stdout).ends_with("15 value -7\n"));
+    assert!(text(&coverage.stdout).ends_with("15 value -7 0\n"));
     assert!(text(&coverage.stderr).contains("           1  a total of one row begins\n"));
 }
 
@@ -318,7 +352,7 @@ fn hublog_refuses_setups_with_a_long_list() {
         &[path.to_str().unwrap()],
         &records(&SUMMED.replace("step 0 x2", "step 0 x64")),
     );
-    assert!(text(&output.stdout).lines().any(|line| line.ends_with(" value -224")));
+    assert!(text(&output.stdout).lines().any(|line| line.ends_with(" value -224 0")));
     for length in [4097, 4100, 8192, 5_000_000] {
         let path = file("long", &longest.iter().cycle().take(length).copied().collect::<Vec<_>>());
         let told = summed(&[path.to_str().unwrap()]);
@@ -440,12 +474,19 @@ fn check_order_accepts_a_right_log_and_refuses_a_wrong_one() {
     let output = run(CHECK_ORDER, &paths, &[]);
     assert!(output.status.success(), "{}", text(&output.stderr));
     assert!(text(&output.stdout).starts_with("3000 records, "));
-    // Any value changed is found.
+    // Any value changed is found, and so is any status.
     let wrong = text(&log).replacen(" value ", " value 1", 1);
     fs::write(&log_file, wrong).unwrap();
     let output = run(CHECK_ORDER, &paths, &[]);
     assert_eq!(output.status.code(), Some(1));
     assert!(text(&output.stderr).contains(" answers `value 1"), "{}", text(&output.stderr));
+    let shown = |line: &&str| line.contains(" value ") && line.ends_with(" 1");
+    let line = text(&log).lines().find(shown).expect("an estimate");
+    let other = format!("{} 2", line.strip_suffix(" 1").unwrap());
+    fs::write(&log_file, text(&log).replacen(line, &other, 1)).unwrap();
+    let output = run(CHECK_ORDER, &paths, &[]);
+    assert_eq!(output.status.code(), Some(1));
+    assert!(text(&output.stderr).contains(" has status 1"), "{}", text(&output.stderr));
     assert_eq!(run(CHECK_ORDER, &paths[..1], &[]).status.code(), Some(1));
 }
 
@@ -468,12 +509,12 @@ fn order_prints_the_sample_as_text_and_as_svg() {
 #[test]
 fn order_says_what_breaks_it() {
     let script = file("broken-records", &records("setup 1 1 1 1\n get 0 0\n step 0"));
-    let log = file("broken-log", b"0 ok\n1 ok\n2 value 5\n");
+    let log = file("broken-log", b"0 ok\n1 ok\n2 value 5 0\n");
     let [script, log] = [&script, &log].map(|path| path.to_str().unwrap());
     let sentence = "record 2: worker 0's get of register 0, begun by record 1, \
-        answers `value 5` where no value is shown";
+        answers `value 5 0` where no value is shown";
     for (arguments, shown) in
-        [(&[script, log][..], "value 5  no value"), (&["--svg", script, log], "5 ≠ no value")]
+        [(&[script, log][..], "value 5 0  no value"), (&["--svg", script, log], "5 0 ≠ no value")]
     {
         let output = run(ORDER, arguments, &[]);
         assert_eq!(output.status.code(), Some(1));

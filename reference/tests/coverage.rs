@@ -58,6 +58,12 @@ fn the_random_suite_reaches_everything() {
     least(&Branch::of_tables().collect::<Vec<_>>(), 15);
     assert!(refusals(23) > 50_000 && refusals(24) == 0, "{} and {}", refusals(23), refusals(24));
     assert!(total.tables.iter().all(|&met| met > 30), "{:?}", total.tables);
+    // Puts of every status, 25 with each other reason, and each status wherever one is shown.
+    least(&Branch::of_statuses().collect::<Vec<_>>(), 200);
+    assert!(refusals(25) > 10_000, "{}", refusals(25));
+    use Branch::{TotalOfNothing, TotalStatusEarlier, TotalStatusLast};
+    assert!(met(TotalStatusEarlier) > 2000 && met(TotalStatusLast) > 1000);
+    assert!(met(TotalOfNothing) > 1000);
 }
 
 /// About three scripts in ten have a table, some of them one that is refused.
@@ -79,7 +85,7 @@ fn scripts_have_tables_and_lists_in_every_mix() {
     // Missing, fit and damaged lists, and beside each of them such tables.
     assert!(met.as_flattened().iter().all(|&count| count >= 10), "{met:?}");
     let with_table: usize = met.iter().map(|tables| tables[1] + tables[2]).sum();
-    assert!((600..900).contains(&with_table), "{with_table} of 2200 scripts have a table");
+    assert!((600..900).contains(&with_table), "{with_table} of 2300 scripts have a table");
 }
 
 /// Hubs of middle sizes are used, not only set up: their slots run out, and are freed and taken again.
@@ -104,7 +110,7 @@ fn counts_have_a_name_each() {
     names.sort();
     names.dedup();
     assert_eq!(names.len(), counts.len());
-    // Eight answers, refusals 1 to 23 but 7 and 22, the branches, the sizes, the lists and the tables.
+    // Eight answers, refusals 1 to 25 but 7, 22 and 24, the branches, the sizes, the lists and the tables.
     assert!(names.contains(&&"no 6".to_string()) && !names.contains(&&"no 7".to_string()));
     assert_eq!(Coverage::default().missing().len(), counts.len());
 }

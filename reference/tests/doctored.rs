@@ -5,7 +5,13 @@ mod common;
 
 use common::{examined, examined_with, records};
 use reference::order::{self, Action, Claim, Order, Outcome, Violation};
+use reference::reading::Shown;
 use reference::{log, Answer, Hub};
+
+/// This value of status 0.
+fn shown(value: i128) -> Option<Shown> {
+    Some(Shown { value, status: 0 })
+}
 
 /// A script with some of the hub's answers replaced is refused at this record, for this.
 fn refused_at(record: usize, claim: Claim, script: &str, replaced: &[(usize, &str)]) -> Violation {
@@ -50,10 +56,11 @@ fn a_snapshot_needs_from_its_announcement_to_its_close() {
 #[test]
 fn a_read_after_a_close_shows_nothing() {
     let script = "setup 1 1 2 1\n open 0\n step 0 x2\n close 0\n step 0\n read 0 0\n step 0 x2";
-    let violation = refused_at(8, Claim::Value, script, &[(6, "ok"), (7, "going"), (8, "value 0")]);
+    let violation =
+        refused_at(8, Claim::Value, script, &[(6, "ok"), (7, "going"), (8, "value 0 0")]);
     assert!(violation.sentence.contains("where no value is shown"), "{violation}");
     let never = "setup 1 1 2 1\n read 0 0\n step 0 x2";
-    refused_at(3, Claim::Value, never, &[(1, "ok"), (2, "going"), (3, "value 0")]);
+    refused_at(3, Claim::Value, never, &[(1, "ok"), (2, "going"), (3, "value 0 0")]);
     // Where no value is shown, `none` is the answer; that it was accepted is not the order's matter.
     assert_eq!(examined(never, &[(1, "ok"), (2, "going"), (3, "none")]).1, None);
 }
@@ -65,8 +72,8 @@ fn an_open_takes_a_new_copy() {
         read 0 0\n step 0 x2";
     let accepted = [(13, "ok"), (14, "going"), (15, "at 2"), (16, "ok"), (17, "going")];
     let answers = |value| accepted.into_iter().chain([(18, value)]).collect::<Vec<_>>();
-    let (order, violation) = examined(script, &answers("value 7"));
-    assert_eq!((order.operations[3].shown, violation), (Some(7), None));
+    let (order, violation) = examined(script, &answers("value 7 0"));
+    assert_eq!((order.operations[3].shown, violation), (shown(7), None));
     refused_at(18, Claim::Value, script, &answers("none"));
     // The same with a close between, as the hub has it.
     let script = "setup 1 1 4 1\n open 0\n step 0 x2\n put 0 0 7\n step 0 x8\n close 0\n step 0
@@ -92,7 +99,7 @@ fn a_put_refused_with_16_is_left_out() {
     let (order, violation) = examined(script, &[]);
     assert_eq!((order.records, order.operations.len(), violation), (4, 1, None));
     assert_eq!(order.operations[0].shown, None);
-    refused_at(3, Claim::Value, script, &[(3, "value 1000000000000")]);
+    refused_at(3, Claim::Value, script, &[(3, "value 1000000000000 0")]);
     // Whatever its value: it takes no step, and nothing of it is shown.
     let script = "setup 1 1 3 1\n put 0 0 7\n step 0 x3";
     let violation = refused_at(2, Claim::Fit, script, &[(1, "no 16")]);
@@ -105,9 +112,9 @@ fn a_put_above_the_limit_that_was_accepted_is_fed() {
     let script = "setup 2 1 3 1\n put 0 0 1000000000000\n step 0 x3\n get 1 0\n step 1";
     let accepted = [(1, "ok"), (2, "going"), (3, "going"), (4, "done")];
     let answers = |value| accepted.into_iter().chain([(6, value)]).collect::<Vec<_>>();
-    let (order, violation) = examined(script, &answers("value 1000000000000"));
+    let (order, violation) = examined(script, &answers("value 1000000000000 0"));
     assert_eq!((order.sequence.len(), violation), (2, None));
-    refused_at(6, Claim::Value, script, &answers("value 999999999999"));
+    refused_at(6, Claim::Value, script, &answers("value 999999999999 0"));
 }
 
 #[test]
@@ -151,8 +158,20 @@ fn only_workers_and_registers_that_exist_begin() {
 
 /// Every answer that a step may have.
 const ANSWERS: [&str; 14] = [
-    "ok", "going", "done", "freed 0", "at 1", "value 0", "value -1", "none", "no 14", "no 15",
-    "no 18", "no 19", "no 20", "no 21",
+    "ok",
+    "going",
+    "done",
+    "freed 0",
+    "at 1",
+    "value 0 0",
+    "value -1 0",
+    "none",
+    "no 14",
+    "no 15",
+    "no 18",
+    "no 19",
+    "no 20",
+    "no 21",
 ];
 
 #[test]
@@ -172,7 +191,7 @@ fn each_step_has_its_answers() {
         ("open 0\n step 0 x2\n close 0", &["done"]),
         ("get 0 0", &["none"]),
         ("open 0\n step 0 x2\n total 0 0", &["going"]),
-        ("open 0\n step 0 x2\n total 0 0\n step 0", &["going", "value 0", "no 18"]),
+        ("open 0\n step 0 x2\n total 0 0\n step 0", &["going", "value 0 0", "no 18"]),
         ("open 0\n step 0 x2\n mark 0 1", &["done", "no 19"]),
         ("open 0\n step 0 x2\n mark 0 1\n step 0\n release 0 1", &["done", "no 20", "no 21"]),
         ("open 0\n step 0 x2\n mark 0 1\n step 0\n marked 0 0 1", &["going", "no 20"]),
@@ -187,8 +206,8 @@ fn each_step_has_its_answers() {
                 Some(found) => {
                     assert!(!allowed.contains(&words), "{before}: {words}: {found}");
                     // A get, a read or a total may end so, and something else is shown.
-                    let of_total = before.ends_with("total 0 0\n step 0") && words == "value -1";
-                    let other = of_total || allowed.contains(&"none") && words == "value 0";
+                    let of_total = before.ends_with("total 0 0\n step 0") && words == "value -1 0";
+                    let other = of_total || allowed.contains(&"none") && words == "value 0 0";
                     let claim = if other { Claim::Value } else { Claim::Fit };
                     assert_eq!((found.record, found.claim), (record, claim), "{before}: {words}");
                 }
@@ -217,13 +236,13 @@ fn a_total_shows_the_sum_over_the_copy() {
     let answers = |words| [(begin + 4, words)];
     let (order, violation) = examined_with(ROWS, TOTAL, &[]);
     let total = order.operations.last().unwrap();
-    assert_eq!((total.begin, total.effect, total.shown), (begin, Some(begin + 4), Some(2)));
+    assert_eq!((total.begin, total.effect, total.shown), (begin, Some(begin + 4), shown(2)));
     assert_eq!((order.sequence.len(), violation), (4, None));
     // Without the last row, with signs exchanged, of all groups, and `value -2` for 2.
-    for words in ["value 5", "value -2", "value 8", "value 0", "value 3"] {
+    for words in ["value 5 0", "value -2 0", "value 8 0", "value 0 0", "value 3 0"] {
         let violation = examined_with(ROWS, TOTAL, &answers(words)).1.expect("a violation");
         assert_eq!((violation.record, violation.claim), (begin + 4, Claim::Value), "{words}");
-        assert!(violation.sentence.ends_with("where 2 is shown"), "{violation}");
+        assert!(violation.sentence.ends_with("where 2 0 is shown"), "{violation}");
     }
     // One that met 18 is left out, and shows nothing; so is one that is unfinished.
     for words in ["no 18", "going"] {
@@ -236,7 +255,7 @@ fn a_total_shows_the_sum_over_the_copy() {
 #[test]
 fn a_total_without_a_snapshot_shows_nothing() {
     let script = "setup 1 1 2 1\n total 0 0\n step 0 x2";
-    let answers = [(1, "ok"), (2, "going"), (3, "value 0")];
+    let answers = [(1, "ok"), (2, "going"), (3, "value 0 0")];
     let violation = examined_with(ROWS.split_once('\n').unwrap().0, script, &answers).1;
     let violation = violation.expect("a violation");
     assert_eq!((violation.record, violation.claim), (3, Claim::Value));
@@ -307,11 +326,11 @@ fn a_marked_read_shows_the_marks_copy() {
     let read = "marked 0 0 3\n step 0 x3";
     let (first, order, violation) = marked(read, &[]);
     let last = order.operations.last().unwrap();
-    assert_eq!((last.effect, last.shown, violation), (Some(first + 3), Some(5), None));
-    for words in ["value 6", "value 0", "none"] {
+    assert_eq!((last.effect, last.shown, violation), (Some(first + 3), shown(5), None));
+    for words in ["value 6 0", "value 0 0", "none"] {
         let sentence = marked_refused(3, Claim::Value, read, &[(3, words)]);
         assert!(sentence.starts_with("worker 0's read of register 0 at mark 3, "), "{sentence}");
-        assert!(sentence.ends_with("where 5 is shown"), "{sentence}");
+        assert!(sentence.ends_with("where 5 0 is shown"), "{sentence}");
     }
     // One that met 20 is left out; so is one that is unfinished.
     let (_, order, violation) = marked("marked 0 0 3\n step 0", &[(1, "no 20")]);
@@ -322,14 +341,14 @@ fn a_marked_read_shows_the_marks_copy() {
 /// An empty mark has no copy: never marked, released, or marked without a snapshot.
 #[test]
 fn a_read_of_an_empty_mark_shows_nothing() {
-    let read = [(0, "ok"), (1, "going"), (2, "value 0")];
+    let read = [(0, "ok"), (1, "going"), (2, "value 0 0")];
     let sentence = marked_refused(2, Claim::Value, "marked 0 0 4\n step 0 x2", &read);
     assert!(sentence.ends_with("where no value is shown"), "{sentence}");
     let released = "release 0 3\n step 0\n marked 0 0 3\n step 0 x2";
-    let read = [(2, "ok"), (3, "going"), (4, "value 5")];
+    let read = [(2, "ok"), (3, "going"), (4, "value 5 0")];
     marked_refused(4, Claim::Value, released, &read);
     let unsnapped = "mark 0 4\n step 0\n marked 0 0 4\n step 0 x2";
-    let read = [(0, "ok"), (1, "done"), (2, "ok"), (3, "going"), (4, "value 6")];
+    let read = [(0, "ok"), (1, "done"), (2, "ok"), (3, "going"), (4, "value 6 0")];
     marked_refused(4, Claim::Value, unsnapped, &read);
 }
 
@@ -338,16 +357,16 @@ fn a_read_of_an_empty_mark_shows_nothing() {
 fn a_mark_keeps_the_copy_of_its_worker() {
     let again = "open 0\n step 0 x2\n mark 0 3\n step 0\n marked 1 0 3\n step 1 x2";
     let answers = |value| [(3, "ok"), (4, "done"), (5, "ok"), (6, "going"), (7, value)];
-    assert_eq!(marked(again, &answers("value 6")).2, None);
-    marked_refused(7, Claim::Value, again, &answers("value 5"));
+    assert_eq!(marked(again, &answers("value 6 0")).2, None);
+    marked_refused(7, Claim::Value, again, &answers("value 5 0"));
     // Refused with 19 at its step, it takes nothing.
-    let refused = [(3, "ok"), (4, "no 19"), (7, "value 6")];
+    let refused = [(3, "ok"), (4, "no 19"), (7, "value 6 0")];
     marked_refused(7, Claim::Value, again, &refused);
     // What was put after the open is in neither.
     let put =
         "open 0\n step 0 x2\n put 0 0 7\n step 0 x3\n mark 0 4\n step 0\n marked 1 0 4\n step 1 x3";
     let (_, order, violation) = marked(put, &[]);
-    assert_eq!((order.operations.last().unwrap().shown, violation), (Some(6), None));
+    assert_eq!((order.operations.last().unwrap().shown, violation), (shown(6), None));
 }
 
 /// From the mark's step to the release's.
@@ -385,13 +404,13 @@ fn only_marks_that_exist_begin() {
 fn the_lowest_record_is_told() {
     // A wrong value at 2, a step that nobody can take at 4.
     let script = "setup 1 1 1 1\n get 0 0\n step 0\n get 0 0\n step 0";
-    refused_at(2, Claim::Value, script, &[(2, "value 1"), (4, "done")]);
+    refused_at(2, Claim::Value, script, &[(2, "value 1 0"), (4, "done")]);
     // A put that stands nowhere ends at 11, between two gets.
     let script = "setup 3 1 4 1\n put 0 0 7\n step 0\n collect 1\n step 1 x4\n get 2 0\n step 2
         step 0 x2\n get 2 0\n step 2";
     let freed = (7, "freed 1");
-    refused_at(11, Claim::Once, script, &[freed, (9, "none"), (13, "value 1")]);
-    refused_at(9, Claim::Value, script, &[freed, (9, "value 1"), (13, "none")]);
+    refused_at(11, Claim::Once, script, &[freed, (9, "none"), (13, "value 1 0")]);
+    refused_at(9, Claim::Value, script, &[freed, (9, "value 1 0"), (13, "none")]);
 }
 
 /// A put, a get after it, a refused put, and an open that has only begun.
@@ -454,7 +473,7 @@ fn an_operation_that_ended_stands_before_one_that_begins_later() {
 #[test]
 fn values_are_compared_with_what_is_shown() {
     let mut order = all_outcomes();
-    order.operations[1].shown = Some(8);
+    order.operations[1].shown = shown(8);
     assert_eq!(order.violation().map(|found| found.claim), Some(Claim::Value));
     order.operations[1].shown = None;
     assert_eq!(order.violation().map(|found| found.claim), Some(Claim::Value));

@@ -11,7 +11,8 @@ use reference::store::MAX_VALUE;
 fn size(workers: u8, registers: u16, slots: u16, below: u32, values: &'static [u64]) -> Size {
     let clock = u32::MAX - below;
     let (list, table, max_values, marks): (_, _, &[u64], _) = (&[], &[], &[MAX_VALUE], 0);
-    Size { workers, registers, slots, clock, list, table, values, max_values, marks }
+    let statuses = &[0];
+    Size { workers, registers, slots, clock, list, table, values, statuses, max_values, marks }
 }
 
 fn states(size: Size) -> usize {
@@ -118,8 +119,8 @@ fn near_misses_of_a1_are_found() {
     assert_eq!(found::<ValueIdles>(small), "a refused record changes the store");
     let small = across(small);
     assert!(found::<ValueAtStep>(small).ends_with("14 is not exact: No(Value)"));
-    assert!(found::<GetHides>(small).starts_with("a get: value 999999999999, not"));
-    assert!(found::<ReadHides>(small).starts_with("a read: value 999999999999, not"));
+    assert!(found::<GetHides>(small).starts_with("a get: value 999999999999 0, not"));
+    assert!(found::<ReadHides>(small).starts_with("a read: value 999999999999 0, not"));
 }
 
 /// With a list: every total of its groups, and of one that has no rows.
@@ -225,7 +226,7 @@ fn near_misses_of_a3_are_found() {
     assert!(found::<MarkClock>(small).ends_with("is freed, 4294967294 needs it"));
     assert!(found::<CloseEmpties>(small).ends_with("No(MarkEmpty), not Ok"));
     let times = with_marks(size(1, 1, 3, 2, &[1]), 1);
-    assert_eq!(found::<MarkedOwnTime>(times), "a marked read: value 1, not none");
+    assert_eq!(found::<MarkedOwnTime>(times), "a marked read: value 1 0, not none");
     assert_eq!(found::<UsedAtBegin>(small), "Mark { mark: 0 }: Done, not No(MarkUsed)");
     assert_eq!(found::<EmptyAtBegin>(small), "Release { mark: 0 }: Done, not No(MarkEmpty)");
     assert!(found::<MarkedNewest>(small).ends_with("Going, not No(MarkEmpty)"));
@@ -245,6 +246,59 @@ fn puts_of_0() {
     assert_eq!(states(with_marks(size(2, 1, 2, 1, &[0]), 1)), 61_011);
 }
 
+/// With these statuses, of each value.
+fn with_statuses(size: Size, statuses: &'static [u8]) -> Size {
+    Size { statuses, ..size }
+}
+
+/// A status tells versions apart as a value does: as many states as with two values. One above 2
+/// changes nothing.
+#[test]
+fn puts_of_statuses() {
+    assert_eq!(states(with_statuses(size(1, 1, 3, 2, &[1]), &[1, 2])), 19_038);
+    assert_eq!(states(with_statuses(size(1, 1, 3, 2, &[1]), &[0, 1, 3, 255])), 19_038);
+    assert_eq!(states(with_statuses(size(2, 1, 2, 2, &[1]), &[0, 2])), 370_449);
+    assert_eq!(states(with_marks(with_statuses(size(1, 1, 3, 2, &[1]), &[0, 1]), 1)), 55_791);
+}
+
+/// Totals of two registers and of one twice, with the largest status so far on the way.
+#[test]
+fn totals_of_statuses() {
+    let two = with_list(size(1, 2, 3, 1, &[1]), TWO);
+    assert_eq!(states(with_statuses(two, &[0, 2])), 22_752);
+    let twice = with_list(size(1, 1, 3, 2, &[1]), TWICE);
+    assert_eq!(states(with_statuses(twice, &[0, 1])), 21_590);
+}
+
+#[test]
+fn near_misses_of_a8_are_found() {
+    fn found<F: Fault + Clone>(size: Size) -> String {
+        let reason = explore::<F>(size, false).unwrap_err();
+        reason.lines().next().unwrap_or_default().to_string()
+    }
+    let small = with_statuses(size(2, 1, 3, 1, &[1]), &[0, 2]);
+    assert_eq!(found::<StatusOfCovered>(small).split_once(": ").unwrap().0, "a get");
+    for reason in [
+        found::<StatusOfNewer>(small),
+        found::<LowLosesStatus>(small),
+        found::<HighLosesStatus>(small),
+    ] {
+        assert!(["a get: ", "a read: "].iter().any(|start| reason.starts_with(start)), "{reason}");
+        assert!(reason.contains("value 1 0") && reason.contains("value 1 2"), "{reason}");
+    }
+    assert!(found::<PublishLosesStatus>(small).starts_with("a put publishes "));
+    let two = with_statuses(with_list(size(1, 2, 4, 1, &[1]), TWO), &[0, 2]);
+    assert_eq!(found::<TotalLastStatus>(two), "a total: value 0 0, not value 0 2");
+    let limit = with_statuses(size(1, 1, 2, 1, AT_LIMIT), &[2, 3]);
+    assert!(found::<CorrectedRefused>(limit).ends_with("No(Status), not Ok"));
+    assert!(found::<ThreeAccepted>(limit).ends_with("Ok, not No(Status)"));
+    assert!(found::<StatusBeforeValue>(limit).ends_with("No(Status), not No(Value)"));
+    assert!(found::<StatusAfterBusy>(limit).ends_with("No(Busy), not No(Status)"));
+    assert_eq!(found::<StatusIdles>(limit), "a refused record changes the store");
+    let lower = with_table(with_statuses(size(1, 2, 3, 1, &[1]), &[2, 3]), LOWER);
+    assert!(found::<StatusAfterForbidden>(lower).ends_with("No(Forbidden), not No(Status)"));
+}
+
 #[test]
 fn near_misses_of_a5_are_found() {
     fn found<F: Fault + Clone>(size: Size) -> String {
@@ -253,17 +307,17 @@ fn near_misses_of_a5_are_found() {
     }
     let small = size(2, 1, 2, 1, &[0, 1]);
     let marked = with_marks(small, 1);
-    assert_eq!(found::<GetZero>(small), "a get: value 0, not none");
-    assert_eq!(found::<ReadZero>(small), "a read: value 0, not none");
-    assert_eq!(found::<MarkedZero>(marked), "a marked read: value 0, not none");
-    assert!(found::<ZeroNone>(small).ends_with(": none, not value 0"));
-    assert!(found::<NoneByRegister>(small).ends_with(": value 0, not none"));
+    assert_eq!(found::<GetZero>(small), "a get: value 0 0, not none");
+    assert_eq!(found::<ReadZero>(small), "a read: value 0 0, not none");
+    assert_eq!(found::<MarkedZero>(marked), "a marked read: value 0 0, not none");
+    assert!(found::<ZeroNone>(small).ends_with(": none, not value 0 0"));
+    assert!(found::<NoneByRegister>(small).ends_with(": value 0 0, not none"));
     assert!(found::<FirstPutNone>(small).starts_with("a get: none, not value "));
     let three = size(1, 1, 3, 1, &[1]);
-    assert!(found::<NoneBySlot>(three).ends_with(": none, not value 1"));
+    assert!(found::<NoneBySlot>(three).ends_with(": none, not value 1 0"));
     let summed = with_list(size(1, 1, 2, 1, &[1]), MINUS);
-    assert_eq!(found::<TotalNone>(summed), "a total: None, not Value(0)");
-    assert_eq!(found::<TotalRefusesNone>(summed), "a total: No(Summand), not Value(0)");
+    assert_eq!(found::<TotalNone>(summed), "a total: none, not value 0 0");
+    assert_eq!(found::<TotalRefusesNone>(summed), "a total: no 18, not value 0 0");
 }
 
 /// With a table, each record's right too.

@@ -9,7 +9,7 @@ use reference::generate::{script_across, Kind, Script};
 use reference::order;
 use reference::record::LENGTH;
 use reference::store::{Doing, Store, MAX_VALUE};
-use reference::{Answer, Hub, Record};
+use reference::{Answer, Hub, Reading, Record};
 
 const WITHIN: [u64; 5] = [0, 1, 549_755_813_888, 999_999_999_998, 999_999_999_999];
 
@@ -29,7 +29,7 @@ const ABOVE: [u64; 9] = [
 fn puts_up_to_the_limit_are_accepted() {
     for value in WITHIN {
         let script = format!("setup 2 1 2 1\n put 0 0 {value}\n step 0 x3\n get 1 0\n step 1");
-        let shown = format!("value {value}");
+        let shown = format!("value {value} 0");
         assert_eq!(run(&script), ["ok", "ok", "going", "going", "done", "ok", &shown]);
     }
 }
@@ -76,7 +76,7 @@ fn words_across(before: &str, after: &str) -> Vec<String> {
 fn larger_values_from_before_are_shown_by_get_and_read() {
     for value in ABOVE {
         let before = format!("setup 3 1 4 1\n put 0 0 {value}\n step 0 x3\n open 1\n step 1 x2");
-        let shown = format!("value {value}");
+        let shown = format!("value {value} 0");
         let at_once = "get 0 0\n step 0\n read 1 0\n step 1 x2";
         assert_eq!(words_across(&before, at_once), ["ok", &shown, "ok", "going", &shown]);
         // Another such put is refused; a smaller one covers the version, which the snapshot sees.
@@ -84,7 +84,16 @@ fn larger_values_from_before_are_shown_by_get_and_read() {
             "put 0 0 {value}\n put 0 0 5\n step 0 x3\n get 0 0\n step 0\n read 1 0\n step 1 x3"
         );
         let expected = [
-            "no 16", "ok", "going", "going", "done", "ok", "value 5", "ok", "going", "going",
+            "no 16",
+            "ok",
+            "going",
+            "going",
+            "done",
+            "ok",
+            "value 5 0",
+            "ok",
+            "going",
+            "going",
             &shown,
         ];
         assert_eq!(words_across(&before, &covered), expected);
@@ -97,8 +106,25 @@ fn larger_values_from_before_are_freed() {
     let before = "setup 1 1 3 1\n put 0 0 18446744073709551615\n step 0 x8";
     let after = "put 0 0 5\n step 0 x9\n collect 0\n step 0 x6\n get 0 0\n step 0";
     let expected = [
-        "ok", "going", "going", "going", "going", "going", "going", "going", "freed 0", "done",
-        "ok", "going", "going", "going", "going", "freed 1", "done", "ok", "value 5",
+        "ok",
+        "going",
+        "going",
+        "going",
+        "going",
+        "going",
+        "going",
+        "going",
+        "freed 0",
+        "done",
+        "ok",
+        "going",
+        "going",
+        "going",
+        "going",
+        "freed 1",
+        "done",
+        "ok",
+        "value 5 0",
     ];
     assert_eq!(words_across(before, after), expected);
     // Under a snapshot that needs it, it stays; after the close it goes.
@@ -125,7 +151,7 @@ fn larger_values_from_before_are_freed() {
         "ok",
         "going",
         "going",
-        "value 18446744073709551615",
+        "value 18446744073709551615 0",
         "ok",
         "done",
         "ok",
@@ -146,7 +172,7 @@ fn a_put_from_before_goes_on() {
         let before =
             format!("setup 2 1 2 1\n put 0 0 1000000000000\n {}", "step 0\n".repeat(steps));
         let after = format!("{}get 0 0\n step 0", "step 0\n".repeat(3 - steps));
-        let expected = ["going", "going", "done", "ok", "value 1000000000000"];
+        let expected = ["going", "going", "done", "ok", "value 1000000000000 0"];
         assert_eq!(words_across(&before, &after), expected[steps..]);
     }
 }
@@ -167,17 +193,19 @@ struct Met {
 impl Met {
     /// Sees a record that was taken after A1, with the store before it.
     fn see(&mut self, store: &Store, record: Record, answer: Answer) {
-        let above = |value| usize::from(value > MAX_VALUE);
-        let stored = |slot: u16| above(store.slots[usize::from(slot)].reading.unwrap_or(0));
+        let above = |reading: Reading| usize::from(reading.value > MAX_VALUE);
+        let stored = |slot: u16| usize::from(store.slots[usize::from(slot)].is_above(MAX_VALUE));
         let worker = match record {
             Record::Step { worker } => store.workers.get(usize::from(worker)),
-            Record::Put { value, .. } if answer == no(16) => return self.refused += above(value),
+            Record::Put { reading, .. } if answer == no(16) => {
+                return self.refused += above(reading)
+            }
             _ => None,
         };
         match (worker.map(|worker| worker.doing), answer) {
-            (Some(Doing::Get { .. }), Answer::Value(value)) => self.got += above(value),
-            (Some(Doing::ReadAt { .. }), Answer::Value(value)) => self.read += above(value),
-            (Some(Doing::PutPublish { value, .. }), Answer::Going) if value > MAX_VALUE => {
+            (Some(Doing::Get { .. }), Answer::Value(reading)) => self.got += above(reading),
+            (Some(Doing::ReadAt { .. }), Answer::Value(reading)) => self.read += above(reading),
+            (Some(Doing::PutPublish { reading, .. }), Answer::Going) if above(reading) > 0 => {
                 self.published += 1;
             }
             (Some(Doing::PutPublish { register, .. }), Answer::Going) => {

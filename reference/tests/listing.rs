@@ -33,7 +33,7 @@ fn one_row_for_each_operation_in_the_order() {
     let expected = [
         // Stamped by the get's step, and unfinished.
         "1 put of 7 to register 0 0 1 4 - -",
-        "2 get of register 0 1 3 4 4 value 7 7",
+        "2 get of register 0 1 3 4 4 value 7 0 7 0",
     ];
     assert_eq!(rows(&listing, "place operation"), expected, "{listing}");
     assert!(listing.ends_with(
@@ -63,7 +63,7 @@ fn puts_above_the_limit_are_not_listed() {
     let listing = listing(script, &[]);
     let expected = [
         "1 put of 999999999999 to register 0 0 2 4 5 done",
-        "2 get of register 0 1 7 8 8 value 999999999999 999999999999",
+        "2 get of register 0 1 7 8 8 value 999999999999 0 999999999999 0",
     ];
     assert_eq!(rows(&listing, "place operation"), expected, "{listing}");
     assert!(!listing.contains("1000000000000") && !listing.contains("Not in the order"));
@@ -92,19 +92,40 @@ fn columns_line_up() {
 #[test]
 fn a_broken_order_says_where() {
     let script = "setup 1 1 2 1\n get 0 0\n step 0\n get 0 0\n step 0";
-    let broken = listing(script, &[(2, "value 3")]);
+    let broken = listing(script, &[(2, "value 3 0")]);
     let expected = [
-        "1 get of register 0 0 1 2 2 value 3 no value",
+        "1 get of register 0 0 1 2 2 value 3 0 no value",
         "2 get of register 0 0 3 4 4 none no value",
     ];
     assert_eq!(rows(&broken, "place operation"), expected, "{broken}");
     let verdict = "Not accepted: record 2: worker 0's get of register 0, begun by record 1, \
-        answers `value 3` where no value is shown\n";
+        answers `value 3 0` where no value is shown\n";
     assert!(broken.ends_with(verdict), "{broken}");
     // A read that was accepted without a snapshot.
     let script = "setup 1 1 2 1\n read 0 0\n step 0 x2";
-    let replaced = [(1, "ok"), (2, "going"), (3, "value 0")];
-    assert!(listing(script, &replaced).contains("value 0  no value\n"));
+    let replaced = [(1, "ok"), (2, "going"), (3, "value 0 0")];
+    assert!(listing(script, &replaced).contains("value 0 0  no value\n"));
+}
+
+/// A put with the word of its status, but for 0; what is shown with its number; another one in words.
+#[test]
+fn statuses_are_listed() {
+    let script = "setup 1 1 9 1\n put 0 0 7 estimated\n step 0 x8\n put 0 0 8 corrected\n step 0 x9
+        get 0 0\n step 0";
+    let (order, _) = examined(script, &[]);
+    let last = order.records - 1;
+    let listing = self::listing(script, &[]);
+    let expected = [
+        "1 put of 7, estimated, to register 0 0 1 3 9 done",
+        "2 put of 8, corrected, to register 0 0 10 12 19 done",
+        "3 get of register 0 0 20 21 21 value 8 2 8 2",
+    ];
+    assert_eq!(rows(&listing, "place operation"), expected, "{listing}");
+    assert!(listing.contains("the value and status that a get or a read finds"), "{listing}");
+    let broken = self::listing(script, &[(last, "value 8 1")]);
+    assert!(broken.contains("value 8 1  8 2\n"), "{broken}");
+    let verdict = "answers `value 8 1` where the put of 8 has status 2\n";
+    assert!(broken.ends_with(verdict), "{broken}");
 }
 
 #[test]
@@ -129,7 +150,7 @@ fn totals_are_listed_with_their_registers() {
     let (order, violation) = examined_with(rows, script, &[]);
     let listing = Listing::new(&order, violation.as_ref()).to_string();
     let placed = self::rows(&listing, "place operation");
-    assert_eq!(placed[2..], ["3 total of group 3 0 14 20 20 value -14 -14"], "{listing}");
+    assert_eq!(placed[2..], ["3 total of group 3 0 14 20 20 value -14 0 -14 0"], "{listing}");
     assert_eq!(
         self::rows(&listing, "operation worker"),
         ["total of group 4 0 21 - unfinished and without effect: counts as not begun"]
@@ -141,10 +162,10 @@ fn totals_are_listed_with_their_registers() {
     assert!(listing.contains("every finished get, read and total answered"), "{listing}");
     assert!(listing.contains("a get, a read or a total finds"), "{listing}");
     // A wrong sum is told as a wrong value is.
-    let (order, violation) = examined_with(rows, script, &[(20, "value 14")]);
+    let (order, violation) = examined_with(rows, script, &[(20, "value 14 0")]);
     let listing = Listing::new(&order, violation.as_ref()).to_string();
     let verdict = "Not accepted: record 20: worker 0's total of group 3, begun by record 14, \
-        answers `value 14` where -14 is shown\n";
+        answers `value 14 0` where -14 0 is shown\n";
     assert!(listing.ends_with(verdict), "{listing}");
 }
 
@@ -172,7 +193,7 @@ fn registers_without_a_value_are_listed() {
     let expected = [
         "1 get of register 1 0 1 2 2 none no value",
         "2 put of 0 to register 0 0 3 5 11 done",
-        "3 get of register 0 0 12 13 13 value 0 0",
+        "3 get of register 0 0 12 13 13 value 0 0 0 0",
     ];
     assert_eq!(rows(&listing, "place operation"), expected, "{listing}");
     let one_line = listing.split_whitespace().collect::<Vec<_>>().join(" ");
@@ -181,7 +202,7 @@ fn registers_without_a_value_are_listed() {
     assert!(one_line.contains(accepted), "{listing}");
     // A wrong `none` is told as a wrong value is.
     let broken = self::listing(script, &[(13, "none")]);
-    assert!(broken.ends_with("answers `none` where 0 is shown\n"), "{broken}");
+    assert!(broken.ends_with("answers `none` where 0 0 is shown\n"), "{broken}");
 }
 
 /// With what each mark held below, and why an operation on a mark was refused at its step.

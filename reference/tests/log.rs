@@ -5,7 +5,7 @@ mod common;
 use common::records;
 use reference::generate::{script, Kind, Random};
 use reference::log::{self, Decimal, Failure};
-use reference::{Answer, Hub, Refusal};
+use reference::{Answer, Hub, Reading, Refusal};
 use std::io::{self, Read};
 
 const EXAMPLE: &str = "
@@ -114,12 +114,16 @@ fn words_both_ways() {
     let mut answers = vec![Answer::Ok, Answer::Going, Answer::Done, Answer::None];
     answers.extend([0, 1, 9, 10, 2047].map(Answer::Freed));
     answers.extend([1, 5, 4294967294].map(Answer::At));
-    answers.extend([0, 7, 1 << 63, u64::MAX].map(Answer::Value));
-    answers.extend([1, 5, 31_999_999_999_968].map(Answer::Minus));
+    let readings = |value| [0, 1, 2].map(|status| Reading { value, status });
+    answers.extend([0, 7, 1 << 63, u64::MAX].into_iter().flat_map(readings).map(Answer::Value));
+    answers.extend([1, 5, 31_999_999_999_968].into_iter().flat_map(readings).map(Answer::Minus));
+    // No hub shows these, and a log that does can be read.
+    answers.extend([3, 9, 10, 255].map(|status| Answer::value(7, status)));
     answers.extend(Refusal::ALL.map(Answer::No));
     let text = String::from_utf8(log::log_text(&answers)).unwrap();
     assert!(text.starts_with("0 ok\n1 going\n2 done\n3 none\n4 freed 0\n"));
-    assert!(text.contains("15 value 18446744073709551615\n16 value -1\n17 value -5\n"));
+    assert!(text.contains("23 value 18446744073709551615 2\n24 value -1 0\n25 value -1 1\n"));
+    assert!(text.contains(" value 7 10\n") && text.contains(" value 7 255\n"), "{text}");
     let lines = answers.iter().enumerate();
     assert_eq!(text, lines.map(|(n, answer)| format!("{n} {answer}\n")).collect::<String>());
     assert_eq!(log::parse_log(&text), Ok(answers));
@@ -134,16 +138,25 @@ fn what_is_no_log() {
         "0 ok \n",
         "0 freed\n",
         "0 freed 01\n",
-        "0 no 25\n",
+        "0 no 26\n",
         "0 none 0\n",
         "0 None\n",
         "0 value\n",
-        "0 value -\n",
-        "0 value -0\n",
-        "0 value -05\n",
-        "0 value - 5\n",
-        "0 value --5\n",
-        "0 value +5\n",
+        "0 value 5\n",
+        "0 value -5\n",
+        "0 value 5 \n",
+        "0 value 5  0\n",
+        "0 value 5 00\n",
+        "0 value 5 256\n",
+        "0 value 5 -1\n",
+        "0 value 5 0 0\n",
+        "0 value  0\n",
+        "0 value - 0\n",
+        "0 value -0 0\n",
+        "0 value -05 0\n",
+        "0 value - 5 0\n",
+        "0 value --5 0\n",
+        "0 value +5 0\n",
         "0 at -5\n",
         "0 freed -1\n",
         "0 no -1\n",

@@ -8,7 +8,7 @@ use reference::generate::{script, Kind};
 use reference::marks::MARKS;
 use reference::order::{self, Action, Outcome};
 use reference::store::Doing;
-use reference::{log, Answer, Hub};
+use reference::{log, Answer, Hub, Reading};
 
 /// Two workers, two registers. Worker 1 has a snapshot at 1 of 5 in register 0, in slot 2.
 const SNAPSHOT: &str = "setup 2 2 9 1\n put 0 0 5\n step 0 x3\n open 1\n step 1 x2";
@@ -49,7 +49,7 @@ fn twelve_marks() {
     assert_eq!(last(&mut hub, "put 0 0 999\n step 0 x20\n collect 0\n step 0 x20"), no(11));
     for mark in 0..MARKS {
         let shown = last(&mut hub, &format!("marked 0 0 {mark}\n step 0 x{}", 14 - mark));
-        assert_eq!(shown, Answer::Value(100 + mark as u64), "{mark}");
+        assert_eq!(shown, Answer::value(100 + mark as u64, 0), "{mark}");
     }
     assert_eq!(last(&mut hub, "open 0\n step 0 x2\n mark 0 12"), no(4));
 }
@@ -82,7 +82,7 @@ fn a_mark_outlives_its_snapshot() {
     // Released, the other stays.
     assert_eq!(last(&mut hub, "release 0 3\n step 0"), Answer::Done);
     assert_eq!((store(&hub).marks[3], store(&hub).marks[4]), (None, Some(1)));
-    assert_eq!(last(&mut hub, "marked 1 0 4\n step 1 x2"), Answer::Value(5));
+    assert_eq!(last(&mut hub, "marked 1 0 4\n step 1 x2"), Answer::value(5, 0));
 }
 
 /// The mark's time, whatever the worker's own is, and with none; any register.
@@ -94,11 +94,11 @@ fn a_marked_read_is_at_the_marks_time() {
         let words = after(&format!("{newer}\n {begin}\n step 1 x{steps}"));
         words[words.len() - steps..].to_vec()
     };
-    assert_eq!(read("marked 1 0 3", 4), ["going", "going", "value 5", "no 11"]);
+    assert_eq!(read("marked 1 0 3", 4), ["going", "going", "value 5 0", "no 11"]);
     assert_eq!(read("marked 1 1 3", 4), ["going", "going", "none", "no 11"]);
-    assert_eq!(read("open 1\n step 1 x2\n marked 1 0 3", 3), ["going", "going", "value 5"]);
-    assert_eq!(read("open 1\n step 1 x2\n read 1 0", 3), ["going", "value 6", "no 11"]);
-    assert_eq!(read("open 1\n step 1 x2\n read 1 1", 2), ["going", "value 7"]);
+    assert_eq!(read("open 1\n step 1 x2\n marked 1 0 3", 3), ["going", "going", "value 5 0"]);
+    assert_eq!(read("open 1\n step 1 x2\n read 1 0", 3), ["going", "value 6 0", "no 11"]);
+    assert_eq!(read("open 1\n step 1 x2\n read 1 1", 2), ["going", "value 7 0"]);
 }
 
 /// As read (1) does.
@@ -179,7 +179,7 @@ fn a_release_waits_for_reads_that_run() {
         assert_eq!(try_release(&hub, 3), no(21));
         assert_eq!(try_release(&hub, 4), Answer::Ok);
     }
-    assert_eq!(last(&mut hub, "step 1"), Answer::Value(5));
+    assert_eq!(last(&mut hub, "step 1"), Answer::value(5, 0));
     assert_eq!(try_release(&hub, 3), Answer::Ok);
 }
 
@@ -233,7 +233,7 @@ fn a_marked_read_takes_the_mark_of_its_first_step() {
         marked 2 0 3\n release 0 3\n step 0\n close 0\n step 0\n open 0\n step 0 x2\n mark 0 3\n step 0",
     );
     assert_eq!(store(&hub).marks[3], Some(2));
-    assert_eq!(last(&mut hub, "step 2 x2"), Answer::Value(6));
+    assert_eq!(last(&mut hub, "step 2 x2"), Answer::value(6, 0));
 }
 
 /// After the workers' times, one step for all marks, held or not; then the split.
@@ -272,7 +272,7 @@ fn a_mark_keeps_what_it_needs() {
     assert_eq!(last(&mut hub, "collect 0\n step 0 x6"), Answer::Freed(0));
     assert_eq!(last(&mut hub, "step 0\n collect 0\n step 0 x6"), Answer::Freed(3));
     assert_eq!(last(&mut hub, "step 0\n collect 0\n step 0 x6"), Answer::Done);
-    assert_eq!(last(&mut hub, "marked 1 0 3\n step 1 x3"), Answer::Value(5));
+    assert_eq!(last(&mut hub, "marked 1 0 3\n step 1 x3"), Answer::value(5, 0));
     assert_eq!(last(&mut hub, "release 1 3\n step 1\n collect 0\n step 0 x6"), Answer::Freed(2));
 }
 
@@ -292,7 +292,7 @@ fn a_time_that_moves_to_a_mark_is_read() {
         }
         assert_eq!(last(&mut hub, "step 0"), Answer::Freed(0), "{steps}");
         assert_eq!(last(&mut hub, "step 0"), Answer::Done, "{steps}");
-        assert_eq!(last(&mut hub, "marked 1 0 3\n step 1 x3"), Answer::Value(5), "{steps}");
+        assert_eq!(last(&mut hub, "marked 1 0 3\n step 1 x3"), Answer::value(5, 0), "{steps}");
     }
 }
 
@@ -310,8 +310,8 @@ fn a_marked_read_moves_off_a_freed_version() {
     assert_eq!(stands(&hub), at(2, false));
     // The slot has another register's reading by now.
     last(&mut hub, "step 0\n put 0 1 1000\n step 0 x3");
-    assert_eq!(store(&hub).slots[3].reading, Some(1000));
-    assert_eq!(last(&mut hub, "step 1"), Answer::Value(5));
+    assert_eq!(store(&hub).slots[3].reading, Some(Reading::read(1000)));
+    assert_eq!(last(&mut hub, "step 1"), Answer::value(5, 0));
 }
 
 /// A worker's record stays as small as it was.

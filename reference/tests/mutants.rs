@@ -135,7 +135,7 @@ fn a_short_script_for_each_near_miss_of_a1() {
     let begun = hub("put 0 0 1000000000000");
     assert_eq!(told::<ValueAtStep>(&begun, "step 0"), ["going", "no 16"]);
     let stored = format!("{begun}\n step 0 x8");
-    let shown = ["value 1000000000000", "value 999999999999"];
+    let shown = ["value 1000000000000 0", "value 999999999999 0"];
     assert_eq!(told::<GetHides>(&stored, "get 0 0\n step 0"), shown);
     assert_eq!(told::<ReadHides>(&stored, "open 0\n step 0 x2\n read 0 0\n step 0 x2"), shown);
     let freed = "put 0 0 5\n step 0 x9\n collect 0\n step 0 x5";
@@ -198,23 +198,23 @@ fn summed<F: Fault>(rows: &str, script: &str) -> [String; 2] {
 fn a_short_script_for_each_near_miss_of_a_total() {
     let two = "0 + 0\n 0 - 1\n 1 + 1";
     let total = "total 1 0\n step 1 x4";
-    assert_eq!(summed::<SumWithoutLast>(two, total), ["value 80", "value 100"]);
-    assert_eq!(summed::<SignsExchanged>(two, total), ["value 80", "value -80"]);
-    assert_eq!(summed::<NextGroupToo>(two, total), ["value 80", "going"]);
-    assert_eq!(summed::<NextGroupToo>(two, "total 1 0\n step 1 x6"), ["no 11", "value 100"]);
-    assert_eq!(summed::<TwiceOnce>("0 + 1\n 0 + 1", total), ["value 40", "value 20"]);
+    assert_eq!(summed::<SumWithoutLast>(two, total), ["value 80 0", "value 100 0"]);
+    assert_eq!(summed::<SignsExchanged>(two, total), ["value 80 0", "value -80 0"]);
+    assert_eq!(summed::<NextGroupToo>(two, total), ["value 80 0", "going"]);
+    assert_eq!(summed::<NextGroupToo>(two, "total 1 0\n step 1 x6"), ["no 11", "value 100 0"]);
+    assert_eq!(summed::<TwiceOnce>("0 + 1\n 0 + 1", total), ["value 40 0", "value 20 0"]);
     let newer = "put 0 0 7\n step 0 x3\n total 1 0\n step 1 x5";
-    assert_eq!(summed::<TotalNewest>(two, newer), ["value 80", "no 11"]);
+    assert_eq!(summed::<TotalNewest>(two, newer), ["value 80 0", "no 11"]);
     let newer = newer.replace("x5", "x4");
-    assert_eq!(summed::<TotalNewest>(two, &newer), ["going", "value -13"]);
+    assert_eq!(summed::<TotalNewest>(two, &newer), ["going", "value -13 0"]);
     // The script of `a_total_moves_off_a_freed_version` in the tests of totals.
     let freed = "setup 2 2 5 1\n put 0 0 5\n step 0 x3\n open 1\n step 1 x2\n put 0 0 6\n step 0 x9
         total 1 0\n step 1\n put 0 0 7\n step 0 x3\n collect 0\n step 0 x7\n collect 0\n step 0 x7
         put 0 1 1000\n step 0 x3\n step 1";
     let left = told_with::<LeaveTotal>(list("0 + 0"), "", freed);
-    assert_eq!(left, ["value 5", "going"]);
+    assert_eq!(left, ["value 5 0", "going"]);
     let left = told_with::<LeaveTotal>(list("0 + 0"), "", &format!("{freed}\n step 1"));
-    assert_eq!(left, ["no 11", "value 0"]);
+    assert_eq!(left, ["no 11", "value 0 0"]);
 }
 
 #[test]
@@ -229,12 +229,12 @@ fn a_short_script_for_each_near_miss_of_17_and_18() {
     let limit = "setup 2 1 4 1\n put 0 0 999999999999\n step 0 x3\n open 1\n step 1 x2";
     let total = "total 1 0\n step 1 x2";
     let told = told_with::<LimitNotSummed>(list("0 + 0"), limit, total);
-    assert_eq!(told, ["value 999999999999", "no 18"]);
+    assert_eq!(told, ["value 999999999999 0", "no 18"]);
     // The large value is newer than the snapshot.
     let before = format!("{READINGS}\n put 0 0 1000000000000\n step 0 x3");
     assert_eq!(told_with::<LargeAtBegin>(list(rows), &before, "total 1 0"), ["ok", "no 18"]);
     let told = told_with::<LargeAtBegin>(list(rows), &before, "total 1 0\n step 1 x3");
-    assert_eq!(told, ["value 100", "no 11"]);
+    assert_eq!(told, ["value 100 0", "no 11"]);
 }
 
 #[test]
@@ -348,17 +348,17 @@ fn a_short_script_for_each_near_miss_of_marks_in_a_flush() {
 fn a_short_script_for_each_near_miss_of_a_marked_read() {
     let newer = "mark 1 0\n step 1\n close 1\n step 1\n put 0 0 6\n step 0 x9\n open 1\n step 1 x2";
     let read = format!("{newer}\n marked 1 0 0\n step 1 x2");
-    assert_eq!(marked::<MarkedOwnTime>(&read), ["going", "value 6"]);
-    assert_eq!(marked::<MarkedOwnTime>(&format!("{read}\n step 1")), ["value 5", "no 11"]);
+    assert_eq!(marked::<MarkedOwnTime>(&read), ["going", "value 6 0"]);
+    assert_eq!(marked::<MarkedOwnTime>(&format!("{read}\n step 1")), ["value 5 0", "no 11"]);
     let read = "mark 1 0\n step 1\n put 0 0 6\n step 0 x9\n marked 1 0 0\n step 1 x3";
-    assert_eq!(marked::<MarkClock>(read), ["value 5", "no 11"]);
+    assert_eq!(marked::<MarkClock>(read), ["value 5 0", "no 11"]);
     // The mark is emptied between the begin and the first step.
     let emptied = "mark 1 0\n step 1\n marked 0 0 0\n release 1 0\n step 1\n step 0";
     assert_eq!(marked::<MarkedNewest>(emptied), ["no 20", "going"]);
     // The read stands on 6, in slot 3, when 7 covers it and its slot is freed and taken again.
     let freed = "mark 1 0\n step 1\n put 0 0 6\n step 0 x9\n marked 1 0 0\n step 1\n put 0 0 7
         step 0 x3\n collect 0\n step 0 x7\n collect 0\n step 0 x7\n put 0 1 1000\n step 0 x3\n step 1";
-    assert_eq!(marked::<LeaveMarked>(freed), ["value 5", "going"]);
+    assert_eq!(marked::<LeaveMarked>(freed), ["value 5 0", "going"]);
     let left = marked::<LeaveMarked>(&format!("{freed}\n step 1"));
     assert_eq!(left, ["no 11", "none"]);
 }
@@ -448,31 +448,31 @@ fn metered<F: Fault>(script: &str) -> [String; 2] {
 fn a_short_script_for_each_near_miss_of_none() {
     let (get, read) = ("get 0 0\n step 0", "read 1 0\n step 1 x2");
     let marked = "marked 0 0 0\n step 0 x2";
-    assert_eq!(metered::<GetZero>(get), ["none", "value 0"]);
-    assert_eq!(metered::<ReadZero>(read), ["none", "value 0"]);
-    assert_eq!(metered::<MarkedZero>(marked), ["none", "value 0"]);
+    assert_eq!(metered::<GetZero>(get), ["none", "value 0 0"]);
+    assert_eq!(metered::<ReadZero>(read), ["none", "value 0 0"]);
+    assert_eq!(metered::<MarkedZero>(marked), ["none", "value 0 0"]);
     // A put of 0, seen by a get and by a snapshot from after it.
     let zero = "put 0 0 0\n step 0 x3\n close 1\n step 1\n open 1\n step 1 x2\n mark 1 1\n step 1";
     for script in [get, read, "marked 0 0 1\n step 0 x2"] {
-        assert_eq!(metered::<ZeroNone>(&format!("{zero}\n {script}")), ["value 0", "none"]);
+        assert_eq!(metered::<ZeroNone>(&format!("{zero}\n {script}")), ["value 0 0", "none"]);
     }
     // The first put is stamped: the snapshot from before it shows none all the same.
     for (script, worker) in [(read, 1), (marked, 0)] {
         let script = format!("put 0 0 7\n step 0 x3\n {script}\n step {worker}");
-        assert_eq!(metered::<NoneByRegister>(&script), ["none", "value 0"]);
+        assert_eq!(metered::<NoneByRegister>(&script), ["none", "value 0 0"]);
         assert_eq!(metered::<ZeroNone>(&script), ["none", "none"]);
     }
     // It is published and not yet stamped: a get stamps it, and shows it.
     let published = "put 0 0 7\n step 0\n get 1 0\n step 1";
-    assert_eq!(metered::<FirstPutNone>(published), ["value 7", "none"]);
+    assert_eq!(metered::<FirstPutNone>(published), ["value 7 0", "none"]);
     // Its version covers a put, so that the fault has nothing to do with it.
     let second = "put 0 0 7\n step 0 x3\n put 0 0 8\n step 0\n get 1 0\n step 1";
-    assert_eq!(metered::<FirstPutNone>(second), ["value 8", "value 8"]);
+    assert_eq!(metered::<FirstPutNone>(second), ["value 8 0", "value 8 0"]);
     // Slot 0 is freed, and a put on register 1 takes it.
     let taken =
         "setup 1 2 3 1\n put 0 0 5\n step 0 x8\n collect 0\n step 0 x6\n put 0 1 9\n step 0 x8
         get 0 1\n step 0";
-    assert_eq!(told::<NoneBySlot>("", taken), ["value 9", "none"]);
+    assert_eq!(told::<NoneBySlot>("", taken), ["value 9 0", "none"]);
 }
 
 #[test]
@@ -480,12 +480,12 @@ fn a_short_script_for_each_near_miss_of_a_total_without_a_reading() {
     let total = |steps: usize| format!("put 0 1 20\n step 0 x3\n total 1 0\n step 1 x{steps}");
     assert_eq!(metered::<TotalRefusesNone>(&total(2)), ["going", "no 18"]);
     assert_eq!(metered::<TotalNone>(&total(2)), ["going", "none"]);
-    assert_eq!(metered::<TotalRefusesNone>(&total(5)), ["value 0", "no 11"]);
+    assert_eq!(metered::<TotalRefusesNone>(&total(5)), ["value 0 0", "no 11"]);
     // As of a snapshot in which register 0 has a reading, and register 1 none.
     let half =
         "put 0 0 20\n step 0 x3\n close 1\n step 1\n open 1\n step 1 x2\n total 1 0\n step 1 x4";
-    assert_eq!(metered::<TotalRefusesNone>(half), ["value 20", "no 18"]);
-    assert_eq!(metered::<TotalNone>(half), ["value 20", "none"]);
+    assert_eq!(metered::<TotalRefusesNone>(half), ["value 20 0", "no 18"]);
+    assert_eq!(metered::<TotalNone>(half), ["value 20 0", "none"]);
 }
 
 /// What the right row writer and the fault do with no reading, in a buffer of so many bytes.

@@ -7,7 +7,7 @@ use common::{examined, hub_after, last, no, records, run, run_with, store};
 use reference::generate::{script, Kind, Random};
 use reference::order::{self, Action, Claim, Outcome};
 use reference::row::{write_row, Written, LENGTH, REGISTERS};
-use reference::{Answer, Refusal};
+use reference::{Answer, Reading, Refusal};
 
 /// The last of the words that a script is answered with.
 fn told(script: &str) -> String {
@@ -37,9 +37,9 @@ fn every_register_starts_without_a_reading() {
 #[test]
 fn a_put_of_0_is_a_reading() {
     let put = "setup 2 2 6 1\n put 0 0 0\n step 0 x3\n open 1\n step 1 x2";
-    assert_eq!(told(&format!("{put}\n get 1 0\n step 1")), "value 0");
-    assert_eq!(told(&format!("{put}\n read 1 0\n step 1 x2")), "value 0");
-    assert_eq!(told(&format!("{put}\n mark 1 0\n step 1\n marked 0 0 0\n step 0 x2")), "value 0");
+    assert_eq!(told(&format!("{put}\n get 1 0\n step 1")), "value 0 0");
+    assert_eq!(told(&format!("{put}\n read 1 0\n step 1 x2")), "value 0 0");
+    assert_eq!(told(&format!("{put}\n mark 1 0\n step 1\n marked 0 0 0\n step 0 x2")), "value 0 0");
     // The other register has still none.
     assert_eq!(told(&format!("{put}\n get 1 1\n step 1")), "none");
     assert_eq!(told(&format!("{put}\n read 1 1\n step 1 x2")), "none");
@@ -51,7 +51,7 @@ fn a_put_of_0_is_a_reading() {
 fn a_first_put_that_is_not_stamped() {
     for value in [0, 7] {
         let published = format!("setup 3 1 4 5\n open 1\n step 1 x2\n put 0 0 {value}\n step 0");
-        let shown = format!("value {value}");
+        let shown = format!("value {value} 0");
         assert_eq!(told(&format!("{published}\n get 2 0\n step 2")), shown);
         assert_eq!(told(&format!("{published}\n read 1 0\n step 1 x3")), "none");
         // The read stamps it at 7, after its own snapshot of 6.
@@ -82,9 +82,9 @@ fn a_slot_from_setup_that_is_taken_again() {
     assert_eq!(told(freed), "freed 0");
     let taken = format!("{freed}\n step 0\n put 0 1 9\n step 0 x8");
     let mut hub = hub_after(&taken);
-    assert_eq!((store(&hub).newest[1], store(&hub).slots[0].reading), (0, Some(9)));
-    assert_eq!(last(&mut hub, "get 0 1\n step 0"), Answer::Value(9));
-    assert_eq!(last(&mut hub, "open 0\n step 0 x2\n read 0 1\n step 0 x2"), Answer::Value(9));
+    assert_eq!((store(&hub).newest[1], store(&hub).slots[0].reading), (0, Some(Reading::read(9))));
+    assert_eq!(last(&mut hub, "get 0 1\n step 0"), Answer::value(9, 0));
+    assert_eq!(last(&mut hub, "open 0\n step 0 x2\n read 0 1\n step 0 x2"), Answer::value(9, 0));
 }
 
 /// A mark keeps a version without a reading as it keeps any other; released, its slot goes.
@@ -95,7 +95,7 @@ fn a_mark_keeps_the_time_before_the_first_put() {
         put 0 0 5\n step 0 x3\n put 0 0 6\n step 0 x9\n collect 0\n step 0 x7",
     );
     assert_eq!(last(&mut hub, "marked 1 0 3\n step 1 x3"), Answer::None);
-    assert_eq!(last(&mut hub, "get 1 0\n step 1"), Answer::Value(6));
+    assert_eq!(last(&mut hub, "get 1 0\n step 1"), Answer::value(6, 0));
     let freed = last(&mut hub, "release 1 3\n step 1\n collect 0\n step 0 x6");
     assert_eq!(freed, Answer::Freed(0));
 }
@@ -109,14 +109,14 @@ fn a_total_adds_0_for_no_reading() {
         run_with(rows, &script).pop().expect("a record")
     };
     for (rows, sum) in [
-        ("0 + 0", "value 0"),
-        ("0 - 0", "value 0"),
-        ("0 + 0\n 0 - 2\n 0 + 0", "value 0"),
-        ("0 + 3", "value 0"),
-        ("0 + 0\n 0 + 1", "value 20"),
-        ("0 + 1\n 0 - 0", "value 20"),
-        ("0 - 1\n 0 + 2\n 0 + 3", "value -20"),
-        ("0 + 1\n 0 - 2\n 0 + 1\n 0 - 0", "value 40"),
+        ("0 + 0", "value 0 0"),
+        ("0 - 0", "value 0 0"),
+        ("0 + 0\n 0 - 2\n 0 + 0", "value 0 0"),
+        ("0 + 3", "value 0 0"),
+        ("0 + 0\n 0 + 1", "value 20 0"),
+        ("0 + 1\n 0 - 0", "value 20 0"),
+        ("0 - 1\n 0 + 2\n 0 + 3", "value -20 0"),
+        ("0 + 1\n 0 - 2\n 0 + 1\n 0 - 0", "value 40 0"),
     ] {
         assert_eq!(total(rows), sum, "{rows}");
     }
@@ -128,9 +128,9 @@ fn a_total_from_before_the_first_put() {
     let script =
         "setup 2 2 8 1\n open 1\n step 1 x2\n put 0 0 100\n step 0 x3\n put 0 1 30\n step 0
         total 1 0\n step 1 x6";
-    assert_eq!(run_with("0 + 0\n 0 - 1", script).pop().unwrap(), "value 0");
+    assert_eq!(run_with("0 + 0\n 0 - 1", script).pop().unwrap(), "value 0 0");
     let later = format!("{script}\n close 1\n step 1\n open 1\n step 1 x2\n total 1 0\n step 1 x4");
-    assert_eq!(run_with("0 + 0\n 0 - 1", &later).pop().unwrap(), "value 70");
+    assert_eq!(run_with("0 + 0\n 0 - 1", &later).pop().unwrap(), "value 70 0");
 }
 
 /// The checker: `none` exactly where no value is shown, for each of the three that may answer it.
@@ -138,17 +138,17 @@ fn a_total_from_before_the_first_put() {
 fn none_and_values_are_told_apart_by_the_checker() {
     let cases = [
         ("get 1 0\n step 1", "none"),
-        ("get 1 1\n step 1", "value 0"),
+        ("get 1 1\n step 1", "value 0 0"),
         ("read 1 0\n step 1 x2", "none"),
-        ("read 1 1\n step 1 x2", "value 0"),
+        ("read 1 1\n step 1 x2", "value 0 0"),
         ("mark 1 0\n step 1\n marked 0 0 0\n step 0 x2", "none"),
-        ("mark 1 0\n step 1\n marked 0 1 0\n step 0 x2", "value 0"),
+        ("mark 1 0\n step 1\n marked 0 1 0\n step 0 x2", "value 0 0"),
     ];
     for (script, right) in cases {
         let script =
             format!("setup 2 2 6 1\n put 0 1 0\n step 0 x3\n open 1\n step 1 x2\n {script}");
         let record = records(&script).len() / 16 - 1;
-        for answer in ["none", "value 0", "value 1"] {
+        for answer in ["none", "value 0 0", "value 1 0"] {
             let (_, violation) = examined(&script, &[(record, answer)]);
             let broken = violation.map(|found| (found.record, found.claim));
             let expected = (answer != right).then_some((record, Claim::Value));
@@ -178,7 +178,7 @@ fn a_row_of_no_reading() {
     }
     // A reading of 0 is written.
     let mut buffer = [0xaa; 16];
-    assert_eq!(write_row(&mut buffer, 0, 7, Some(0)), Ok(Written::Row));
+    assert_eq!(write_row(&mut buffer, 0, 7, Some(Reading::read(0))), Ok(Written::Row));
     assert_eq!(buffer, [0, 0, 0, 0, 7, 0, 0, 0, 0, 0, 0, 0, 0, 0, 0, 0]);
 }
 
@@ -186,33 +186,37 @@ fn a_row_of_no_reading() {
 #[test]
 fn random_rows() {
     let mut random = Random::new(5);
-    let (mut written, mut none, mut register_refused, mut short) = (0, 0, 0, 0);
+    let (mut written, mut none, mut register_refused, mut short, mut no_status) = (0, 0, 0, 0, 0);
     for _ in 0..4000 {
         let register = random.between(0, 300) as u16;
         let length = random.between(0, 2 * 16 * u64::from(register) + 40) as usize;
-        let reading = random.chance(500).then(|| random.bits() >> random.below(64));
+        let value = random.bits() >> random.below(64);
+        let status = random.pick(&[0, 0, 0, 0, 1, 2, 3, 255]);
+        let reading = random.chance(500).then_some(Reading { value, status });
         let time = random.bits() as u32;
         let before: Vec<u8> = (0..length).map(|_| random.bits() as u8).collect();
         let mut buffer = before.clone();
         let answer = write_row(&mut buffer, register, time, reading);
         let start = LENGTH * usize::from(register);
         match (answer, reading) {
-            (Ok(Written::Row), Some(value)) => {
+            (Ok(Written::Row), Some(Reading { value, status: status @ ..3 })) => {
                 written += 1;
                 let row = &mut buffer[start..start + LENGTH];
-                let expected = [&register.to_le_bytes()[..], &[0, 0], &time.to_le_bytes()].concat();
+                let expected =
+                    [&register.to_le_bytes()[..], &[status, 0], &time.to_le_bytes()].concat();
                 assert_eq!((&row[..8], &row[8..]), (&expected[..], &value.to_le_bytes()[..]));
                 row.copy_from_slice(&before[start..start + LENGTH]);
             }
             (Ok(Written::None), None) => none += 1,
             (Err(Refusal::Register), _) if register >= REGISTERS => register_refused += 1,
             (Err(Refusal::Buffer), _) if length < start + LENGTH => short += 1,
+            (Err(Refusal::Status), Some(Reading { status: 3.., .. })) => no_status += 1,
             _ => panic!("{register}, {length} bytes, {reading:?}: {answer:?}"),
         }
         assert_eq!(buffer, before);
     }
     let counts = [written, none, register_refused, short];
-    assert!(counts.iter().all(|&count| count > 400), "{counts:?}");
+    assert!(counts.iter().all(|&count| count > 400) && no_status > 100, "{counts:?}, {no_status}");
 }
 
 /// Along random scripts, by the plain registers: who answers `none` and who a value.

@@ -6,7 +6,7 @@ use common::{examined, records};
 use reference::generate::{script, Kind};
 use reference::log;
 use reference::order::{self, Action, Claim, Held, Outcome, Violation};
-use reference::{Answer, Hub};
+use reference::{Answer, Hub, Reading};
 
 /// Checks a script with the answers that the hub gives.
 fn check(script: &str) -> order::Order {
@@ -58,7 +58,10 @@ fn effects_of_each_operation() {
     assert_eq!(effects, [Some(6), Some(8), Some(8), Some(13)]);
     assert_eq!(order.sequence, [1, 0, 2, 4]);
     let get = order.operations[2];
-    assert_eq!((get.action, get.shown), (Action::Get { register: 0 }, Some(7)));
+    assert_eq!(
+        (get.action, get.shown),
+        (Action::Get { register: 0 }, Some(Reading::read(7).into()))
+    );
     assert_eq!((get.begin, get.end()), (7, Some(8)));
     assert_eq!(order.operations[3].outcome, Outcome::Unfinished);
     assert_eq!(order.operations[3].effect, None);
@@ -80,7 +83,7 @@ fn effects_of_marks() {
         (Action::Open, 3),
         (Action::Mark { mark: 7 }, 5),
         (Action::Close, 7),
-        (Action::Put { register: 0, value: 9 }, 11),
+        (Action::Put { register: 0, reading: Reading::read(9) }, 11),
         (Action::Marked { register: 0, mark: 7 }, 13),
         (Action::Release { mark: 7 }, 16),
     ];
@@ -113,7 +116,7 @@ fn an_unfinished_put_that_is_stamped_counts() {
     let script = "setup 2 1 2 1\n put 0 0 7\n step 0\n get 1 0\n step 1";
     let order = check(script);
     assert_eq!(order.sequence, [0, 1]);
-    assert_eq!(order.operations[1].shown, Some(7));
+    assert_eq!(order.operations[1].shown, Some(Reading::read(7).into()));
     // One that is not stamped counts as not begun.
     assert_eq!(check("setup 2 1 2 1\n put 0 0 7\n step 0").sequence, []);
 }
@@ -150,21 +153,21 @@ const READ: &str = "setup 2 1 4 1
 fn wrong_values_are_found() {
     let order = check(READ);
     let shown: Vec<_> = order.operations.iter().filter_map(|operation| operation.shown).collect();
-    assert_eq!(shown, [7, 8]);
-    let violation = check_with(READ, &[(15, "value 8")]);
+    assert_eq!(shown.iter().map(|shown| shown.value).collect::<Vec<_>>(), [7, 8]);
+    let violation = check_with(READ, &[(15, "value 8 0")]);
     assert_eq!((violation.record, violation.claim), (15, Claim::Value));
-    let violation = check_with(READ, &[(17, "value 7")]);
+    let violation = check_with(READ, &[(17, "value 7 0")]);
     assert_eq!((violation.record, violation.claim), (17, Claim::Value));
     // The lower record number comes first.
-    assert_eq!(check_with(READ, &[(15, "value 0"), (17, "value 0")]).record, 15);
+    assert_eq!(check_with(READ, &[(15, "value 0 0"), (17, "value 0 0")]).record, 15);
 }
 
 #[test]
 fn a_broken_order_is_given_whole() {
-    let (order, violation) = examined(READ, &[(15, "value 8")]);
+    let (order, violation) = examined(READ, &[(15, "value 8 0")]);
     assert_eq!(violation.unwrap().claim, Claim::Value);
     let shown: Vec<_> = order.operations.iter().filter_map(|operation| operation.shown).collect();
-    assert_eq!(shown, [7, 8]);
+    assert_eq!(shown.iter().map(|shown| shown.value).collect::<Vec<_>>(), [7, 8]);
     assert_eq!(order.records, 18);
 }
 
@@ -174,7 +177,7 @@ fn steps_belong_to_their_operations() {
     let steps: Vec<_> = order.steps.iter().map(|step| (step.record, step.operation)).collect();
     // The last step is refused: it was not taken.
     assert_eq!(steps, [(2, 0), (4, 1), (5, 0)]);
-    assert_eq!(order.steps[1].answer, Answer::Value(7));
+    assert_eq!(order.steps[1].answer, Answer::value(7, 0));
 }
 
 /// One worker, B 1: the second put's flush frees slot 0.
@@ -235,7 +238,7 @@ fn a_put_that_ends_unstamped_is_found() {
 fn answers_that_fit_no_record_are_found() {
     let script = "setup 1 1 2 1\n open 0\n step 0 x2\n bytes 09\n";
     for (record, words) in
-        [(0, "going"), (1, "value 0"), (2, "at 1"), (3, "at 2"), (3, "going"), (4, "ok")]
+        [(0, "going"), (1, "value 0 0"), (2, "at 1"), (3, "at 2"), (3, "going"), (4, "ok")]
     {
         let violation = check_with(script, &[(record, words)]);
         assert_eq!((violation.record, violation.claim), (record, Claim::Fit), "{record} {words}");

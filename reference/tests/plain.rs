@@ -12,8 +12,8 @@ const NONE: u64 = u64::MAX;
 
 #[derive(Clone, Default)]
 struct Version {
-    /// None from setup.
-    value: Option<u64>,
+    /// With its status; none from setup.
+    value: Option<(u64, u8)>,
     low: u64,
     high: u64,
 }
@@ -25,6 +25,8 @@ type Range = (usize, u64, u64);
 struct Worker {
     /// Operation number, register, group or mark, value or a marked read's mark; none when idle.
     operation: Option<(u8, usize, u64)>,
+    /// Of a put.
+    status: u8,
     /// Steps of it taken; in a flush, steps of the flush.
     steps: usize,
     flushing: bool,
@@ -34,9 +36,10 @@ struct Worker {
     pool: Vec<Range>,
     covered: usize,
     standing: Option<usize>,
-    /// Of a total: rows that are summed, and their sum.
+    /// Of a total: rows that are summed, their sum, and every status that was read.
     rows: usize,
     sum: i128,
+    statuses: Vec<u8>,
     merged: Vec<Range>,
     times: Vec<u64>,
     needless: VecDeque<usize>,
@@ -137,7 +140,7 @@ impl Plain {
         let operation = bytes[0];
         let unused: Vec<usize> = match operation {
             0 => vec![6, 7, 12, 13, 14, 15],
-            1 => (4..8).collect(),
+            1 => (5..8).collect(),
             3 | 5 | 8..=10 => (4..16).collect(),
             11 => (5..16).collect(),
             2 | 4 | 6 | 7 => (2..16).collect(),
@@ -169,6 +172,9 @@ impl Plain {
         if operation == 1 && value > 999999999999 && !self.before_a1 {
             return Err(16);
         }
+        if operation == 1 && bytes[4] > 2 {
+            return Err(25);
+        }
         if !self.allowed(operation, w, register) {
             return Err(23);
         }
@@ -187,8 +193,10 @@ impl Plain {
                 self.test_mark(operation, register, value)?;
                 let worker = &mut self.workers[w];
                 worker.operation = Some((operation, register, value));
+                worker.status = bytes[4];
                 worker.steps = 0;
                 (worker.rows, worker.sum) = (0, 0);
+                worker.statuses.clear();
                 worker.flushing = operation == 6;
                 Ok("ok".to_string())
             }
@@ -254,7 +262,8 @@ impl Plain {
                 self.stamp(register);
                 let slot = self.free.pop_front().unwrap();
                 self.workers[w].covered = *self.lists[register].last().unwrap();
-                self.slots[slot] = Version { value: Some(value), low: NONE, high: NONE };
+                let value = Some((value, self.workers[w].status));
+                self.slots[slot] = Version { value, low: NONE, high: NONE };
                 self.lists[register].push(slot);
                 going
             }
@@ -359,21 +368,26 @@ impl Plain {
             return going;
         }
         self.workers[w].standing = None;
-        let value = self.slots[slot].value.unwrap_or(0);
+        let (value, status) = match self.slots[slot].value {
+            Some((value, status)) => (value, Some(status)),
+            None => (0, None),
+        };
         if value > 999999999999 {
             return self.end(w, "no 18".to_string());
         }
+        self.workers[w].statuses.extend(status);
         self.workers[w].sum += sign * i128::from(value);
         self.workers[w].rows += 1;
         if self.workers[w].rows < self.groups[group].len() {
             return going;
         }
-        self.end(w, format!("value {}", self.workers[w].sum))
+        let largest = self.workers[w].statuses.iter().max().unwrap_or(&0);
+        self.end(w, format!("value {} {largest}", self.workers[w].sum))
     }
 
     fn shown(&self, slot: usize) -> String {
         match self.slots[slot].value {
-            Some(value) => format!("value {value}"),
+            Some((value, status)) => format!("value {value} {status}"),
             None => "none".to_string(),
         }
     }

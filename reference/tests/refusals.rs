@@ -9,14 +9,14 @@ use reference::store::{Doing, Store};
 use reference::{Answer, Hub, Record, Refusal};
 use std::collections::HashMap;
 
-/// The order of the refusals on reading: document 01's, with 17 in the place of 4, 16 after 4, 23
-/// after that and just before 10, and 19 to 21 after 13.
-const ORDER: [u8; 18] = [6, 1, 2, 8, 9, 5, 3, 4, 17, 16, 23, 10, 11, 12, 13, 19, 20, 21];
+/// The order of the refusals on reading: document 01's, with 17 in the place of 4, 16 after 4, 25 after
+/// 16, 23 after that and just before 10, and 19 to 21 after 13.
+const ORDER: [u8; 19] = [6, 1, 2, 8, 9, 5, 3, 4, 17, 16, 25, 23, 10, 11, 12, 13, 19, 20, 21];
 
 /// The bytes that operations 0 to 11 use.
 const USED: [&[usize]; 12] = [
     &[0, 1, 2, 3, 4, 5, 8, 9, 10, 11],
-    &[0, 1, 2, 3, 8, 9, 10, 11, 12, 13, 14, 15],
+    &[0, 1, 2, 3, 4, 8, 9, 10, 11, 12, 13, 14, 15],
     &[0, 1],
     &[0, 1, 2, 3],
     &[0, 1],
@@ -104,6 +104,9 @@ fn deserved(bytes: &[u8], list: &[u8], table: &[u8], store: Option<&Store>) -> V
     let value = (8..16).rev().fold(0, |value, place| value << 8 | u64::from(bytes[place]));
     if operation == 1 && value > 999_999_999_999 {
         numbers.push(16);
+    }
+    if operation == 1 && bytes[4] > 2 {
+        numbers.push(25);
     }
     let Some(store) = store else {
         numbers.push(8);
@@ -215,6 +218,14 @@ fn the_first_deserved_refusal_in_the_order() {
         ((4, 16), 200),
         ((16, 10), 500),
         ((16, 16), 1000),
+        ((2, 25), 100),
+        ((8, 25), 30),
+        ((3, 25), 100),
+        ((4, 25), 100),
+        ((16, 25), 300),
+        ((25, 23), 50),
+        ((25, 10), 200),
+        ((25, 25), 500),
         ((2, 17), 100),
         ((3, 17), 100),
         ((17, 10), 400),
@@ -285,7 +296,7 @@ fn records_that_deserve_several() {
         // A value above the limit: after all that the record and its fields deserve, before busy.
         ("", "bytes 01 00 00 00 00 00 00 00 ff ff ff ff ff ff ff", 6),
         ("", "bytes 0c 00 00 00 00 00 00 00 ff ff ff ff ff ff ff ff", 1),
-        (busy, "bytes 01 00 00 00 01 00 00 00 ff ff ff ff ff ff ff ff", 2),
+        (busy, "bytes 01 00 00 00 00 01 00 00 ff ff ff ff ff ff ff ff", 2),
         ("", "put 0 0 1000000000000", 8),
         (busy, "put 2 0 1000000000000", 3),
         (busy, "put 2 1 18446744073709551615", 3),
@@ -295,6 +306,17 @@ fn records_that_deserve_several() {
         (busy, "put 1 0 1000000000000", 16),
         (busy, "put 0 0 999999999999", 10),
         (snapshot_busy, "put 0 0 18446744073709551615", 16),
+        // A status above 2: after the limit too, and before busy.
+        ("", "bytes 01 00 00 00 03 00 00 00 00 00 00 00 00 00 00", 6),
+        (busy, "bytes 01 00 00 00 03 01 00 00 00 00 00 00 00 00 00 00", 2),
+        ("", "put 0 0 7 3", 8),
+        (busy, "put 2 1 7 3", 3),
+        (busy, "put 0 1 7 3", 4),
+        (busy, "put 0 0 1000000000000 3", 16),
+        (busy, "put 1 0 1000000000000 255", 16),
+        (busy, "put 0 0 999999999999 3", 25),
+        (busy, "put 1 0 7 255", 25),
+        (busy, "put 0 0 7 2", 10),
     ];
     for (before, record, number) in cases {
         let mut hub = common::hub_after(before);
@@ -379,8 +401,8 @@ fn the_tables_numbers() {
         assert_eq!(Refusal::from_number(place as u64 + 1), Some(*refusal));
     }
     assert_eq!(Refusal::from_number(0), None);
-    assert_eq!(Refusal::from_number(25), None);
-    assert_eq!(words(&[no(15), no(18), no(19), no(21)]), ["no 15", "no 18", "no 19", "no 21"]);
+    assert_eq!(Refusal::from_number(26), None);
+    assert_eq!(words(&[no(15), no(18), no(21), no(25)]), ["no 15", "no 18", "no 21", "no 25"]);
 }
 
 #[test]

@@ -9,7 +9,7 @@ use reference::generate::{script, Kind, Random, Script};
 use reference::list::Groups;
 use reference::record::LENGTH;
 use reference::rights::{permits, read, Need, Rights, Row, Unfit, MAX_LENGTH};
-use reference::{log, Answer, Hub, Record, Refusal};
+use reference::{log, Answer, Hub, Reading, Record, Refusal};
 
 /// The answers to a readable text with a list and a table, as words.
 fn run(rows: &str, rights: &str, script: &str) -> Vec<String> {
@@ -343,16 +343,18 @@ fn spans_at_the_bounds_of_words() {
     }
 }
 
-/// The script with other values put to this register, all within A1's limit; how many are others.
+/// The script with other values and statuses put to this register, all within A1's limit and at most 2;
+/// how many are others.
 fn with_other_values(records: &[u8], register: u16, random: &mut Random) -> (Vec<u8>, usize) {
     let mut others = 0;
     let other = |bytes: &[u8]| match Record::decode(bytes) {
-        Ok(Record::Put { worker, register: r, value })
-            if r == register && value < 1_000_000_000_000 =>
+        Ok(Record::Put { worker, register: r, reading })
+            if r == register && reading.value < 1_000_000_000_000 && reading.status < 3 =>
         {
             let value = random.below(1_000_000_000_000);
+            let reading = Reading { value, status: random.below(3) as u8 };
             others += 1;
-            Record::Put { worker, register, value }.encode().to_vec()
+            Record::Put { worker, register, reading }.encode().to_vec()
         }
         _ => bytes.to_vec(),
     };
@@ -360,7 +362,7 @@ fn with_other_values(records: &[u8], register: u16, random: &mut Random) -> (Vec
     (changed, others)
 }
 
-/// In two runs that differ only in values put to one register, workers without read on it get the same
+/// In two runs that differ only in values and statuses put to one register, workers without read on it get the same
 /// answers throughout, and so do all others to what is not a value.
 #[test]
 fn two_runs_that_differ_in_one_register() {

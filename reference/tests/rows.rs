@@ -5,8 +5,10 @@ use reference::bcd::{convert, convert_with, Way, DIF, VIF};
 use reference::buffers::{damaged, row, valid};
 use reference::fault::*;
 use reference::generate::Random;
+use reference::reading::READ;
+use reference::row::{write_row, Written};
 use reference::store::MAX_VALUE;
-use reference::Refusal;
+use reference::{Reading, Refusal};
 use std::io::{Read, Write};
 use std::process::{Command, Output, Stdio};
 
@@ -114,6 +116,37 @@ fn the_first_eight_bytes_are_kept_and_not_judged() {
         assert_eq!(convert(Way::ToOld, &mut buffer), Ok(()));
         assert_eq!(buffer, old);
     }
+}
+
+/// A8: the status is byte 2 of either form, so that it stays, both ways; so does a byte that is none.
+#[test]
+fn the_status_stays_in_both_directions() {
+    for (status, other) in (0..=255).map(|status| (status, 255 - status)) {
+        let first = |status| [3, 0, status, 0, 7, 0, 0, 0];
+        let [old, new] = [0, 1].map(|form| {
+            [row(first(status), 42)[form], row(first(other), MAX_VALUE)[form]].concat()
+        });
+        let mut buffer = old.clone();
+        assert_eq!(convert(Way::ToNew, &mut buffer), Ok(()));
+        assert_eq!((buffer[2], buffer[18], &buffer), (status, other, &new));
+        assert_eq!(convert(Way::ToOld, &mut buffer), Ok(()));
+        assert_eq!((buffer[2], buffer[18], &buffer), (status, other, &old));
+    }
+}
+
+/// What the row writer has written moves with its status; an old row has 0 there, which is read.
+#[test]
+fn a_written_row_moves_with_its_status() {
+    for status in 0..3 {
+        let mut buffer = [0xaa; 64];
+        let reading = Some(Reading { value: 12_345, status });
+        assert_eq!(write_row(&mut buffer, 3, 7, reading), Ok(Written::Row));
+        let rows = &mut buffer[48..];
+        assert_eq!(rows, row([3, 0, status, 0, 7, 0, 0, 0], 12_345)[0]);
+        assert_eq!(convert(Way::ToNew, rows), Ok(()));
+        assert_eq!(rows, row([3, 0, status, 0, 7, 0, 0, 0], 12_345)[1]);
+    }
+    assert_eq!((FIRST[2], READ), (0, 0));
 }
 
 /// Refused, and nothing is written.

@@ -150,7 +150,7 @@ fn reads_on_an_unlinked_version_move_to_the_older_one() {
     assert_eq!(store(&hub).workers[0].doing, Doing::ReadAt { slot: 0, first: false });
     assert_eq!(last(&mut hub, "step 0"), Answer::None);
     assert_eq!(last(&mut hub, "step 1"), Answer::At(2));
-    assert_eq!(last(&mut hub, "read 1 0\n step 1 x2"), Answer::Value(8));
+    assert_eq!(last(&mut hub, "read 1 0\n step 1 x2"), Answer::value(8, 0));
 }
 
 #[test]

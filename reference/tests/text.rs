@@ -7,7 +7,7 @@ use common::{list, records, table};
 use reference::generate::{script, Kind, Random};
 use reference::record::LENGTH;
 use reference::text::{pack, pack_list, pack_table, unpack, unpack_list, unpack_table, MAX_REPEAT};
-use reference::{Record, Refusal};
+use reference::{Reading, Record, Refusal};
 
 fn round_trip(file: &[u8]) {
     let text = unpack(file);
@@ -40,6 +40,10 @@ fn text_comes_back_too() {
     let text = "setup 16 256 2048 4294967295
 put 255 65535 18446744073709551615
 put 0 0 1000000000000
+put 1 2 3 estimated
+put 1 2 1000000000000 corrected
+put 1 2 3 3
+put 255 65535 18446744073709551615 255
 open 3
 read 4 9
 close 5
@@ -56,6 +60,7 @@ marked 3 7 11
 marked 255 65535 255
 bytes 0c 00 00 00 00 00 00 00 00 00 00 00 00 00 00 01  # refused with 1: operation above 11
 bytes 08 00 1f 00 01 00 00 00 00 00 00 00 00 00 00 00  # refused with 2: an unused byte is not zero
+bytes 01 00 00 00 02 01 00 00 00 00 00 00 00 00 00 00  # refused with 2: an unused byte is not zero
 bytes 02 00 00 00 00 00 00 00 00 00 00 00 00 00 00 01  # refused with 2: an unused byte is not zero
 bytes 09 00 00 00 01 00 00 00 00 00 00 00 00 00 00 00  # refused with 2: an unused byte is not zero
 bytes 0b 00 00 00 0b 01 00 00 00 00 00 00 00 00 00 00  # refused with 2: an unused byte is not zero
@@ -88,9 +93,15 @@ fn unpacking_says_why_a_record_is_refused() {
 
 #[test]
 fn commands_and_their_bytes() {
-    let cases: [(&str, [u8; LENGTH]); 13] = [
+    let cases: [(&str, [u8; LENGTH]); 19] = [
         ("setup 2 258 772 84281096", [0, 2, 2, 1, 4, 3, 0, 0, 8, 7, 6, 5, 0, 0, 0, 0]),
         ("put 3 258 578437695752307201", [1, 3, 2, 1, 0, 0, 0, 0, 1, 2, 3, 4, 5, 6, 7, 8]),
+        ("put 3 258 5 read", [1, 3, 2, 1, 0, 0, 0, 0, 5, 0, 0, 0, 0, 0, 0, 0]),
+        ("put 3 258 5 0", [1, 3, 2, 1, 0, 0, 0, 0, 5, 0, 0, 0, 0, 0, 0, 0]),
+        ("put 3 258 5 estimated", [1, 3, 2, 1, 1, 0, 0, 0, 5, 0, 0, 0, 0, 0, 0, 0]),
+        ("put 3 258 5 corrected", [1, 3, 2, 1, 2, 0, 0, 0, 5, 0, 0, 0, 0, 0, 0, 0]),
+        ("put 3 258 5 2", [1, 3, 2, 1, 2, 0, 0, 0, 5, 0, 0, 0, 0, 0, 0, 0]),
+        ("put 3 258 5 255", [1, 3, 2, 1, 255, 0, 0, 0, 5, 0, 0, 0, 0, 0, 0, 0]),
         ("open 9", [2, 9, 0, 0, 0, 0, 0, 0, 0, 0, 0, 0, 0, 0, 0, 0]),
         ("read 9 513", [3, 9, 1, 2, 0, 0, 0, 0, 0, 0, 0, 0, 0, 0, 0, 0]),
         ("close 9", [4, 9, 0, 0, 0, 0, 0, 0, 0, 0, 0, 0, 0, 0, 0, 0]),
@@ -119,7 +130,7 @@ fn well_formed_records_decode_to_what_was_encoded() {
         let (slots, clock, value) = (random.bits() as u16, random.bits() as u32, random.bits());
         let record = random.pick(&[
             Record::Setup { workers: worker, registers: register, slots, clock },
-            Record::Put { worker, register, value },
+            Record::Put { worker, register, reading: Reading { value, status: slots as u8 } },
             Record::Open { worker },
             Record::Read { worker, register },
             Record::Close { worker },
@@ -133,6 +144,24 @@ fn well_formed_records_decode_to_what_was_encoded() {
         ]);
         assert_eq!(Record::decode(&record.encode()), Ok(record));
         assert_eq!(records(&unpack(&record.encode())), record.encode());
+    }
+}
+
+/// Every status of a put comes back: read left out, the words of the next two, and numbers.
+#[test]
+fn statuses_come_back() {
+    for status in 0..=255 {
+        let reading = Reading { value: 7, status };
+        let bytes = Record::Put { worker: 1, register: 2, reading }.encode();
+        round_trip(&bytes);
+        let expected = match status {
+            0 => "put 1 2 7\n".to_string(),
+            1 => "put 1 2 7 estimated\n".to_string(),
+            2 => "put 1 2 7 corrected\n".to_string(),
+            _ => format!("put 1 2 7 {status}\n"),
+        };
+        assert_eq!(unpack(&bytes), expected);
+        assert_eq!(records(&format!("put 1 2 7 {status}")), bytes);
     }
 }
 
@@ -154,8 +183,22 @@ fn long_runs_of_steps() {
 fn errors_say_line_and_reason() {
     let cases = [
         ("open", 1, "not of the form: open WORKER"),
-        ("\nput 1 2", 2, "not of the form: put WORKER REGISTER VALUE"),
-        ("# a put\n\nput 0 0 7 8 # one too many", 3, "not of the form: put WORKER REGISTER VALUE"),
+        ("\nput 1 2", 2, "not of the form: put WORKER REGISTER VALUE [STATUS]"),
+        (
+            "# a put\n\nput 0 0 7 1 8 # one too many",
+            3,
+            "not of the form: put WORKER REGISTER VALUE [STATUS]",
+        ),
+        (
+            "put 0 0 7 estimate",
+            1,
+            "status \"estimate\" is not read, estimated, corrected or a number from 0 to 255",
+        ),
+        (
+            "put 0 0 7 256",
+            1,
+            "status \"256\" is not read, estimated, corrected or a number from 0 to 255",
+        ),
         (
             "open 1\nfly 3",
             2,

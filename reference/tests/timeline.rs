@@ -196,8 +196,10 @@ fn labels_that_do_not_fit_are_shortened() {
     let last = timeline(&format!("setup 1 1 9 1\n put 0 0 {MAX_VALUE}"), &[]);
     assert!(last.contains(&format!(">put r0 = {MAX_VALUE}</text>")), "{last}");
     // A get that is followed at once has room for nine digits.
-    let svg =
-        timeline("setup 1 1 9 1\n get 0 0\n step 0\n get 0 0\n", &[(2, "value 12345678901234567")]);
+    let svg = timeline(
+        "setup 1 1 9 1\n get 0 0\n step 0\n get 0 0\n",
+        &[(2, "value 12345678901234567 0")],
+    );
     assert!(
         svg.contains(r#"<text class="answer wrong" x="122" y="118">123456789…</text>"#),
         "{svg}"
@@ -218,12 +220,12 @@ fn puts_above_the_limit_are_not_drawn() {
 fn a_broken_order_is_marked() {
     let script = "setup 1 1 2 1\n get 0 0\n step 0";
     assert_eq!(count(&timeline(script, &[]), "violation"), 0);
-    let svg = timeline(script, &[(2, "value 3")]);
+    let svg = timeline(script, &[(2, "value 3 0")]);
     assert!(well_formed(&svg));
     assert_eq!(count(&svg, "violation"), 1);
     assert!(svg.contains(">The order of demand 3: not accepted</text>"), "{svg}");
     assert!(svg.contains(">record 2: worker 0's get of register 0, "), "{svg}");
-    assert!(svg.contains(">3 ≠ no value</text>"), "{svg}");
+    assert!(svg.contains(">3 0 ≠ no value</text>"), "{svg}");
 }
 
 /// `none` stands below its bar as a value does, and in red where a value is shown.
@@ -235,10 +237,22 @@ fn none_is_drawn_as_an_answer() {
     assert_eq!((count(&svg, "answer"), count(&svg, "answer wrong")), (4, 0), "{svg}");
     assert_eq!(svg.matches(">none</text>").count(), 3, "{svg}");
     let put = "setup 1 1 4 1\n put 0 0 0\n step 0 x8\n get 0 0\n step 0";
-    assert!(timeline(put, &[]).contains(r#">0</text>"#));
+    assert!(timeline(put, &[]).contains(r#">0 0</text>"#));
     let svg = timeline(put, &[(11, "none")]);
     assert_eq!((count(&svg, "answer wrong"), count(&svg, "violation")), (1, 1), "{svg}");
-    assert!(svg.contains(">none ≠ 0</text>"), "{svg}");
+    assert!(svg.contains(">none ≠ 0 0</text>"), "{svg}");
+}
+
+/// A put's status but for 0, and that of each value; in red where another one is shown.
+#[test]
+fn statuses_are_drawn() {
+    let script = "setup 1 1 4 1\n put 0 0 7 estimated\n step 0 x8\n get 0 0\n step 0";
+    let svg = timeline(script, &[]);
+    assert!(svg.contains(">put r0 = 7 1</text>") && svg.contains(">7 1</text>"), "{svg}");
+    assert!(timeline("setup 1 1 4 1\n put 0 0 7", &[]).contains(">put r0 = 7</text>"));
+    let svg = timeline(script, &[(11, "value 7 0")]);
+    assert_eq!((count(&svg, "answer wrong"), count(&svg, "violation")), (1, 1), "{svg}");
+    assert!(svg.contains(">7 0 ≠ 7 1</text>"), "{svg}");
 }
 
 #[test]
@@ -277,10 +291,10 @@ fn totals_are_drawn_as_reads() {
     let svg = Timeline::new(&order, violation.as_ref()).to_string();
     assert!(well_formed(&svg));
     assert_eq!((count(&svg, "bar read total"), count(&svg, "wrong")), (1, 0), "{svg}");
-    assert!(svg.contains(">total g12</text>") && svg.contains(">-7</text>"), "{svg}");
-    let (order, violation) = examined_with(rows, script, &[(15, "value 7")]);
+    assert!(svg.contains(">total g12</text>") && svg.contains(">-7 0</text>"), "{svg}");
+    let (order, violation) = examined_with(rows, script, &[(15, "value 7 0")]);
     let svg = Timeline::new(&order, violation.as_ref()).to_string();
-    assert!(svg.contains(">7 ≠ -7</text>"), "{svg}");
+    assert!(svg.contains(">7 0 ≠ -7 0</text>"), "{svg}");
 }
 
 /// A lane for each mark that held something, below the workers', with a bar from its step to the

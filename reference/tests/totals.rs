@@ -8,8 +8,8 @@ use reference::generate::{script_across, Kind, Random, Script};
 use reference::list::{Groups, Row, Unfit, GROUPS, MAX_LENGTH, MAX_ROWS};
 use reference::order;
 use reference::record::LENGTH;
-use reference::store::{Doing, MAX_VALUE};
-use reference::{Answer, Hub, Record};
+use reference::store::{Doing, Slot, MAX_VALUE};
+use reference::{Answer, Hub, Reading, Record};
 
 /// The answer to a setup of V registers with this list.
 fn set_up(registers: u16, list: &[u8]) -> Answer {
@@ -134,7 +134,7 @@ fn only_an_accepted_setup_takes_its_list() {
         ["done", "ok", "going", "at 1"]
     );
     assert_eq!(take("total 0 1\n total 0 0\n step 0", &second), ["no 17", "ok", "going"]);
-    assert_eq!(take("step 0", &none), ["value 5"]);
+    assert_eq!(take("step 0", &none), ["value 5 0"]);
 }
 
 #[test]
@@ -162,14 +162,14 @@ fn total(rows: &str, group: u16) -> Vec<String> {
 /// Two steps a row where nothing is newer, and only the last one answers.
 #[test]
 fn one_register_after_another() {
-    assert_eq!(total("0 + 0", 0), ["ok", "going", "value 100"]);
-    assert_eq!(total("0 - 0", 0), ["ok", "going", "value -100"]);
-    assert_eq!(total("0 + 0\n 0 - 1", 0), ["ok", "going", "going", "going", "value 80"]);
+    assert_eq!(total("0 + 0", 0), ["ok", "going", "value 100 0"]);
+    assert_eq!(total("0 - 0", 0), ["ok", "going", "value -100 0"]);
+    assert_eq!(total("0 + 0\n 0 - 1", 0), ["ok", "going", "going", "going", "value 80 0"]);
     let three = ["ok", "going", "going", "going", "going", "going"];
     let rows = "2 + 1\n 7 + 0\n 7 - 1\n 7 + 2\n 8 + 0";
-    assert_eq!(total(rows, 7), [&three[..], &["value 83"]].concat());
-    assert_eq!(total(rows, 2), ["ok", "going", "value 20"]);
-    assert_eq!(total(rows, 8), ["ok", "going", "value 100"]);
+    assert_eq!(total(rows, 7), [&three[..], &["value 83 0"]].concat());
+    assert_eq!(total(rows, 2), ["ok", "going", "value 20 0"]);
+    assert_eq!(total(rows, 8), ["ok", "going", "value 100 0"]);
     for group in [0, 1, 3, 6, 9, 31, 32, 255, 256, 258, 65535] {
         assert_eq!(total(rows, group), ["no 17"], "group {group}");
     }
@@ -178,10 +178,10 @@ fn one_register_after_another() {
 /// A register twice counts twice, with the same sign or another.
 #[test]
 fn a_register_twice() {
-    assert_eq!(total("0 + 1\n 0 + 1", 0).last().unwrap(), "value 40");
-    assert_eq!(total("0 - 1\n 0 - 1\n 0 - 1", 0).last().unwrap(), "value -60");
-    assert_eq!(total("0 + 1\n 0 - 1", 0).last().unwrap(), "value 0");
-    assert_eq!(total("0 + 1\n 0 + 0\n 0 + 1\n 0 - 2", 0).last().unwrap(), "value 137");
+    assert_eq!(total("0 + 1\n 0 + 1", 0).last().unwrap(), "value 40 0");
+    assert_eq!(total("0 - 1\n 0 - 1\n 0 - 1", 0).last().unwrap(), "value -60 0");
+    assert_eq!(total("0 + 1\n 0 - 1", 0).last().unwrap(), "value 0 0");
+    assert_eq!(total("0 + 1\n 0 + 0\n 0 + 1\n 0 - 2", 0).last().unwrap(), "value 137 0");
 }
 
 /// Both ends of what a total can answer, and zero on the way.
@@ -189,17 +189,17 @@ fn a_register_twice() {
 fn sums_at_the_extremes() {
     let most =
         "setup 1 2 8 1\n put 0 0 999999999999\n step 0 x9\n open 0\n step 0 x2\n total 0 3\n";
-    for (sign, expected) in [("+", "value 31999999999968"), ("-", "value -31999999999968")] {
+    for (sign, expected) in [("+", "value 31999999999968 0"), ("-", "value -31999999999968 0")] {
         let rows = format!("3 {sign} 0\n").repeat(32);
         let script = format!("{most} step 0 x64");
         assert_eq!(run_with(&rows, &script).last().unwrap(), expected);
     }
     let half = "3 + 0\n".repeat(16) + &"3 - 0\n".repeat(16);
-    assert_eq!(run_with(&half, &format!("{most} step 0 x64")).last().unwrap(), "value 0");
+    assert_eq!(run_with(&half, &format!("{most} step 0 x64")).last().unwrap(), "value 0 0");
     let rows = "3 - 0\n".repeat(31) + "3 - 1";
     assert_eq!(
         run_with(&rows, &format!("{most} step 0 x64")).last().unwrap(),
-        "value -30999999999969"
+        "value -30999999999969 0"
     );
     assert_eq!(run_with(&rows, &format!("{most} step 0 x63")).last().unwrap(), "going");
 }
@@ -222,7 +222,7 @@ fn each_row_stamps_its_register() {
     assert_eq!(last(&mut hub, "step 1"), Answer::Going);
     assert_eq!(low(&hub, 1), Some(6));
     assert_eq!(last(&mut hub, "step 1"), Answer::Going);
-    assert_eq!(last(&mut hub, "step 1"), Answer::Value(0));
+    assert_eq!(last(&mut hub, "step 1"), Answer::value(0, 0));
 }
 
 /// The sum is that of the snapshot, whatever is put while the total is under way.
@@ -240,7 +240,7 @@ fn the_sum_is_of_one_time() {
             answer => break answer,
         }
     };
-    assert_eq!(answer, Answer::Value(83));
+    assert_eq!(answer, Answer::value(83, 0));
     assert!(steps > 6, "it passed newer versions: {steps} steps");
     assert_eq!(last(&mut hub, "total 1 0\n step 1 x40"), no(11), "idle again");
 }
@@ -264,8 +264,8 @@ fn a_total_moves_off_a_freed_version() {
         assert!(stands(&hub, 2));
         // The slot has another register's reading by now.
         last(&mut hub, "step 0\n put 0 1 1000\n step 0 x3");
-        assert_eq!(store(&hub).slots[3].reading, Some(1000));
-        assert_eq!(last(&mut hub, "step 1"), Answer::Value(5));
+        assert_eq!(store(&hub).slots[3].reading, Some(Reading::read(1000)));
+        assert_eq!(last(&mut hub, "step 1"), Answer::value(5, 0));
     }
 }
 
@@ -341,10 +341,10 @@ fn refusal_18_at_its_step() {
     assert_eq!(over("0 + 1", &large, total), going(1));
     // The limit itself is summed; the largest value of all is not.
     let limit = over("0 + 1\n 0 + 0", &before(MAX_VALUE), "total 1 0\n step 1 x4");
-    assert_eq!(limit.last().unwrap(), "value 1000000000003");
+    assert_eq!(limit.last().unwrap(), "value 1000000000003 0");
     assert_eq!(over("0 - 1", &before(u64::MAX), total), going(1));
     // A group without that register has its sum.
-    assert_eq!(over("0 + 0\n 1 + 1", &large, "total 1 0\n step 1 x2").last().unwrap(), "value 4");
+    assert_eq!(over("0 + 0\n 1 + 1", &large, "total 1 0\n step 1 x2").last().unwrap(), "value 4 0");
 }
 
 /// What the snapshot shows is tested, not what is newest, and only where it is to be summed.
@@ -352,7 +352,10 @@ fn refusal_18_at_its_step() {
 fn refusal_18_is_of_the_value_to_be_summed() {
     // The large value is newer than the snapshot: the total passes it.
     let newer = "setup 2 1 8 1\n put 0 0 4\n step 0 x3\n open 1\n step 1 x2\n put 0 0 1000000000000\n step 0 x9";
-    assert_eq!(over("0 + 0", newer, "total 1 0\n step 1 x3"), ["ok", "going", "going", "value 4"]);
+    assert_eq!(
+        over("0 + 0", newer, "total 1 0\n step 1 x3"),
+        ["ok", "going", "going", "value 4 0"]
+    );
     // It is older, and covered by a smaller one since: the total meets it.
     let older = "setup 2 1 8 1\n put 0 0 1000000000000\n step 0 x3\n open 1\n step 1 x2";
     let after = "put 0 0 4\n step 0 x3\n total 1 0\n step 1 x3\n step 1";
@@ -379,15 +382,17 @@ fn refusal_18_changes_nothing_but_the_worker() {
     expected.workers[1].doing = Doing::Idle;
     assert_eq!(after, expected);
     let (answers, _) = take("step 1\n open 1\n read 1 1\n step 1 x3\n close 1\n step 1");
-    let shown = "value 1000000000000";
+    let shown = "value 1000000000000 0";
     assert_eq!(words(&answers), ["no 11", "no 12", "ok", "going", "going", shown, "ok", "done"]);
 }
 
-/// A step's record is 16 bytes like any other, and a worker's record stays as small as it was.
+/// A step's record is 16 bytes like any other, and a worker's record stays as small as it was; so do a
+/// slot and an answer with a status.
 #[test]
 fn a_total_takes_no_more_room() {
     assert_eq!(size_of::<Doing>(), 16);
     assert_eq!(size_of::<Row>(), 4);
+    assert_eq!((size_of::<Slot>(), size_of::<Answer>(), size_of::<Record>()), (40, 16, 16));
 }
 
 /// Totals along random scripts, by the plain registers: all that ended, by sign, and those with 18.
@@ -404,8 +409,8 @@ fn random_totals_show_the_sum_over_the_copy() {
             for operation in &order.operations {
                 if let order::Action::Total { .. } = operation.action {
                     let shown = operation.answer().and_then(Answer::shown);
-                    above += usize::from(shown.is_some_and(|shown| shown > 0));
-                    below += usize::from(shown.is_some_and(|shown| shown < 0));
+                    above += usize::from(shown.is_some_and(|shown| shown.value > 0));
+                    below += usize::from(shown.is_some_and(|shown| shown.value < 0));
                     refused += usize::from(operation.answer() == Some(no(18)));
                     assert_eq!(shown, operation.shown);
                 }

@@ -115,6 +115,23 @@ fn names_are_read_back() {
     assert_eq!(Workload::named("growth-17"), None);
 }
 
+/// Of sixteen puts one is an estimate and one a correction, in every file that has puts.
+#[test]
+fn some_puts_are_estimates_and_corrections() {
+    for workload in Workload::ALL.into_iter().filter(|&workload| workload != Workload::Uniform) {
+        let mut met = [0; 3];
+        for bytes in workload.records(1).take(60_000) {
+            if let Ok(Record::Put { reading, .. }) = Record::decode(&bytes) {
+                met[usize::from(reading.status)] += 1;
+            }
+        }
+        let puts: usize = met.iter().sum();
+        let share = |count: usize| (40..90).contains(&(1000 * count / puts.max(1)));
+        let told = format!("{workload:?}: {met:?}");
+        assert!(share(met[1]) && share(met[2]) && met[0] > 3 * puts / 4, "{told}");
+    }
+}
+
 #[test]
 fn each_begins_with_its_setup() {
     let sizes = [
