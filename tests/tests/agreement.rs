@@ -80,13 +80,13 @@ fn the_limit_of_a_put() {
         step 1 x2\n get 0 0\n step 0",
         &[
             "no 8", "ok", "no 3", "no 3", "no 4", "no 16", "no 11", "ok", "no 16", "no 10", "going",
-            "no 16", "going", "done", "ok", "no 16", "value 999999999999", "no 16", "ok", "going",
-            "going", "ok", "value 999999999998",
+            "no 16", "going", "done", "ok", "no 16", "value 999999999999 0", "no 16", "ok", "going",
+            "going", "ok", "value 999999999998 0",
         ],
     );
     // 2, 1 and 6 come before it too.
     holds(
-        "setup 1 1 2 1\n bytes 01 00 00 00 01 00 00 00 ff ff ff ff ff ff ff ff
+        "setup 1 1 2 1\n bytes 01 00 00 00 00 01 00 00 ff ff ff ff ff ff ff ff
         bytes 0c 00 00 00 00 00 00 00 ff ff ff ff ff ff ff ff
         bytes 01 00 00 00 00 00 00 00 ff ff ff ff ff ff ff",
         &["ok", "no 2", "no 1", "no 6"],
@@ -103,7 +103,7 @@ fn values_of_all_lengths() {
         let script = format!(
             "setup 2 1 3 1\n put 0 0 {value}\n put 0 0 {value}\n step 0 x3\n get 1 0\n step 1"
         );
-        let shown = format!("value {value}");
+        let shown = format!("value {value} 0");
         if value <= 999_999_999_999 {
             holds(&script, &["ok", "ok", "no 10", "going", "going", "done", "ok", &shown]);
         } else {
@@ -149,7 +149,7 @@ fn together(scripts: Vec<(Kind, &'static str, u64, usize)>) -> Coverage {
 #[test]
 fn random_scripts_of_all_kinds() {
     let mut scripts = Vec::new();
-    for seed in 0..140 {
+    for seed in 0..134 {
         for (kind, name) in Kind::ALL {
             scripts.push((kind, name, seed, 1000));
         }
@@ -175,6 +175,8 @@ fn random_scripts_of_all_kinds() {
     least(&Branch::of_readings().collect::<Vec<_>>(), 40);
     least(&Branch::of_rights().collect::<Vec<_>>(), 100);
     least(&Branch::of_tables().collect::<Vec<_>>(), 15);
+    least(&Branch::of_statuses().collect::<Vec<_>>(), 100);
+    assert!(total.refusals[25] > 5000, "{}", total.refusals[25]);
     // Both of what a get, a read or a marked read may answer.
     assert!(
         total.answered_with("none") > 20_000 && total.answered_with("value") > 60_000,
@@ -219,6 +221,18 @@ fn longer_scripts_of_rights() {
         let met = total.branches[branch as usize];
         assert!(met > 3, "{branch:?} met {met} times");
     }
+}
+
+/// Puts of statuses above 2 among the others, with tables that are fit or refused.
+#[test]
+fn longer_scripts_of_statuses() {
+    let seeds = 5000..5020;
+    let total = together(seeds.map(|seed| (Kind::Statuses, "statuses", seed, 5000)).collect());
+    for branch in Branch::of_statuses() {
+        let met = total.branches[branch as usize];
+        assert!(met > 0, "{branch:?} met {met} times");
+    }
+    assert!(total.refusals[25] > 3000, "{}", total.refusals[25]);
 }
 
 /// The numbers of the lines have up to seven digits.

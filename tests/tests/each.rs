@@ -90,6 +90,7 @@ fn random_scripts_on_rows_of_other_lengths() {
             (Kind::Marks, "marks"),
             (Kind::Empty, "empty"),
             (Kind::Rights, "rights"),
+            (Kind::Statuses, "statuses"),
         ] {
             let script = script(kind, 900 + seed, 250);
             let long = 1 + (seed as usize * 7) % 60;

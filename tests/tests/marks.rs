@@ -46,8 +46,8 @@ fn a_mark_keeps_a_moment() {
         ("put 0 0 7\n step 0 x3\n collect 0", &["ok", "going x2", "done", "ok"]),
         ("step 0 x7", &["going x5", "freed 0", "done"]),
         ("collect 0\n step 0 x7", &["ok", "going x5", "freed 3", "done"]),
-        ("marked 1 0 3\n step 1 x3", &["ok", "going x2", "value 5"]),
-        ("get 1 0\n step 1", &["ok", "value 7"]),
+        ("marked 1 0 3\n step 1 x3", &["ok", "going x2", "value 5 0"]),
+        ("get 1 0\n step 1", &["ok", "value 7 0"]),
         ("release 1 3\n step 1\n marked 1 0 3", &["ok", "done", "no 20"]),
         ("collect 0\n step 0 x7", &["ok", "going x5", "freed 2", "done"]),
     ]);
@@ -70,7 +70,7 @@ fn a_time_that_moves_to_a_mark_is_read() {
             &vec!["going"; before],
             &["ok", "done", "ok", "done"],
             &vec!["going"; after - 1],
-            &["freed 0", "done", "ok", "going", "going", "value 5"],
+            &["freed 0", "done", "ok", "going", "going", "value 5 0"],
         ];
         holds(&script, &words.concat());
     }
@@ -88,7 +88,7 @@ fn a_marked_read_moves_off_a_freed_version() {
         ("put 0 0 7\n step 0 x3", &["ok", "going x2", "done"]),
         ("collect 0\n step 0 x7", &["ok", "going x5", "freed 0", "done"]),
         ("collect 0\n step 0 x7", &["ok", "going x5", "freed 3", "done"]),
-        ("put 0 1 1000\n step 0 x3\n step 1", &["ok", "going x2", "done", "value 5"]),
+        ("put 0 1 1000\n step 0 x3\n step 1", &["ok", "going x2", "done", "value 5 0"]),
     ]);
 }
 
@@ -99,9 +99,9 @@ fn a_marked_read_has_its_own_time() {
         ("mark 1 11\n step 1\n close 1\n step 1", &["ok", "done", "ok", "done"]),
         ("put 0 0 6\n step 0 x9", &["ok", "going x8", "done"]),
         ("open 1\n step 1 x2\n mark 1 0\n step 1", &["ok", "going", "at 2", "ok", "done"]),
-        ("marked 1 0 11\n step 1 x3", &["ok", "going x2", "value 5"]),
-        ("marked 1 0 0\n step 1 x2", &["ok", "going", "value 6"]),
-        ("read 1 0\n step 1 x2", &["ok", "going", "value 6"]),
+        ("marked 1 0 11\n step 1 x3", &["ok", "going x2", "value 5 0"]),
+        ("marked 1 0 0\n step 1 x2", &["ok", "going", "value 6 0"]),
+        ("read 1 0\n step 1 x2", &["ok", "going", "value 6 0"]),
         ("marked 0 1 0\n step 0 x2", &["ok", "going", "none"]),
     ]);
 }
@@ -121,10 +121,10 @@ fn where_the_refusals_stand() {
         ("marked 0 0 255\n marked 2 0 3", &["no 4", "no 3"]),
         ("get 1 0\n mark 1 3\n mark 1 4\n mark 1 12", &["ok", "no 10 x2", "no 4"]),
         ("release 1 4\n release 1 12\n marked 1 0 4", &["no 10", "no 4", "no 10"]),
-        ("marked 1 2 3\n marked 1 0 12\n step 1", &["no 4 x2", "value 5"]),
+        ("marked 1 2 3\n marked 1 0 12\n step 1", &["no 4 x2", "value 5 0"]),
         ("marked 1 0 3\n release 0 3\n step 0", &["ok", "ok", "done"]),
         ("step 1\n step 1\n mark 1 3\n step 1", &["no 20", "no 11", "ok", "done"]),
-        ("marked 1 0 3\n step 1\n release 0 3\n step 1", &["ok", "going", "no 21", "value 5"]),
+        ("marked 1 0 3\n step 1\n release 0 3\n step 1", &["ok", "going", "no 21", "value 5 0"]),
         ("release 0 3\n step 0", &["ok", "done"]),
         ("bytes 09 01 03 00 01 00 00 00 00 00 00 00 00 00 00 00", &["no 2"]),
         ("bytes 0a 01 03 00 00 00 00 00 00 00 00 00 00 00 00 80", &["no 2"]),
@@ -144,7 +144,7 @@ fn refusals_at_the_step() {
         ("open 0\n step 0 x2\n mark 0 3\n mark 1 3", &["ok", "going", "at 2", "ok x2"]),
         ("step 1\n step 0\n step 0\n mark 0 3", &["done", "no 19", "no 11", "no 19"]),
         ("release 0 3\n marked 1 0 3\n step 1", &["ok x2", "going"]),
-        ("step 0\n step 0\n step 1", &["no 21", "no 11", "value 5"]),
+        ("step 0\n step 0\n step 1", &["no 21", "no 11", "value 5 0"]),
         ("release 0 3\n release 1 3\n step 0\n step 1 x2", &["ok x2", "done", "no 20", "no 11"]),
         ("mark 0 3\n step 0\n marked 1 0 3\n release 0 3", &["ok", "done", "ok x2"]),
         ("step 0\n step 1 x2", &["done", "no 20", "no 11"]),
@@ -167,6 +167,6 @@ fn twelve_marks() {
     let shown: Vec<&str> = text.lines().filter(|line| line.contains("value")).collect();
     assert_eq!(shown.len(), 12);
     for (mark, line) in shown.iter().enumerate() {
-        assert!(line.ends_with(&format!(" value {}", 100 + mark)), "{line}");
+        assert!(line.ends_with(&format!(" value {} 0", 100 + mark)), "{line}");
     }
 }

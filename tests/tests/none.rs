@@ -31,7 +31,7 @@ fn registers_start_without_a_reading() {
     holds("", &format!("setup 1 256 2048 1\n {gets}"), &["ok", "none"].repeat(256));
 }
 
-/// A put of 0 is `value 0`, by a get, a read and a marked read; the snapshot from before has none.
+/// A put of 0 is `value 0 0`, by a get, a read and a marked read; the snapshot from before has none.
 #[test]
 fn a_put_of_0() {
     holds(
@@ -40,9 +40,36 @@ fn a_put_of_0() {
         open 2\n step 2 x2\n read 2 0\n step 2 x2\n mark 2 0\n step 2\n marked 0 0 0\n step 0 x2
         read 1 0\n step 1 x3\n mark 1 1\n step 1\n marked 0 0 1\n step 0 x3",
         &[
-            "ok", "going", "at 1", "ok", "going", "going", "done", "ok", "value 0", "ok", "going",
-            "at 2", "ok", "going", "value 0", "ok", "done", "ok", "going", "value 0", "ok",
-            "going", "going", "none", "ok", "done", "ok", "going", "going", "none",
+            "ok",
+            "going",
+            "at 1",
+            "ok",
+            "going",
+            "going",
+            "done",
+            "ok",
+            "value 0 0",
+            "ok",
+            "going",
+            "at 2",
+            "ok",
+            "going",
+            "value 0 0",
+            "ok",
+            "done",
+            "ok",
+            "going",
+            "value 0 0",
+            "ok",
+            "going",
+            "going",
+            "none",
+            "ok",
+            "done",
+            "ok",
+            "going",
+            "going",
+            "none",
         ],
     );
 }
@@ -53,9 +80,9 @@ fn a_put_of_0() {
 fn a_first_put_that_is_not_stamped() {
     let published = "setup 3 1 4 5\n open 1\n step 1 x2\n put 0 0 7\n step 0\n";
     let words = ["ok", "going", "at 5", "ok", "going"];
-    let get = ["ok", "value 7", "going", "done"];
+    let get = ["ok", "value 7 0", "going", "done"];
     holds("", &format!("{published} get 2 0\n step 2\n step 0 x2"), &[&words[..], &get].concat());
-    let read = ["ok", "going", "going", "none", "ok", "value 7"];
+    let read = ["ok", "going", "going", "none", "ok", "value 7 0"];
     holds(
         "",
         &format!("{published} read 1 0\n step 1 x3\n get 2 0\n step 2"),
@@ -74,7 +101,7 @@ fn a_slot_from_setup_that_is_taken_again() {
         &going(4),
         &["freed 0", "done", "ok"],
         &going(7),
-        &["done", "ok", "value 9", "ok", "value 5"],
+        &["done", "ok", "value 9 0", "ok", "value 5 0"],
     ];
     holds(
         "",
@@ -91,7 +118,7 @@ fn totals_add_0() {
     let words = [
         &["ok", "going", "going", "done", "ok", "going", "at 1", "ok"][..],
         &going(5),
-        &["value 20", "ok", "going", "value 0", "ok", "going", "going", "going", "value -20"],
+        &["value 20 0", "ok", "going", "value 0 0", "ok", "going", "going", "going", "value -20 0"],
     ];
     holds(
         "0 + 0\n 0 + 1\n 0 - 2\n 1 - 2\n 2 + 2\n 2 - 1",

@@ -5,8 +5,9 @@ use hublog_tests::{agree, hublog, printed_with, said, Named};
 use reference::fault::Right;
 use reference::generate::{script, Kind, Random, Script};
 use reference::list::Groups;
+use reference::reading::LAST_STATUS;
 use reference::rights::{self, permits, Need};
-use reference::{log, record, text, Record};
+use reference::{log, record, text, Reading, Record};
 use std::io::Write;
 use std::path::Path;
 use std::process::{Output, Stdio};
@@ -223,17 +224,19 @@ fn random_scripts_with_damaged_tables() {
     assert!(fits > 200 && refused > 200, "{fits}, {refused}");
 }
 
-/// The records with other values put to this register, all within A1's limit; how many are others.
+/// The records with other values and statuses put to this register, all within A1's limit and at most 2;
+/// how many are others.
 fn with_other_values(file: &[u8], register: u16, random: &mut Random) -> (Vec<u8>, usize) {
     const LIMIT: u64 = 999_999_999_999;
     let (mut changed, mut others) = (Vec::with_capacity(file.len()), 0);
     for bytes in file.chunks(record::LENGTH) {
         match Record::decode(bytes) {
-            Ok(Record::Put { worker, register: put, value })
-                if put == register && value <= LIMIT =>
+            Ok(Record::Put { worker, register: put, reading })
+                if put == register && reading.value <= LIMIT && reading.status <= LAST_STATUS =>
             {
-                let value = random.between(0, LIMIT);
-                changed.extend(Record::Put { worker, register, value }.encode());
+                let (value, status) = (random.between(0, LIMIT), random.below(3) as u8);
+                let reading = Reading { value, status };
+                changed.extend(Record::Put { worker, register, reading }.encode());
                 others += 1;
             }
             _ => changed.extend(bytes),
@@ -242,7 +245,7 @@ fn with_other_values(file: &[u8], register: u16, random: &mut Random) -> (Vec<u8
     (changed, others)
 }
 
-/// In two runs that differ only in values put to one register, workers without read on it get the same
+/// In two runs that differ only in values and statuses put to one register, workers without read on it get the same
 /// answers throughout; what another is told differs in a value alone.
 #[test]
 fn two_runs_that_differ_in_one_register() {

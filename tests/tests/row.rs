@@ -1,20 +1,27 @@
 //! The read-out row: what the program `row_cases` must print, by the second program's row writer.
 
 use reference::row::{write_row, Written};
+use reference::Reading;
 
 #[test]
 fn row_cases_print_what_the_second_program_writes() {
     let mut expected = Vec::new();
-    let with = Some(0x0102_0304_0506_0708);
+    let with = |status| Some(Reading { value: 0x0102_0304_0506_0708, status });
     for (length, register, reading) in [
-        (15, 0, with),
-        (16, 0, with),
-        (31, 1, with),
-        (32, 1, with),
-        (32, 256, with),
+        (15, 0, with(0)),
+        (16, 0, with(0)),
+        (31, 1, with(0)),
+        (32, 1, with(0)),
+        (32, 256, with(0)),
         (15, 0, None),
         (16, 0, None),
         (32, 256, None),
+        (16, 0, with(1)),
+        (16, 0, with(2)),
+        (16, 0, with(3)),
+        (15, 0, with(3)),
+        (16, 256, with(3)),
+        (32, 1, with(2)),
     ] {
         let mut buffer = vec![9; length];
         expected.push(match write_row(&mut buffer, register, 0x0102_0304, reading) {

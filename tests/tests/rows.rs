@@ -83,6 +83,23 @@ fn random_buffers_both_ways() {
     assert!(written > 400 && part > 80 && value > 100 && coding > 100, "{total:?}");
 }
 
+/// A8: the status, byte 2, stays both ways, and so does every byte there.
+#[test]
+fn the_status_stays() {
+    let mut counts = Counts::default();
+    for form in [0, 1] {
+        let way = Way::ALL[form];
+        let rows = |form: usize| -> Vec<u8> {
+            (0..=255).flat_map(|status| row([3, 0, status, 0, 7, 0, 0, 0], 42)[form]).collect()
+        };
+        counts.agree(way, &rows(form));
+        let there = moved(&[way.name()], &rows(form)).stdout;
+        assert!(there == rows(1 - form), "{way:?}");
+        assert!(there.chunks(16).zip(0..=255).all(|(row, status)| row[2] == status), "{way:?}");
+    }
+    assert_eq!(counts.written, 2);
+}
+
 /// Every length up to three rows, of rows that fit and of bytes that do not.
 #[test]
 fn every_length() {

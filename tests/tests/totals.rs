@@ -37,7 +37,7 @@ fn one_register_after_another() {
     .concat();
     let rows = "2 + 1\n 7 + 0\n 7 - 1\n 7 - 1\n 8 - 0\n 9 - 2\n 9 + 2";
     for (group, steps, answer) in
-        [(2, 2, "value 20"), (7, 6, "value 60"), (8, 2, "value -100"), (9, 4, "value 0")]
+        [(2, 2, "value 20 0"), (7, 6, "value 60 0"), (8, 2, "value -100 0"), (9, 4, "value 0 0")]
     {
         let script = format!("{readings} total 1 {group}\n step 1 x{}", steps + 1);
         let steps = [&vec!["going"; steps - 1][..], &[answer, "no 11"]].concat();
@@ -56,7 +56,7 @@ fn the_sum_is_of_one_time() {
         &[
             "ok", "ok", "going", "going", "done", "ok", "going", "going", "going", "going", "going", "going",
             "going", "going", "done", "ok", "going", "at 1", "ok", "going", "going", "done", "ok", "going", "ok", "going",
-            "going", "going", "no 10", "going", "going", "going", "no 10", "going", "value 3",
+            "going", "going", "no 10", "going", "going", "going", "no 10", "going", "value 3 0",
         ],
     );
 }
@@ -72,7 +72,7 @@ fn a_total_moves_off_a_freed_version() {
     let both = Script { records, list, ..Script::default() };
     agree("a freed version", &both);
     let text = String::from_utf8(printed(&both.records, &both.list, &[])).unwrap();
-    assert!(text.contains(" freed 3\n") && text.ends_with(" value 5\n"), "{text}");
+    assert!(text.contains(" freed 3\n") && text.ends_with(" value 5 0\n"), "{text}");
 }
 
 #[test]
@@ -87,7 +87,7 @@ fn sums_at_the_extremes() {
         let both = Script { records: records(script), list: list(&rows), ..Script::default() };
         agree(&rows, &both);
         let text = String::from_utf8(printed(&both.records, &both.list, &[])).unwrap();
-        assert!(text.contains(&format!(" value {sum}\n")), "{sum}: {text}");
+        assert!(text.contains(&format!(" value {sum} 0\n")), "{sum}: {text}");
     }
 }
 
@@ -105,7 +105,7 @@ fn where_17_stands() {
         bytes 08 00 00 00 00 00 00 00 00 00 00 00 00 00 00",
         &[
             "no 8", "ok", "no 3", "no 17", "no 13", "ok", "no 17", "no 10", "none", "ok", "going", "at 1",
-            "no 17", "no 17", "no 17", "no 17", "no 17", "ok", "no 10", "no 17", "going", "value 0", "no 2",
+            "no 17", "no 17", "no 17", "no 17", "no 17", "ok", "no 10", "no 17", "going", "value 0 0", "no 2",
             "no 2", "no 1", "no 6",
         ],
     );
@@ -202,7 +202,7 @@ fn the_longest_list_and_longer_ones() {
     assert_eq!(longest.len(), 4096);
     let text = printed_with(&[Named::file(&longest).as_ref()]);
     assert_eq!(text, expected(&longest));
-    assert_eq!(text.matches(" value -224\n").count(), 2);
+    assert_eq!(text.matches(" value -224 0\n").count(), 2);
     let refused = expected(&[0; 3]);
     assert!(refused.starts_with("0 no 5\n1 no 8\n"));
     for length in [4095, 4097, 4098, 4100, 8192, 3_000_000, 5_000_001] {
