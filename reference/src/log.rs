@@ -44,32 +44,39 @@ impl Decimal {
     }
 }
 
-/// Appends a number in decimal.
-fn append_number(text: &mut Vec<u8>, mut number: u64) {
-    let mut digits = [0; 20];
-    let mut start = digits.len();
+/// Writes a number in decimal before this place; gives where it begins.
+#[inline(always)]
+fn write_number(digits: &mut [u8; 22], mut place: usize, mut number: u64) -> usize {
     loop {
-        start -= 1;
-        digits[start] = b'0' + (number % 10) as u8;
+        place -= 1;
+        digits[place] = b'0' + (number % 10) as u8;
         number /= 10;
         if number == 0 {
-            break;
+            return place;
         }
     }
+}
+
+/// Appends a number in decimal.
+fn append_number(text: &mut Vec<u8>, number: u64) {
+    let mut digits = [0; 22];
+    let start = write_number(&mut digits, 22, number);
     text.extend_from_slice(&digits[start..]);
 }
 
 /// Appends these words, the value, a space and the status.
 fn append_reading(text: &mut Vec<u8>, words: &[u8], Reading { value, status }: Reading) {
     text.extend_from_slice(words);
-    append_number(text, value);
-    match status {
-        ..10 => text.extend_from_slice(&[b' ', b'0' + status]),
-        _ => {
-            text.push(b' ');
-            append_number(text, status.into());
-        }
+    if status > 9 {
+        // No hub shows one.
+        append_number(text, value);
+        text.push(b' ');
+        return append_number(text, status.into());
     }
+    let mut digits = [0; 22];
+    (digits[20], digits[21]) = (b' ', b'0' + status);
+    let start = write_number(&mut digits, 20, value);
+    text.extend_from_slice(&digits[start..]);
 }
 
 /// Appends an answer's words; `Display` has the same, more slowly.
