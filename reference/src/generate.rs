@@ -183,7 +183,7 @@ impl Script {
 /// Tables are drawn from numbers of their own: a script without one is as if there were none.
 const TABLES: u64 = 0x00a7_0000_0000_0000;
 
-/// So are statuses: all else is as if there were none.
+/// So are the statuses of puts, and the turns of those above 2.
 const STATUSES: u64 = 0x00a8_0000_0000_0000;
 
 /// A script of `count` records, the last one maybe short.

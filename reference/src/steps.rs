@@ -171,13 +171,14 @@ impl Store {
     /// This reading; where a fault names a slot, with the status of the reading there.
     #[inline(always)]
     fn with_status(&self, reading: Option<Reading>, slot: Option<u16>) -> Option<Reading> {
-        match slot.and_then(|slot| self.slots[usize::from(slot)].reading) {
+        match self.neighbour(slot) {
             Some(Reading { status, .. }) => reading.map(|own| Reading { status, ..own }),
             None => reading,
         }
     }
 
-    /// What a neighbour of a version holds; only an observer asks.
+    /// What a neighbour of a version holds; only an observer or a fault asks.
+    #[inline(always)]
     pub(crate) fn neighbour(&self, slot: Option<u16>) -> Option<Reading> {
         slot.and_then(|slot| self.slots[usize::from(slot)].reading)
     }
