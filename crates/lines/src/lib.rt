@@ -173,7 +173,7 @@ fn numbered(table: &[u8; 90], kind: u16) -> bool
 }
 
 // Whether a status follows the number.
-fn rated(table: &[u8; 90], kind: u16) -> bool
+fn has_status(table: &[u8; 90], kind: u16) -> bool
     requires { ⌜ now table ≡ rows ⌝ }
     ensures { λ r. ⌜ r ≡ hasStatus kind ⌝ }
 {
@@ -227,7 +227,7 @@ fn spill_status(out: &mut [u8], at: usize, table: &[u8; 90], kind: u16, status: 
     requires { ⌜ (now table ≡ rows) × (at + 21 ≤ length (now out)) ⌝ }
     ensures { λ r. ⌜ Spills (statusPart kind status) at (now (out .entry)) (now (out .exit)) r ⌝ }
 {
-    if rated(table, kind) {
+    if has_status(table, kind) {
         let next = put_byte(out, at, 32);
         return spill_decimal(out, next, status);
     }

@@ -28,7 +28,7 @@ shownAs m = m % 255 + 1
 abbrev pub readAs : Purpose → ℕ
 readAs Single = 0
 readAs (Marked m) = shownAs m
-readAs (Totaling g i sum) = 0
+readAs (Totaling g i k plus minus) = 0
 
 -- H13.8: a read of a mark runs from its first step to its end: while it stands on a version
 abbrev pub readFrom : Stance → ℕ
@@ -71,4 +71,4 @@ refusalIn (Unread m) marks reading = cond (heldIn marks m) (cond (readIn reading
 abbrev pub timeIn : Purpose → Announced → List ℕ → ℕ
 timeIn Single t marks = timeOf t
 timeIn (Marked m) t marks = markIn marks m
-timeIn (Totaling g i sum) t marks = timeOf t
+timeIn (Totaling g i k plus minus) t marks = timeOf t

@@ -37,7 +37,9 @@ fn read_as(x: Purpose) -> u8
         Purpose::Totaling {
             group: _,
             row: _,
-            sum: _,
+            status: _,
+            plus: _,
+            minus: _,
         } => 0,
     }
 }
@@ -155,7 +157,9 @@ pub fn time_for(x: Purpose, t: Announced, marks: &[u64; 12]) -> u64
         Purpose::Totaling {
             group: _,
             row: _,
-            sum: _,
+            status: _,
+            plus: _,
+            minus: _,
         } => worker::time_of(t),
     }
 }

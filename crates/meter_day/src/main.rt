@@ -14,6 +14,14 @@ fn write_record(out: &mut [u8], k: usize, operation: u8, worker: u8, register: u
     out[at + 8] = value;
 }
 
+// Gives the put of record k a status: 0 read, 1 estimated, 2 corrected (H16.2).
+fn write_status(out: &mut [u8], k: usize, status: u8) {
+    if out.len() / 16 <= k {
+        return;
+    }
+    out[16 * k + 4] = status;
+}
+
 // Writes n steps of a worker from record k on; answers the number of the next record.
 fn write_steps(out: &mut [u8], k: usize, worker: u8, n: usize) -> usize {
     let mut i: usize = 0;
@@ -51,9 +59,10 @@ fn main() {
     // Worker 0 puts 100 on register 0 and 70 on register 1.
     let a = write_operation(bytes, 1, 1, 0, 0, 100, 3);
     let b = write_operation(bytes, a, 1, 0, 1, 70, 3);
-    // Worker 1 opens a snapshot, and worker 0 puts 130 on register 0.
+    // Worker 1 opens a snapshot, and worker 0 puts 130 on register 0, an estimate.
     let c = write_operation(bytes, b, 2, 1, 0, 0, 2);
     let d = write_operation(bytes, c, 1, 0, 0, 130, 3);
+    write_status(bytes, c, 1);
     // A get shows the newest reading, a read the one of the snapshot.
     let e = write_operation(bytes, d, 5, 0, 0, 0, 1);
     write_operation(bytes, e, 3, 1, 0, 0, 3);

@@ -64,7 +64,7 @@ sumFits sum = leb sum (31 * twelveDigits)
 abbrev pub purposeFits : Purpose → ℕ → Bool
 purposeFits Single k = true
 purposeFits (Marked m) k = true
-purposeFits (Totaling g i sum) k = ltb i k && (sumFits (sum .plus) && sumFits (sum .minus))
+purposeFits (Totaling g i j plus minus) k = ltb i k && (sumFits plus && sumFits minus)
 
 -- the times read are those of at most p workers, or of all of them and of all marks (H13.2)
 abbrev pub readFits : ℕ → ℕ → Bool

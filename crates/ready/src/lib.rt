@@ -152,8 +152,13 @@ fn purpose_fits(x: Purpose, k: u16) -> bool
     match x {
         Purpose::Single => true,
         Purpose::Marked(_) => true,
-        Purpose::Totaling { group: _, row, sum } => (row < k)
-            & ((sum.plus <= 30999999999969) & (sum.minus <= 30999999999969)),
+        Purpose::Totaling {
+            group: _,
+            row,
+            status: _,
+            plus,
+            minus,
+        } => (row < k) & ((plus <= 30999999999969) & (minus <= 30999999999969)),
     }
 }
 

@@ -7,7 +7,6 @@ use worker::Doing;
 use worker::Goal;
 use worker::Named;
 use worker::Purpose;
-use worker::Sum;
 use worker::TimeStep;
 use worker::Worker;
 
@@ -175,7 +174,9 @@ fn one_if_totaling(x: Purpose) -> usize {
         Purpose::Totaling {
             group: _,
             row: _,
-            sum: _,
+            status: _,
+            plus: _,
+            minus: _,
         } => 1,
     }
 }
@@ -299,14 +300,18 @@ fn goal_with(g: Goal, kind: u8, x: usize) -> Goal {
     let purpose = match old {
         Purpose::Single => old,
         Purpose::Marked(_) => old,
-        Purpose::Totaling { group, row, sum } => Purpose::Totaling {
+        Purpose::Totaling {
+            group,
+            row,
+            status,
+            plus,
+            minus,
+        } => Purpose::Totaling {
             group,
             row: (pick(kind == TOTAL_ROW, x, row as usize) % 65536) as u16,
-            sum: Sum {
-                plus: pick(kind == PLUS, x, sum.plus as usize) as u64,
-                minus: pick(kind == MINUS, x, sum.minus as usize) as u64,
-                ..sum
-            },
+            status,
+            plus: pick(kind == PLUS, x, plus as usize) as u64,
+            minus: pick(kind == MINUS, x, minus as usize) as u64,
         },
     };
     Goal { purpose, ..g }

@@ -234,9 +234,9 @@ module _ (up : Bool) (m : Memory) (r : Record.Decoded) where
     unfolding nextIn takenIn totalFoundOf occurrences
     found-ends e Single v q = shown-ends v _
     found-ends e (Marked i) v q = shown-ends v _
-    found-ends e (Totaling g i y) v q =
+    found-ends e (Totaling g i k plus minus) v q =
         cond-both StillEnds (leb (countOf (contentOf v)) twelveDigits) _ _
-        (λ f. cond-both StillEnds (goesOn (rowsKept (m .hub)) g i) _ _ (λ n. tt) (λ n. signed-ends (sumWith y (rowAt (rowsKept (m .hub)) i) v)))
+        (λ f. cond-both StillEnds (goesOn (rowsKept (m .hub)) g i) _ _ (λ n. tt) (λ n. signed-ends (sumWith (record { plus = plus; minus = minus; status = k }) (rowAt (rowsKept (m .hub)) i) v)))
         (λ f. sets-idle 18 e (omega arith) q)
 
     -- by the worker's place

@@ -66,16 +66,16 @@ module _ (m : Memory) where
   purpose-tells : (y : Purpose) → purposeFits y (m .hub .listed) ≡ true → PurposeInRange (m .hub) y
   purpose-tells Single e = tt
   purpose-tells (Marked i) e = tt
-  purpose-tells (Totaling g i sum) e =
+  purpose-tells (Totaling g i k plus minus) e =
       let a = and-both (ltb i (m .hub .listed)) _ e in
-      let b = and-both (sumFits (sum .plus)) (sumFits (sum .minus)) (a .1) in
-      (ltb-true i (m .hub .listed) (a .0), leb-true (sum .plus) (31 * twelveDigits) (b .0), leb-true (sum .minus) (31 * twelveDigits) (b .1))
+      let b = and-both (sumFits plus) (sumFits minus) (a .1) in
+      (ltb-true i (m .hub .listed) (a .0), leb-true plus (31 * twelveDigits) (b .0), leb-true minus (31 * twelveDigits) (b .1))
 
   purpose-yes : (y : Purpose) → PurposeInRange (m .hub) y → purposeFits y (m .hub .listed) ≡ true
   purpose-yes Single P = refl
   purpose-yes (Marked i) P = refl
-  purpose-yes (Totaling g i sum) P =
-      rw (lt-ltb i (m .hub .listed) (P .0), le-leb (sum .plus) (31 * twelveDigits) (P .1), le-leb (sum .minus) (31 * twelveDigits) (P .2))
+  purpose-yes (Totaling g i k plus minus) P =
+      rw (lt-ltb i (m .hub .listed) (P .0), le-leb plus (31 * twelveDigits) (P .1), le-leb minus (31 * twelveDigits) (P .2))
 
   -- how many times were read
   or-tells : (a b : Bool) → (a || b) ≡ true → (a ≡ true) ⊎ (b ≡ true)

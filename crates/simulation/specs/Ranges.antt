@@ -48,7 +48,7 @@ TimesRead h j = (j ≤ h .p) ⊎ (j ≡ h .p + markCount)
 abbrev pub PurposeInRange : Hub → Purpose → Type 0
 PurposeInRange h Single = Unit {0}
 PurposeInRange h (Marked m) = Unit {0}
-PurposeInRange h (Totaling g i sum) = (i < h .listed) × (sum .plus ≤ 31 * twelveDigits) × (sum .minus ≤ 31 * twelveDigits)
+PurposeInRange h (Totaling g i k plus minus) = (i < h .listed) × (plus ≤ 31 * twelveDigits) × (minus ≤ 31 * twelveDigits)
 
 -- what worker w's place names: a register, a slot, a list in hand of so many ranges, a count of times read, a total, a mark
 pub record PlaceInRange (m : Memory) (w : ℕ) (y : Facts) : Type 0 where

@@ -94,7 +94,7 @@ stopped j t k n = outcomeOf Idle t k n (No j)
 abbrev pub needOf : Purpose → MarkNeed
 needOf Single = Nothing
 needOf (Marked m) = Held m
-needOf (Totaling g i sum) = Nothing
+needOf (Totaling g i k plus minus) = Nothing
 
 -- Read (1) H5.36: the register is stamped, and the read stands on its newest version. H13.7: 20 where the mark that it reads is empty.
 unfoldable pub readEnterStep : Goal → Announced → ℕ → ℕ → List Slot → List ℕ → List ℕ → List ℕ → Stepped
@@ -133,7 +133,7 @@ answerTo (Of x) = Value x
 abbrev pub foundOf : Purpose → Content → Announced → ℕ → ℕ → List ℕ → Outcome
 foundOf Single x t k n rows = outcomeOf Idle t k n (answerTo x)
 foundOf (Marked m) x t k n rows = outcomeOf Idle t k n (answerTo x)
-foundOf (Totaling g i sum) x t k n rows = totalFoundOf g i sum x t k n rows
+foundOf (Totaling g i j plus minus) x t k n rows = totalFoundOf g i (record { plus = plus; minus = minus; status = j }) x t k n rows
 
 -- Read (2) H5.37, H13.5: with a low that is at most the worker's time, or the mark's, the value there is found, which is a read's answer; else the
 -- read goes to the older neighbour.

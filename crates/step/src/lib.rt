@@ -124,7 +124,9 @@ fn need_for(x: Purpose) -> MarkNeed
         Purpose::Totaling {
             group: _,
             row: _,
-            sum: _,
+            status: _,
+            plus: _,
+            minus: _,
         } => MarkNeed::Nothing,
     }
 }
@@ -223,7 +225,18 @@ fn found(
     match purpose {
         Purpose::Single => announcing::outcome_of(Doing::Idle, t, clock, n, answer_for(x)),
         Purpose::Marked(_) => announcing::outcome_of(Doing::Idle, t, clock, n, answer_for(x)),
-        Purpose::Totaling { group, row, sum } => {
+        Purpose::Totaling {
+            group,
+            row,
+            status,
+            plus,
+            minus,
+        } => {
+            let sum = Sum {
+                plus,
+                minus,
+                status,
+            };
             total_found(group, row, sum, x, t, clock, n, rows, listed)
         }
     }

@@ -15,7 +15,7 @@ use Rattle.worker.specs.declared.Purpose.the-variants.{Totaling}
 
 -- a total of group g at row i, with the sums of the rows of its group before it: the model's `goalAt`, with the row as a number of sixteen bits
 abbrev pub goalIn : List ℕ → ℕ → ℕ → Sum → Goal
-goalIn rows g i sum = record { register = registerOf (rowAt rows i); purpose = Totaling g (i % 65536) sum }
+goalIn rows g i sum = record { register = registerOf (rowAt rows i); purpose = Totaling g (i % 65536) (sum .status) (sum .plus) (sum .minus) }
 
 -- a sum of at most 31 values with one more, of at most twelve digits; any other stays
 abbrev pub addedTo : ℕ → ℕ → ℕ

@@ -147,7 +147,13 @@ pub fn goal_at(rows: &[u32; 1024], n: usize, group: u16, i: usize, sum: Sum) -> 
     let row = (i % 65536) as u16;
     Goal {
         register,
-        purpose: Purpose::Totaling { group, row, sum },
+        purpose: Purpose::Totaling {
+            group,
+            row,
+            status: sum.status,
+            plus: sum.plus,
+            minus: sum.minus,
+        },
     }
 }
 

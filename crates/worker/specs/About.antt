@@ -46,7 +46,7 @@ moving y =
 abbrev pub markRead : Purpose → Named
 markRead Single = Nothing
 markRead (Marked m) = Is m
-markRead (Totaling g i sum) = Nothing
+markRead (Totaling g i k plus minus) = Nothing
 
 -- the place of a read, a marked read or a total
 abbrev pub reading : Goal → Named → Stance → Facts

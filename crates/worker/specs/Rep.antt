@@ -74,7 +74,7 @@ sumRep y = record { plus = y .plus; minus = y .minus; status = y .status }
 abbrev pub purposeRep : Model.Purpose → Purpose
 purposeRep Model.Single = Single
 purposeRep (Model.Marked m) = Marked m
-purposeRep (Model.Totaling g i y) = Totaling g i (sumRep y)
+purposeRep (Model.Totaling g i y) = Totaling g i (y .status) (y .plus) (y .minus)
 
 abbrev pub goalRep : Model.Goal → Goal
 goalRep g = record { register = g .register; purpose = purposeRep (g .purpose) }

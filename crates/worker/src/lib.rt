@@ -44,11 +44,17 @@ pub struct Sum {
 }
 
 // What a value is read for: it is the answer, as of the worker's time; or as of a mark's (H13.5); or it goes into a total: the group, the index
-// of the row in the list, and the sums of the rows before it.
+// of the row in the list, and the sums of the rows before it, as three numbers: a struct here would make every copy of a place dearer.
 pub enum Purpose {
     Single,
     Marked(u16),
-    Totaling { group: u16, row: u16, sum: Sum },
+    Totaling {
+        group: u16,
+        row: u16,
+        status: u8,
+        plus: u64,
+        minus: u64,
+    },
 }
 
 // What a read, a marked read or a total is at: the register that it reads, and what for.
@@ -178,7 +184,9 @@ fn mark_read(x: Purpose) -> Named
         Purpose::Totaling {
             group: _,
             row: _,
-            sum: _,
+            status: _,
+            plus: _,
+            minus: _,
         } => Named::Nothing,
     }
 }

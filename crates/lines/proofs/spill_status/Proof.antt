@@ -7,8 +7,8 @@ use Rattle.lines.proofs.Rows.{with-status, without-status}
 use Rattle.lines.proofs.spill_status.Statement.{statement}
 use Rattle.lines.proofs.spill_status.Tie as tie
 
-rated-requires : tie.Need-rated-requires
-rated-requires c κs = search needs
+has-status-requires : tie.Need-has-status-requires
+has-status-requires c κs = search needs
 
 put-byte-requires : tie.Need-put-byte-requires
 put-byte-requires c κs = search needs
@@ -25,14 +25,14 @@ returns c =
     let B = c .before .before .before .before .before .before in
     let R = B .before .before .before in
     let A = R .before .before in
-    with-status (A .args .kind) (A .args .status) (sym (R .rated .ensures) ∙ B .before .before .if1 .taken) (omega (arith, A .pre .1))
+    with-status (A .args .kind) (A .args .status) (sym (R .has-status .ensures) ∙ B .before .before .if1 .taken) (omega (arith, A .pre .1))
     (B .put-byte .ensures) (c .before .before .spill-decimal .ensures)
 
 returns-2 : tie.Need-returns-2
 returns-2 c =
     let A = c .before .before .before in
-    without-status (A .args .kind) (A .args .status) (sym (c .before .rated .ensures) ∙ c .if1 .left) (omega (arith, A .pre .1))
+    without-status (A .args .kind) (A .args .status) (sym (c .before .has-status .ensures) ∙ c .if1 .left) (omega (arith, A .pre .1))
 
 pub spill-status-spec : {M : Type 1} → statement M
 spill-status-spec =
-    tie.close (tie.spec rated-requires put-byte-requires spill-decimal-requires same-length returns returns-2)
+    tie.close (tie.spec has-status-requires put-byte-requires spill-decimal-requires same-length returns returns-2)
