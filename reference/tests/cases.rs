@@ -1,6 +1,6 @@
 //! Document 01's list of cases.
 
-mod common;
+use crate::common;
 
 use common::{hub_after, last, no, run, store};
 use reference::fault::Right;

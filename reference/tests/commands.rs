@@ -1,6 +1,6 @@
 //! The programs, as one runs them.
 
-mod common;
+use crate::common;
 
 use common::{list, records, sample, table};
 use std::fs;

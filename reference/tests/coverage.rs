@@ -1,7 +1,7 @@
 //! The seeded random suite reaches every answer, every refusal of a log, every branch, hubs of all
 //! sizes, lists and tables of all kinds.
 
-mod common;
+use crate::common;
 
 use reference::coverage::{Branch, Coverage};
 use reference::fault::Right;

@@ -1,7 +1,7 @@
 //! The checker of demand 3 on doctored logs: right ones with one answer changed or more, each made
 //! so that one test of the checker alone refuses it; and doctored orders, where no log can be.
 
-mod common;
+use crate::common;
 
 use common::{examined, examined_with, records};
 use reference::order::{self, Action, Claim, Order, Outcome, Violation};

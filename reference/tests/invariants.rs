@@ -1,6 +1,6 @@
 //! The invariant and the plain registers along random scripts, after every record.
 
-mod common;
+use crate::common;
 
 use reference::generate::{script_across, Kind, Script};
 use reference::ghost::Ghost;

@@ -1,7 +1,7 @@
 //! A1: a put above 999999999999 gets 16, and values that were stored before it stay, are shown and are
 //! freed like the others.
 
-mod common;
+use crate::common;
 
 use common::{across, last, no, records, run, set_rule, words};
 use reference::fault::Right;

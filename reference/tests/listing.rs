@@ -1,6 +1,6 @@
 //! The order as text.
 
-mod common;
+use crate::common;
 
 use common::{across, examined, examined_with, list, records, sample};
 use reference::fault::Right;

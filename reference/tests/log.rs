@@ -1,6 +1,6 @@
 //! The log: document 01's example byte for byte, pieces of any size, rests, the words.
 
-mod common;
+use crate::common;
 
 use common::records;
 use reference::generate::{script, Kind, Random};

@@ -1,7 +1,7 @@
 //! A3: marks, releases and marked reads step by step, 4, 13, 19, 20 and 21 in their places, when
 //! they begin and again at a step, the flush that reads all marks, and what a marked read answers.
 
-mod common;
+use crate::common;
 
 use common::{hub_after, last, no, records, run, store, words};
 use reference::generate::{script, Kind};

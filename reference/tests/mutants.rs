@@ -3,7 +3,7 @@
 //! the near misses of A1, A2, A3 and A5: each by a short script, by random ones, and some by the
 //! order checker; those of the row writer by single rows.
 
-mod common;
+use crate::common;
 
 use common::{across, list, records, words};
 use reference::fault::*;

@@ -1,7 +1,7 @@
 //! The near misses of A7: each by a short script, by random ones, and those that let a worker do what it
 //! may not by the order checker.
 
-mod common;
+use crate::common;
 
 use common::{across, list, records, table, words};
 use reference::fault::*;

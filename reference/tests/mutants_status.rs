@@ -1,7 +1,7 @@
 //! The near misses of A8: each by a short script or a row, by random scripts, and those that show another
 //! status by the order checker.
 
-mod common;
+use crate::common;
 
 use common::{across, list, records, table, words};
 use reference::fault::*;

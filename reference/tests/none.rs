@@ -1,7 +1,7 @@
 //! A5: a version from setup holds no reading. Get, read and marked read answer `none` for it, a total
 //! adds 0, and the row writer leaves its buffer as it is. A put of 0 is a reading.
 
-mod common;
+use crate::common;
 
 use common::{examined, hub_after, last, no, records, run, run_with, store};
 use reference::generate::{script, Kind, Random};

@@ -1,6 +1,6 @@
 //! The checker of demand 3: what it finds in order, and each violation by a log made for it.
 
-mod common;
+use crate::common;
 
 use common::{examined, records};
 use reference::generate::{script, Kind};

@@ -1,7 +1,7 @@
 //! A slow hub written straight from the documents' sentences, with other data: each register's
 //! list is a vector, each pool a vector of vectors, times are wide numbers. Both hubs give one log.
 
-mod common;
+use crate::common;
 
 use reference::fault::Right;
 use reference::generate::{script_across, Kind};

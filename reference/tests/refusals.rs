@@ -1,6 +1,6 @@
 //! Each refusal in its case and in no other, and the order among them.
 
-mod common;
+use crate::common;
 
 use common::{last, no, records, run, words};
 use reference::generate::{script, Kind, Script};

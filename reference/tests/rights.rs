@@ -1,7 +1,7 @@
 //! A7: tables of rights and when one stands, 23 in its place, what each operation needs, and two runs
 //! that differ in one register's values.
 
-mod common;
+use crate::common;
 
 use common::{list, no, records, table, words};
 use reference::fault::Right;

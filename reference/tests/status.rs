@@ -2,7 +2,7 @@
 //! put wherever one is shown, the largest of a total, the row writer, and what the checker says of logs
 //! with another status.
 
-mod common;
+use crate::common;
 
 use common::{
     examined, examined_with, hub_after, last, list, no, records, run, run_with, store, table, words,

@@ -1,6 +1,6 @@
 //! The steps one by one, at the places that are easily misread.
 
-mod common;
+use crate::common;
 
 use common::{hub_after, last, no, run, store};
 use reference::store::Doing;

@@ -1,7 +1,7 @@
 //! The text tool: round trips for any bytes, the form of each command and of the rows of lists and tables,
 //! errors with their lines.
 
-mod common;
+use crate::common;
 
 use common::{list, records, table};
 use reference::generate::{script, Kind, Random};

@@ -1,6 +1,6 @@
 //! The order as an SVG timeline.
 
-mod common;
+use crate::common;
 
 use common::{examined, examined_with, sample};
 use reference::generate::{script, Kind};

@@ -1,6 +1,6 @@
 //! A2: the list of a setup, totals step by step, 17 and 18 in their places, and what a total answers.
 
-mod common;
+use crate::common;
 
 use common::{across, hub_with, last, list, no, records, run, run_with, store, words};
 use reference::fault::Right;

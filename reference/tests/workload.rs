@@ -1,6 +1,6 @@
 //! The record files for measuring are the same for the same seed and have what they are meant to have.
 
-mod common;
+use crate::common;
 
 use reference::answer::Answer;
 use reference::coverage::{Branch, Coverage};

@@ -1,0 +1,31 @@
+//! The second program's tests, one program: a module for each topic, so that they are compiled and linked once.
+
+mod cases;
+mod commands;
+mod common;
+mod coverage;
+mod doctored;
+mod exploration;
+mod invariants;
+mod limit;
+mod listing;
+mod log;
+mod marks;
+mod measuring;
+mod mutants;
+mod mutants_rights;
+mod mutants_status;
+mod none;
+mod order;
+mod plain;
+mod pools;
+mod refusals;
+mod rights;
+mod rows;
+mod space;
+mod status;
+mod steps;
+mod text;
+mod timeline;
+mod totals;
+mod workload;
