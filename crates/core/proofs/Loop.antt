@@ -53,9 +53,9 @@ use Rattle.freeing.specs.declared.Freed as Freeing
 use Rattle.flush.specs.Flush.{putHandInStep, handedOn, partOf, withPart, flushReadStep}
 use Rattle.splitting.specs.Splitting.{splitLeft, splitQueue, splitMerged}
 use Rattle.freeing.specs.Freeing.{freedStep, freedRow, freedFree}
-use Rattle.simulation.specs.Memory.{Memory, memory, withHub}
+use Rattle.simulation.specs.Memory.{Memory, memory, withHub, Result}
 use Rattle.simulation.specs.Left.{ready}
-use Rattle.simulation.specs.Shell.{Result, withRow, rowsKept, marksRead, queueIn, takenIn, handedIn, tookIn, readIn, allReadIn, markedIn}
+use Rattle.simulation.specs.Shell.{withRow, rowsKept, marksRead, queueIn, takenIn, handedIn, tookIn, readIn, allReadIn, markedIn}
 use Rattle.simulation.specs.Shell.{splitIn, freedIn, offWorker, nextIn, finishIn, stepAtIn, goIn, setUpIn, obeyIn, gateIn, doneAs}
 use Rattle.simulation.specs.Records.{recordAt}
 use Rattle.simulation.specs.Loop.{makes, State, next, after, before, Ran}

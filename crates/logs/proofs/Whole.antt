@@ -15,7 +15,7 @@ use Rattle.model.specs.Record.{cut, recordsOf}
 use Rattle.model.specs.Apply.{hubAfter, answersTo}
 use Rattle.model.specs.Demand.{events, Exchange, exchange}
 use Rattle.model.specs.Log.{lines, logOf}
-use Rattle.model.proofs.Main.{answers-of-events}
+use Rattle.theorem.proofs.Main.{answers-of-events}
 use Rattle.values.specs.declared.Answer.{Answer}
 use Rattle.values.specs.Meaning.{answerOf}
 use Rattle.answers.specs.Numbers.{kindOf, numberOf}

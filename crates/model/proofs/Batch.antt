@@ -1,6 +1,6 @@
 -- The sixteen figures of the batch size are document 01's, and from 1 to 64: a test that antt computes for each number, and one law that carries
 -- a test to each.
-use mathlib.Core.Path.{_≡_, refl}
+use mathlib.Core.Path.{_≡_, refl, sym, subst}
 use mathlib.Core.Bool.{Bool, true, cond, _&&_}
 use mathlib.Core.Logic.{⊎-elim}
 use Prim.Native.Nat.{ℕ, zero, suc, _*_, _^_, _-_, _≤_, _<_}
@@ -10,6 +10,7 @@ use lib.Dec.{leb, ltb, eqb}
 use lib.Pow.{pow-mono}
 use borrow.Author.Tests.{leb-true, ltb-true, eqb-true, lt-leb}
 use Rattle.model.specs.Batch.{batchOf, TimesLogarithm, AsDocumented}
+use Rattle.model.specs.Rules.{Rules, Allowed}
 use Rattle.model.proofs.Basic.{and-both, le-cases}
 
 -- the test f passes at each number below n
@@ -78,3 +79,7 @@ unfolding within
 batch-within p h =
     let u = and-both (leb 1 (batchOf p)) (leb (batchOf p) 64) (at within 17 all-within p (omega (arith, h))) in
     (leb-true 1 (batchOf p) (u .0), leb-true (batchOf p) 64 (u .1))
+
+-- so rules with the batch size of H1.24 are allowed
+pub allowed : (rules : Rules) → rules .batch ≡ batchOf → Allowed rules
+allowed rules e p a b = subst (λ (f : ℕ → ℕ). (1 ≤ f p) × (f p ≤ 64)) (sym e) (batch-within p b)

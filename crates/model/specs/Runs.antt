@@ -2,17 +2,17 @@
 -- proofs/Cases.antt; each wrong step of must-fail/ would answer one of them otherwise.
 use mathlib.Core.Path.{_≡_}
 use mathlib.Core.List.{List, [], _∷_, _++_, map}
-use mathlib.Core.Option.{none, some}
+use mathlib.Core.Option.{Option, none, some}
 use Prim.Native.Nat.{ℕ}
 use lib.ListN.{replicate}
-use Rattle.model.specs.Store.{Hub}
+use Rattle.model.specs.Store.{Reading, Hub}
 use Rattle.model.specs.Rules.{twelveDigits, document01, inForce, Ruled, under}
 use Rattle.model.specs.Record.{Open, Read, Close, Get, Collect, Total, Mark, Release, MarkedRead, Command, Begin, Step}
-use Rattle.model.specs.Answer.{Ok, No}
+use Rattle.model.specs.Answer.{Answer, Ok, Value, None, Below, Done, No}
 use Rattle.model.specs.Apply.{giveTable, applyRuled, answersTo}
 use Rattle.model.specs.Row.{Written, RowNone, RowNo, writeRow}
 use Rattle.model.specs.Log.{text, lines, logOf}
-use Rattle.model.specs.Demand.{events, order}
+use Rattle.model.specs.Demand.{Event, exchange, events, Call, callAt, history, order, Plain, plain₀, feed, shows, rowsIn}
 use Rattle.model.specs.Cases.{recordOf, handed, handedBefore, setup, putAs, put, rowAlone, rowOf, joined}
 
 -- the log of a list of commands, over a row of n slots, with the list of totals given
@@ -28,6 +28,26 @@ orderOf n first l = order 0 (events (applyRuled (rowOf n) first .hub) l) []
 
 abbrev pub orderFor : ℕ → Command → List Command → List ℕ
 orderFor n first l = orderOf n (handed first) (map handed l)
+
+-- What plain registers show each call along an order, if anything; each is fed to them before the next.
+unfoldable pub shownAlong : List ℕ → List Call → Plain → List ℕ → List (Option Answer)
+shownAlong rows h p [] = []
+shownAlong rows h p (i ∷ o) =
+    let c = callAt h i in
+    shows rows p (c .worker) (c .operation) ∷ shownAlong rows h (feed p (c .worker) (c .operation)) o
+
+-- along the order of the calls of the records after a setup
+abbrev pub shownIn : List ℕ → List Event → List (Option Answer)
+shownIn rows es = shownAlong rows (history 0 (map exchange es) []) plain₀ (order 0 es [])
+
+abbrev pub shownOf : ℕ → Ruled → List Ruled → List (Option Answer)
+shownOf n first l =
+    let h = applyRuled (rowOf n) first .hub in
+    shownIn (rowsIn h) (events h l)
+
+-- a reading that was read
+abbrev pub count : ℕ → Reading
+count x = record { count = x; status = 0 }
 
 -- handed in with a list of totals
 abbrev pub with : List ℕ → Command → Ruled
@@ -395,6 +415,9 @@ pub record Runs : Type 0 where
       ++ text "22 done\n23 ok\n24 done\n25 going\n26 going\n27 going\n28 freed 1\n29 done\n30 ok\n31 going\n"
       ++ text "32 going\n33 none\n"
   pub marks-last-order : orderFor 4 lastSetup marksLast ≡ 0 ∷ 1 ∷ 2 ∷ 4 ∷ 5 ∷ 3 ∷ 6 ∷ []
+  -- the mark, and the marked read, which is shown what its worker's copy had: nothing
+  pub marks-last-shown : shownOf 4 (handed lastSetup) (map handed marksLast)
+      ≡ none ∷ none ∷ none ∷ some Done ∷ none ∷ none ∷ some None ∷ []
   pub sums-log : logWith sumsList 9 (sumsSetup ∷ sums)
       ≡ text "0 ok\n1 no 13\n2 no 17\n3 no 17\n4 no 3\n5 ok\n6 going\n7 going\n8 done\n9 ok\n10 going\n"
       ++ text "11 going\n12 done\n13 ok\n14 going\n15 going\n16 done\n17 ok\n18 going\n19 at 1\n20 ok\n21 going\n"
@@ -402,6 +425,9 @@ pub record Runs : Type 0 where
       ++ text "32 going\n33 value -8 0\n34 ok\n35 going\n36 going\n37 going\n38 value 10 0\n39 ok\n40 going\n"
       ++ text "41 going\n42 value -7 0\n"
   pub sums-order : orderOf 9 (with sumsList sumsSetup) (map handed sums) ≡ 0 ∷ 1 ∷ 2 ∷ 3 ∷ 5 ∷ 4 ∷ 6 ∷ 7 ∷ []
+  -- the three totals, over their worker's copy
+  pub sums-shown : shownOf 9 (with sumsList sumsSetup) (map handed sums)
+      ≡ none ∷ none ∷ none ∷ none ∷ none ∷ some (Below (count 8)) ∷ some (Value (count 10)) ∷ some (Below (count 7)) ∷ []
   pub moved-total-log : logWith movedList 6 (movedSetup ∷ movedTotal)
       ≡ text "0 ok\n1 ok\n2 going\n3 going\n4 done\n5 ok\n6 going\n7 going\n8 going\n9 going\n10 going\n"
       ++ text "11 going\n12 going\n13 going\n14 done\n15 ok\n16 going\n17 at 1\n18 ok\n19 going\n20 going\n"

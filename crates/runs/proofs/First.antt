@@ -15,9 +15,9 @@ use Rattle.values.specs.declared.Answer.{Answer}
 use Rattle.state.specs.State.{workerIn, tableKept}
 use Rattle.gate.specs.declared.Gate.{Gate}
 use Rattle.gate.specs.Gate.{decodedRep, gateOf, whoOf}
-use Rattle.simulation.specs.Memory.{Memory}
+use Rattle.simulation.specs.Memory.{Memory, Result}
 use Rattle.simulation.specs.Left.{ready}
-use Rattle.simulation.specs.Shell.{rowsKept, marksRead, Result, obeyIn, doneAs, doneOf}
+use Rattle.simulation.specs.Shell.{rowsKept, marksRead, obeyIn, doneAs, doneOf}
 use Rattle.simulation.specs.Loop.{after, next, Ran}
 use Rattle.runs.specs.Runs.{One}
 

@@ -9,9 +9,8 @@ use Rattle.model.specs.Rights.{tableOf, tableFits}
 use Rattle.values.specs.declared.Answer.the-variants.{Ok, No}
 use Rattle.state.specs.declared.Hub.{Hub}
 use Rattle.state.specs.State.{freshHub}
-use Rattle.simulation.specs.Memory.{Memory, withHub}
+use Rattle.simulation.specs.Memory.{Memory, withHub, Result, answered}
 use Rattle.simulation.specs.Left.{ready}
-use Rattle.simulation.specs.Shell.{Result, answered}
 use Rattle.simulation.specs.Tables.{tabledHub, tableGiven, Gives}
 
 module _ (m : Memory) (bytes : List ℕ) where

@@ -22,7 +22,7 @@ use Rattle.model.specs.Record.{SetUp, Begin, Step, Decoded, Asks, Refuses, deco
 use Rattle.model.specs.Apply.{inRanges, fresh, setUp, obey, applyDecoded, apply, hubAfter}
 use Rattle.model.specs.Demand.{All, events, Exchange}
 use Rattle.model.proofs.Basic.{cond-both, All-from, All-map}
-use Rattle.model.proofs.Setup.{accepts}
+use Rattle.theorem.proofs.Setup.{accepts}
 use Rattle.values.specs.declared.Answer.{Answer}
 use Rattle.values.specs.Meaning.{answerOf}
 use Rattle.worker.specs.Rep.{timesRead, workerRep}

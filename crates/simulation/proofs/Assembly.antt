@@ -22,9 +22,9 @@ use Rattle.queue.specs.State.{Begins}
 use Rattle.gate.specs.declared.Gate.{Gate}
 use Rattle.gate.specs.declared.Gate.the-variants.{Refuse, Make, Start, Go}
 use Rattle.gate.specs.Gate.{decodedIn}
-use Rattle.simulation.specs.Memory.{Memory, lentIn, hubRep, write, writeHub}
+use Rattle.simulation.specs.Memory.{Memory, lentIn, hubRep, write, writeHub, Result}
 use Rattle.simulation.specs.Left.{LeftByRecords, Left, Sized, ready}
-use Rattle.simulation.specs.Shell.{Result, goIn, obeyIn, gateIn, doneAs, doneOf}
+use Rattle.simulation.specs.Shell.{goIn, obeyIn, gateIn, doneAs, doneOf}
 use Rattle.simulation.specs.Holds.{Holds}
 use Rattle.simulation.specs.Public.{Does}
 use Rattle.simulation.proofs.Bytes.{Bytes}

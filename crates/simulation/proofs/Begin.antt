@@ -11,7 +11,7 @@ use Rattle.model.specs.Answer as Answers
 use Rattle.model.specs.Record as Record
 use Rattle.model.specs.About.{Hand}
 use Rattle.model.specs.Apply.{terms}
-use Rattle.model.proofs.View.{first-hand}
+use Rattle.theorem.proofs.View.{first-hand}
 use Rattle.worker.specs.declared.Worker.{Worker}
 use Rattle.worker.specs.Rep.{doingRep, timesIn, timesRead, workerRep}
 use Rattle.marks.specs.Marks.{readBy}

@@ -10,8 +10,8 @@ use lib.Dec.{eqb}
 use Rattle.model.specs.Store.{absent, Content, Slot}
 use Rattle.model.specs.Demand.{occurrences}
 use Rattle.model.proofs.Basic.{hit-same, hit-eq, hit-other, eq-cases, All-map, All-get}
-use Rattle.model.proofs.Slots.{nth}
-use Rattle.model.proofs.Chain.{headOr, Linked, On, Past, Next, Fine}
+use Rattle.theorem.proofs.Slots.{nth}
+use Rattle.theorem.proofs.Chain.{headOr, Linked, On, Past, Next, Fine}
 
 -- what is said of a slot c and its neighbours
 pub record Three (s : List Slot) (c : ℕ) : Type 0 where

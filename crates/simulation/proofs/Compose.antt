@@ -14,7 +14,7 @@ use Rattle.model.specs.Answer.{Answer, Ok}
 use Rattle.model.specs.Record.{Sizes, SetUp, Decoded, Asks, decode}
 use Rattle.model.specs.Apply.{setUp, obey, applyDecoded, apply, applyRuled, hubAfter}
 use Rattle.model.specs.Demand.{Event, events, Exchange, exchange}
-use Rattle.model.proofs.Main.{demand}
+use Rattle.theorem.proofs.Main.{demand}
 use Rattle.simulation.specs.Memory.{Memory, writeHub}
 use Rattle.simulation.specs.Left.{LeftByRecords}
 use Rattle.simulation.specs.Holds.{Holds, sent, memoryAfter, AsModel}

@@ -18,7 +18,7 @@ use Rattle.model.specs.Answer.{said, Applied}
 use Rattle.model.specs.Record.{Sizes, SetUp, Begin, Step, Decoded, Asks, Refuses, decode, listFits}
 use Rattle.model.specs.Apply.{refuse, inRanges, fresh, setUp, obey, applyDecoded, apply}
 use Rattle.model.proofs.Basic.{le-cases, and-both}
-use Rattle.model.proofs.Setup.{in-ranges}
+use Rattle.theorem.proofs.Setup.{in-ranges}
 use Rattle.values.specs.declared.Answer.{Answer}
 use Rattle.values.specs.Meaning.{answerOf}
 use Rattle.slots.specs.declared.Slot.{Slot}

@@ -17,8 +17,8 @@ use Rattle.model.specs.Rules.{document01, inForce, under, allUnder}
 use Rattle.model.specs.Apply.{apply, hubAfter, answersTo}
 use Rattle.model.specs.Demand.{Event, events, Exchange, exchange, history, rowsIn}
 use Rattle.model.specs.MonthEnd.{SameFigures}
-use Rattle.model.proofs.MonthEnd.{month-end}
-use Rattle.model.proofs.Main.{answers-of-events}
+use Rattle.theorem.proofs.MonthEnd.{month-end}
+use Rattle.theorem.proofs.Main.{answers-of-events}
 use Rattle.values.specs.Meaning.{answerOf}
 use Rattle.values.specs.declared.Answer as Code
 use Rattle.values.specs.declared.Answer.the-variants as Is

@@ -56,10 +56,10 @@ use Rattle.step.specs.Step.{Stepped, newestAt, stillAt, needOf, readOrSplit, fr
 use Rattle.announcing.specs.Announcing.{openAnnounceStep, openPassStep, closeWithdrawStep}
 use Rattle.step.specs.Step.{answerTo, signedOf, totalFoundOf, foundOf, putPublishStep, putStampStep, readEnterStep, readStandStep, getShowStep}
 use Rattle.flush.specs.Flush.{handedPool, putHandInStep}
-use Rattle.simulation.specs.Memory.{Memory, withHub}
-use Rattle.simulation.specs.Shell.{Result, rowsKept, marksRead, readAfter, takenIn, handedIn, tookIn, readIn, allReadIn, markedIn}
+use Rattle.simulation.specs.Memory.{Memory, withHub, Result, answered}
+use Rattle.simulation.specs.Shell.{rowsKept, marksRead, readAfter, takenIn, handedIn, tookIn, readIn, allReadIn, markedIn}
 use Rattle.simulation.specs.Shell.{splitIn, freedIn, nextIn, finishIn, goIn}
-use Rattle.simulation.specs.Shell.{answered, obeyIn, gateIn, doneAs}
+use Rattle.simulation.specs.Shell.{obeyIn, gateIn, doneAs}
 use Rattle.simulation.specs.Public.{idleIn, takesStepIn, idledIn, EndsBy, OnAny}
 use Rattle.simulation.proofs.Gates.{gateBy}
 

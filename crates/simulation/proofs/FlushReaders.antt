@@ -14,7 +14,7 @@ use Rattle.model.specs.Store as Model
 use Rattle.model.specs.Store.{Store, startWorker, withDoing}
 use Rattle.model.specs.Steps.{moveOff, workerOff}
 use Rattle.model.specs.About.{Nowhere, about}
-use Rattle.model.proofs.View.{off-cases}
+use Rattle.theorem.proofs.View.{off-cases}
 use Rattle.arrays.specs.Arrays.{short}
 use Rattle.worker.specs.declared.Worker.{Worker}
 use Rattle.worker.specs.declared.Doing.the-variants as D

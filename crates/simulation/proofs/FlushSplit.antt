@@ -20,7 +20,7 @@ use Rattle.model.specs.About.{about}
 use Rattle.model.specs.Reached.{sumBy, inHand, versionsHeld}
 use Rattle.model.specs.Demand.{All}
 use Rattle.model.specs.Steps.{stepAt, flushRead, flushSplit}
-use Rattle.model.proofs.Count.{sumBy-one}
+use Rattle.theorem.proofs.Count.{sumBy-one}
 use Rattle.values.specs.declared.Answer.the-variants.{Going}
 use Rattle.arrays.specs.Arrays.{short}
 use Rattle.worker.specs.declared.Pool.{Pool}

@@ -22,7 +22,7 @@ use Rattle.model.specs.Steps.{stepAt}
 use Rattle.model.specs.Apply.{refuse, Terms, terms, namedBelow, groupThere, valueWithin, statusKnown, isIdle, mayOpen, mayUseTime, setUp, refusedBy}
 use Rattle.model.specs.Apply.{begin, step, obey, applyDecoded}
 use Rattle.model.proofs.Basic.{and-both}
-use Rattle.model.proofs.View.{idle-is}
+use Rattle.theorem.proofs.View.{idle-is}
 use Rattle.worker.specs.declared.Worker.{Worker}
 use Rattle.worker.specs.Rep.{doingRep, workerRep}
 use Rattle.record.specs.declared.Decoded.{Decoded}

@@ -24,9 +24,9 @@ use Rattle.marks.specs.Marks.{readBy}
 use Rattle.worker.proofs.Ranges.{append-rep}
 use Rattle.step.specs.Step.{stepOf}
 use Rattle.flush.specs.Flush.{HandedIn, word, handedPool, handed, putHandInStep}
-use Rattle.simulation.specs.Memory.{Memory, handWords, inHandWords, write}
+use Rattle.simulation.specs.Memory.{Memory, handWords, inHandWords, write, answered}
 use Rattle.simulation.specs.Left.{Sized}
-use Rattle.simulation.specs.Shell.{withRecord, answered, queueIn, handedIn, nextIn, goIn}
+use Rattle.simulation.specs.Shell.{withRecord, queueIn, handedIn, nextIn, goIn}
 use Rattle.simulation.proofs.Sound.{Sound, PlaceIn}
 use Rattle.simulation.proofs.Simulates.{Simulates}
 use Rattle.simulation.proofs.Laid.{times-kept, all-set, slot-is, place-at, among, list-kept}

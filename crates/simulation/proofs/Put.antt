@@ -14,7 +14,7 @@ use Rattle.model.specs.Store.{Store, absent, workerAt, slotAt, newestOf, withDo
 use Rattle.model.specs.Versions.{stampSlots, stamp, linkSlots}
 use Rattle.model.specs.Steps.{stepAt, putPublish, putStamp}
 use Rattle.model.proofs.Basic.{occurrences-head}
-use Rattle.model.proofs.Slots.{stamp-length}
+use Rattle.theorem.proofs.Slots.{stamp-length}
 use Rattle.values.specs.declared.Answer.the-variants.{Going, No}
 use Rattle.slots.specs.declared.Slot.{Slot}
 use Rattle.slots.specs.Slots.{slotRep}

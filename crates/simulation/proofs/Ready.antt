@@ -22,7 +22,7 @@ use Rattle.model.specs.Totals.{groupOf, signOf, registerOf, rowAt}
 use Rattle.model.specs.Reached.{sumBy, inHand, versionsHeld, TotalFits}
 use Rattle.model.proofs.Basic.{All-map, All-occurrences, getD-map, All-at, and-both}
 use Rattle.model.proofs.Totals.{row-fits}
-use Rattle.model.proofs.Count.{sumBy-one}
+use Rattle.theorem.proofs.Count.{sumBy-one}
 use Rattle.worker.specs.About.{markRead, aboutOf}
 use Rattle.worker.specs.Rep.{timesRead, padded, poolRep, purposeRep, doingRep}
 use Rattle.worker.proofs.Rep.{padded-at}

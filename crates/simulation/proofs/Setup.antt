@@ -18,7 +18,7 @@ use Rattle.model.specs.Record as Record
 use Rattle.model.specs.Record.{Sizes, commandOf, unusedZero, decode, rowsOf, listFits}
 use Rattle.model.specs.Apply.{inRanges, fresh, setUp, obey, applyDecoded}
 use Rattle.model.proofs.Basic.{cond-both, and-both}
-use Rattle.model.proofs.Setup.{InRanges, in-ranges}
+use Rattle.theorem.proofs.Setup.{InRanges, in-ranges}
 use Rattle.slots.specs.Slots.{slotOf}
 use Rattle.gate.specs.declared.Gate.the-variants.{Refuse, Make}
 use Rattle.gate.specs.Gate.{decodedRep, sizesOk, gateOf, whoOf}

@@ -10,8 +10,8 @@ use Rattle.values.specs.Meaning.{answerOf}
 use Rattle.worker.specs.declared.Worker.{Worker}
 use Rattle.worker.specs.Rep.{doingRep, workerRep}
 use Rattle.state.specs.State.{workerIn}
-use Rattle.simulation.specs.Memory.{Memory, write, writeHub}
-use Rattle.simulation.specs.Shell.{Result, goIn}
+use Rattle.simulation.specs.Memory.{Memory, write, writeHub, Result}
+use Rattle.simulation.specs.Shell.{goIn}
 use Rattle.simulation.proofs.Laws.{worker-in}
 use Rattle.simulation.proofs.Sound.{Sound}
 

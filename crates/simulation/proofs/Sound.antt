@@ -19,15 +19,15 @@ use Rattle.model.specs.Demand.{Call, Plain, occurrences, All}
 use Rattle.model.specs.About.{about}
 use Rattle.model.specs.Reached.{sumBy, inHand, Bounds}
 use Rattle.model.proofs.Basic.{hit-same, hit-eq, occurrences-head, up-inj, All-at}
-use Rattle.model.proofs.Count.{cnt, sumBy-one}
-use Rattle.model.proofs.Chain.{neighbours}
-use Rattle.model.proofs.Invariant.{ctx, old, chain, inDoing, pendW, pend, Good, timeIn, Sourced, PlaceHolds, Inv}
-use Rattle.model.proofs.Apart.{below-in, chain-once, chain-in, free-in, pend-chain}
-use Rattle.model.proofs.Full.{near}
-use Rattle.model.proofs.Setup.{accepts}
-use Rattle.model.proofs.Reached.{Reached, reached-apply, reached-start, bounds}
+use Rattle.theorem.proofs.Count.{cnt, sumBy-one}
+use Rattle.theorem.proofs.Chain.{neighbours}
+use Rattle.theorem.proofs.Invariant.{ctx, old, chain, inDoing, pendW, pend, Good, timeIn, Sourced, PlaceHolds, Inv}
+use Rattle.theorem.proofs.Apart.{below-in, chain-once, chain-in, free-in, pend-chain}
+use Rattle.theorem.proofs.Full.{near}
+use Rattle.theorem.proofs.Setup.{accepts}
+use Rattle.theorem.proofs.Reached.{Reached, reached-apply, reached-start, bounds}
 use Rattle.simulation.specs.Left.{LeftByRecords}
-use Rattle.model.proofs.Document.{allowed}
+use Rattle.model.proofs.Batch.{allowed}
 use Rattle.simulation.proofs.Chains.{three, next-older, head-older, old-low, stands-in}
 
 -- a range names a slot, and its low and high are times

@@ -21,10 +21,9 @@ use Rattle.ready.specs.Ready.{sizesFit, scansFit, readyOf}
 use Rattle.slots.specs.Slots.{slotOf}
 use Rattle.state.specs.declared.Hub.{Hub}
 use Rattle.state.specs.State.{standing, tableSound}
-use Rattle.simulation.specs.Memory.{Memory, cut, withHub}
+use Rattle.simulation.specs.Memory.{Memory, cut, withHub, Result, answered}
 use Rattle.simulation.specs.Left.{Sized, Left, ready}
 use Rattle.simulation.specs.Holds.{Holds}
-use Rattle.simulation.specs.Shell.{Result, answered}
 use Rattle.simulation.specs.Tables.{tabledHub, tableGiven, Gives, emptiedIn}
 use Rattle.simulation.proofs.Laid.{cond-yes}
 use Rattle.simulation.proofs.Fresh.{up-length}

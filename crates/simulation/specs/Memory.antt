@@ -6,6 +6,7 @@ use Rattle.lists.specs.Over.{over, overAt}
 use Rattle.model.specs.About.{Hand, Empty, Covered, Merged, Needless, about}
 use Rattle.model.specs.Store as Model
 use Rattle.model.specs.Store.{Store, startWorker}
+use Rattle.values.specs.declared.Answer.{Answer}
 use Rattle.worker.specs.Rep.{timesRead, doingRep, workerRep}
 use Rattle.marks.specs.Marks.{readBy}
 use Rattle.ranges.specs.Words.{flat}
@@ -56,6 +57,15 @@ withHub m h =
       lens = m .lens;
       merged = m .merged;
     }
+
+-- what is left and answered
+pub record Result : Type 0 where
+  pub memory : Memory
+  pub answer : Answer
+
+-- this memory is left, with this answer
+abbrev pub answered : Memory → Answer → Result
+answered m y = record { memory = m; answer = y }
 
 -- What a setup finds in the memory: the row of slots, and the table that stands. In memory that nobody emptied, and to which no table was given, which
 -- table that is is undecided for users (H15.9): it is what the memory has, where that is a table.

@@ -31,13 +31,8 @@ use Rattle.step.specs.Step.{Stepped, stepOf}
 use Rattle.flush.specs.Flush.{putHandInStep, partOf, withPart, flushReadStep}
 use Rattle.splitting.specs.Splitting.{splitLeft, splitQueue, splitMerged}
 use Rattle.freeing.specs.Freeing.{freedStep, freedRow, freedFree, offDoing}
-use Rattle.simulation.specs.Memory.{Memory, withHub}
+use Rattle.simulation.specs.Memory.{Memory, withHub, Result, answered}
 use Rattle.simulation.specs.Left.{ready}
-
--- what is left and answered
-pub record Result : Type 0 where
-  pub memory : Memory
-  pub answer : Answer
 
 -- memory with another row of slots and other newest versions
 abbrev pub withRow : Memory → List Slot → List ℕ → Memory
@@ -55,10 +50,6 @@ withRow m row newest =
 -- only worker w's record is another
 abbrev pub withRecord : Memory → ℕ → Worker → Memory
 withRecord m w x = withHub m (withWorkerIn (m .hub) w x)
-
--- nothing is left but what was there
-abbrev pub answered : Memory → Answer → Result
-answered m y = record { memory = m; answer = y }
 
 -- the rows of totals that count
 abbrev pub rowsKept : Hub → List ℕ

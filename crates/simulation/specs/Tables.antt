@@ -10,9 +10,8 @@ use Rattle.values.specs.declared.Answer.{Answer}
 use Rattle.values.specs.declared.Answer.the-variants.{Ok, No}
 use Rattle.state.specs.declared.Hub.{Hub}
 use Rattle.state.specs.State.{freshHub, emptyHub}
-use Rattle.simulation.specs.Memory.{Memory, withHub}
+use Rattle.simulation.specs.Memory.{Memory, withHub, Result, answered}
 use Rattle.simulation.specs.Left.{ready}
-use Rattle.simulation.specs.Shell.{Result, answered}
 
 -- the hub by value of memory that is not set up, in which a table of these bytes stands; entries behind its rows keep their contents
 abbrev pub tabledHub : Hub → List ℕ → Hub

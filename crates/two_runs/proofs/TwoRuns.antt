@@ -22,9 +22,9 @@ use Rattle.model.specs.Apply.{refusedBy, begin, step, obey, applyDecoded, apply
 use Rattle.model.specs.Demand.{events, Call, Unfinished, endFor, Plain, plain₀, observe, effects, stepEffects, changeEffects, endEffects}
 use Rattle.two_runs.specs.TwoRuns.{Pairwise, PutsAlike, Alike, looksAt, looksBy, withoutValue, placeWith, barePlace, bareWorker, bareSlot, bare}
 use Rattle.two_runs.specs.TwoRuns.{SameButValues, SameAnswers, TwoRuns}
-use Rattle.model.proofs.Invariant.{Inv}
-use Rattle.model.proofs.Record.{Holds, apply-holds}
-use Rattle.model.proofs.Setup.{accepts, accepted-inv}
+use Rattle.theorem.proofs.Invariant.{Inv}
+use Rattle.theorem.proofs.Record.{Holds, apply-holds}
+use Rattle.theorem.proofs.Setup.{accepts, accepted-inv}
 use Rattle.two_runs.proofs.TwoRunsBare.{readingOf, sumOf, place-is, idle-like, looks-like, bare-like, worker-like, announced-like, refusal-like, placed}
 use Rattle.two_runs.proofs.TwoRunsStep.{Like, cond-two, step-like}
 use Rattle.two_runs.proofs.TwoRunsCalls.{pairwise-snoc, pairwise-map, said-like, AlikeOperation, AlikeCall, AlikeCalls, end-for-like, end-effects-like}

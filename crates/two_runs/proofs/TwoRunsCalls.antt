@@ -17,8 +17,8 @@ use Rattle.model.specs.Record.{Operation, Put, Open, Read, Close, Get, Collect,
 use Rattle.model.specs.Demand.{Ending, Unfinished, RefusedAt, FinishedAt, Call, call₀, callAt, endAs, endBy, endOnce, endFor, Plain, plain₀, update}
 use Rattle.model.specs.Demand.{feed, isUnfinished, runningOf, comes, stampedOver, passed, filterBelow, changeEffects, atEnd, finishes, endEffects}
 use Rattle.two_runs.specs.TwoRuns.{Pairwise, withoutValue, bareWorker, bareSlot, bare}
-use Rattle.model.proofs.Linear.{after}
-use Rattle.model.proofs.Effect.{takes, below-same}
+use Rattle.theorem.proofs.Linear.{after}
+use Rattle.theorem.proofs.Effect.{takes, below-same}
 use Rattle.two_runs.proofs.TwoRunsBare.{map-getD, effect-like}
 
 ------------------------------------------------------------------------

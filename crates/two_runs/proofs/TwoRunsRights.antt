@@ -17,10 +17,10 @@ use Rattle.model.specs.Record.{Decoded, Asks, Refuses, decode, rowsOf}
 use Rattle.model.specs.Apply.{terms, begin, fresh, obey, applyDecoded, apply, applyRuled}
 use Rattle.model.specs.Demand.{Event, events, Call, observe, effects, Plain, plain₀, All, rowsIn}
 use Rattle.model.proofs.Basic.{and-both}
-use Rattle.model.proofs.Begin.{begin-by}
-use Rattle.model.proofs.Invariant.{Inv}
-use Rattle.model.proofs.Record.{Holds, apply-holds}
-use Rattle.model.proofs.Setup.{Accepted, accepts, accepted-inv}
+use Rattle.theorem.proofs.Begin.{begin-by}
+use Rattle.theorem.proofs.Invariant.{Inv}
+use Rattle.theorem.proofs.Record.{Holds, apply-holds}
+use Rattle.theorem.proofs.Setup.{Accepted, accepts, accepted-inv}
 use Rattle.two_runs.specs.TwoRuns.{names, looksIn, KeepsOff, tableIn, WithoutRead, SameWithoutRead}
 use Rattle.two_runs.proofs.TwoRunsWorker.{same-for-worker}
 

@@ -22,12 +22,12 @@ use Rattle.model.specs.Rules.{twelveDigits}
 use Rattle.model.specs.Versions.{stamp, stampSlots}
 use Rattle.model.specs.Demand.{Call, Plain, plain₀, sumOver, changeEffects}
 use Rattle.two_runs.specs.TwoRuns.{names, looksFor, looksAt, purposeWith, goalWith, placeWith, bareWorker, bareSlot, bare}
-use Rattle.model.proofs.Slots.{stamp-value}
-use Rattle.model.proofs.Chain.{On-found}
-use Rattle.model.proofs.Linear.{after}
-use Rattle.model.proofs.Invariant.{ctx, chain, timeIn, copyFor, Summed, PlaceHolds, Inv}
-use Rattle.model.proofs.Stamp.{Stamped, stamp-inv}
-use Rattle.model.proofs.Places.{doing-is}
+use Rattle.theorem.proofs.Slots.{stamp-value}
+use Rattle.theorem.proofs.Chain.{On-found}
+use Rattle.theorem.proofs.Linear.{after}
+use Rattle.theorem.proofs.Invariant.{ctx, chain, timeIn, copyFor, Summed, PlaceHolds, Inv}
+use Rattle.theorem.proofs.Stamp.{Stamped, stamp-inv}
+use Rattle.theorem.proofs.Places.{doing-is}
 use Rattle.two_runs.proofs.TwoRunsBare.{stamp-like, bare-like, slot-like}
 use Rattle.two_runs.proofs.TwoRunsStep.{Told, time-like}
 use Rattle.two_runs.proofs.TwoRunsCalls.{AlikeCalls, AlikeContent, AlikeRegisters, AlikeCopy, AlikePlain, change-effects-like, plain-like}

@@ -20,10 +20,10 @@ use Rattle.model.specs.Apply.{fresh, applyRuled}
 use Rattle.model.specs.Demand.{Event, events, Call, Unfinished, callAt, endFor, observe, effects, Plain, plain₀, All, occurrences, rowsIn}
 use Rattle.two_runs.specs.TwoRuns.{Pairwise, Alike, looksFor, looksAt, looksBy, SameAnswers, looksIn, KeepsOff, isOf, SameTo, told, SameForWorker}
 use Rattle.model.proofs.Basic.{lt-cases, All-at, All-append, All-map, All-through}
-use Rattle.model.proofs.Invariant.{Ctx, ctx, Serves, FitsFlush, FitsTime, Fits, CurrentOf, Inv}
-use Rattle.model.proofs.View.{idle-is}
-use Rattle.model.proofs.Record.{Holds, apply-holds}
-use Rattle.model.proofs.Setup.{Accepted, accepts, accepted-inv}
+use Rattle.theorem.proofs.Invariant.{Ctx, ctx, Serves, FitsFlush, FitsTime, Fits, CurrentOf, Inv}
+use Rattle.theorem.proofs.View.{idle-is}
+use Rattle.theorem.proofs.Record.{Holds, apply-holds}
+use Rattle.theorem.proofs.Setup.{Accepted, accepts, accepted-inv}
 use Rattle.two_runs.proofs.TwoRuns.{two-runs}
 
 ------------------------------------------------------------------------

@@ -18,7 +18,7 @@ use Rattle.model.specs.Record.{SetUp, Begin, Step, Decoded, Asks, Refuses, deco
 use Rattle.model.specs.Apply.{inRanges, fresh, setUp, obey, applyDecoded, apply, applyRuled, hubAfter}
 use Rattle.model.specs.Demand.{Event, events, Exchange, exchange}
 use Rattle.model.proofs.Basic.{cond-both}
-use Rattle.model.proofs.Setup.{accepts}
+use Rattle.theorem.proofs.Setup.{accepts}
 use Rattle.two_runs.specs.TwoRuns.{Pairwise, Alike, SameTo, told, tableIn, WithoutRead}
 use Rattle.two_runs.proofs.TwoRunsWorker.{of-same}
 use Rattle.two_runs.proofs.TwoRunsRights.{same-without-read}

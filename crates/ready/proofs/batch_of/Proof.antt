@@ -4,7 +4,7 @@ use mathlib.Core.List.{[]}
 use native.Mathlib.Omega.{arith}
 use borrow.Author.Needs.{needs}
 use Rattle.model.specs.Rules.{document01}
-use Rattle.model.proofs.Document.{allowed}
+use Rattle.model.proofs.Batch.{allowed}
 use Rattle.ready.proofs.batch_of.Statement.{statement}
 use Rattle.ready.proofs.batch_of.Tie as tie
 
