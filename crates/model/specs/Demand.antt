@@ -1,4 +1,4 @@
--- Demand 3: H6.3 to H6.23 of docs/HUB.md, as one statement about a whole list of records. Proved in proofs/Main.antt.
+-- Demand 3: H6.3 to H6.23 of docs/HUB.md, as one statement about a whole list of records. Proved in theorem/proofs/Main.antt.
 --
 -- A list of records after an accepted setup gives events. From the records and the answers alone come the operations (calls) with
 -- their begins and ends. The order of the calls is a definition: the effects in the order in which they happen. The statement says that

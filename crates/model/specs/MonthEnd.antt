@@ -1,5 +1,5 @@
 -- What billing may rely on (H13.10): from a mark to its release every marked read of a register shows the same, whatever was put, collected, opened
--- or closed since. It is stated of the calls of a history, with the records at which they were finished, and proved in proofs/MonthEnd.antt of every
+-- or closed since. It is stated of the calls of a history, with the records at which they were finished, and proved in theorem/proofs/MonthEnd.antt of every
 -- history that has an order as demand 3 has it.
 use mathlib.Core.Path.{_≡_}
 use mathlib.Core.List.{List, [], map}

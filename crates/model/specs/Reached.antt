@@ -1,5 +1,5 @@
 -- What holds of every hub that records leave, besides demand 3: the bounds that memory is sized by (H6.24), and refusal 14 as H7 words it.
--- Proved in proofs/Reached.antt from the invariant of proofs/Invariant.antt.
+-- Proved in theorem/proofs/Reached.antt from the invariant of Invariant.antt beside it.
 use mathlib.Core.Path.{_≡_}
 use mathlib.Core.Bool.{true, cond}
 use mathlib.Core.Logic.{_⊎_, _↔_}

@@ -1,6 +1,6 @@
 -- Demand 1 of the definitions, H6.1: a record of any bytes, handed to the hub in any state, ends in its answer or in one numbered refusal; a
 -- refusal on reading changes nothing, one met at a step only sets that worker idle. `takesStep` tells the two apart, not the number. Proved in
--- proofs/Refusals.antt.
+-- theorem/proofs/Refusals.antt.
 use mathlib.Core.Path.{_≡_}
 use mathlib.Core.Bool.{cond}
 use mathlib.Core.List.{List, [], _∷_}
