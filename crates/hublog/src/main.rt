@@ -3,7 +3,28 @@
 // the memory of the hub.
 use state::Hub;
 
-fn main() {
+// The hub without setup: no worker, no register, no slot, and the table of rights, where it is accepted.
+fn with_table<'a>(
+    row: &'a [[u64; 6]],
+    table: &'a [u8],
+    newest: &'a [u16; 256],
+    free: &'a [u16; 2048],
+    queue: &'a [u32; 12288],
+    lens: &'a [u32; 4096],
+    merged: &'a [u32; 12288],
+) -> Hub {
+    let hub = Hub::empty();
+    let given = hub::give_table_words(row, hub, table, newest, free, queue, lens, merged);
+    let answer = given.answer;
+    // All but `Ok` is a refusal, and on memory that is not set up none but 24 is given.
+    if answers::kind(answer) != 0 {
+        input::say(b"hublog: the table is refused: 24\n");
+    }
+    given.hub
+}
+
+// Logs the records of standard input, with the list of totals and the table of rights.
+fn log_input<'a>(list: &'a [u8], table: &'a [u8]) {
     // A read brings at most 16384 records; the text has room for as many lines of 70 bytes: none is longer.
     let mut block_space = [0u8; 262144];
     let block: &mut [u8] = &mut block_space;
@@ -18,47 +39,10 @@ fn main() {
     let mut queue = [0u32; 12288];
     let mut lens = [0u32; 4096];
     let mut merged = [0u32; 12288];
-    // The list of totals: one byte more than the longest that a setup accepts.
-    let mut list_space = [0u8; 4097];
-    let list: &mut [u8] = &mut list_space;
-    let listed = input::read_named(1, list);
-    if listed.failed {
-        input::say(b"hublog: cannot read the list of totals\n");
-        return;
-    }
-    let long = listed.n;
-    // The table of rights: one byte more than the longest that is accepted.
-    let mut table_space = [0u8; 513];
-    let table: &mut [u8] = &mut table_space;
-    let tabled = input::read_named(2, table);
-    if tabled.failed {
-        input::say(b"hublog: cannot read the table of rights\n");
-        return;
-    }
-    let rows = tabled.n;
-    let lent = &table[..];
     // The slots, six words each.
     let mut row_space = [[0u64; 6]; 2048];
     let row: &mut [[u64; 6]] = &mut row_space;
-    // No worker, no register, no slot, no table: memory that counts as not set up.
-    let mut hub = Hub::empty();
-    let given = hub::give_table_words(
-        row,
-        hub,
-        &lent[0..rows],
-        &newest,
-        &free,
-        &queue,
-        &lens,
-        &merged,
-    );
-    let fresh = given.hub;
-    hub = fresh;
-    let answer = given.answer;
-    // All but `Ok` is a refusal, and on memory that is not set up none but 24 is given.
-    if answers::kind(answer) != 0 {
-        input::say(b"hublog: the table is refused: 24\n");
-    }
+    let mut hub = with_table(row, table, &newest, &free, &queue, &lens, &merged);
     // The number of the next record, and how many of its bytes stand at the start of the block.
     let mut first: u64 = 0;
     let mut kept: usize = 0;
@@ -80,7 +64,7 @@ fn main() {
         let done = logs::log_part(
             row,
             hub,
-            &list[0..long],
+            list,
             &block[0..end],
             first,
             text,
@@ -105,4 +89,28 @@ fn main() {
         first = std::num::wrapping_add_u64(first, done.count as u64);
         kept = logs::keep_rest(block, end, n);
     }
+}
+
+fn main() {
+    // The list of totals: one byte more than the longest that a setup accepts.
+    let mut list_space = [0u8; 4097];
+    let list: &mut [u8] = &mut list_space;
+    let listed = input::read_named(1, list);
+    if listed.failed {
+        input::say(b"hublog: cannot read the list of totals\n");
+        return;
+    }
+    let long = listed.n;
+    // The table of rights: one byte more than the longest that is accepted.
+    let mut table_space = [0u8; 513];
+    let table: &mut [u8] = &mut table_space;
+    let tabled = input::read_named(2, table);
+    if tabled.failed {
+        input::say(b"hublog: cannot read the table of rights\n");
+        return;
+    }
+    let rows = tabled.n;
+    let given_table = &table[..];
+    let given_list = &list[..];
+    log_input(&given_list[0..long], &given_table[0..rows]);
 }
