@@ -116,7 +116,7 @@ fn make(
     ensures { λ r. ⌜ now (free .exit) ≡ fillTo (now (free .entry)) (λ j. short (n - 1 - j)) (r .free) ⌝ }
 {
     let mut rows = [0u32; 1024];
-    totals::fill_rows(&mut rows, list);
+    total_list::fill_rows(&mut rows, list);
     let listed = list.len() / 4;
     let granted = kept_rows(&old.rights, old.granted);
     let hub = Hub::fresh(

@@ -30,7 +30,8 @@ use Rattle.record.specs.declared.Decoded.the-variants.{Asks, Refuses}
 use Rattle.marks.specs.declared.MarkNeed.{MarkNeed}
 use Rattle.marks.specs.declared.MarkNeed.the-variants.{Nothing as NoMark, Empty, Held, Unread}
 use Rattle.marks.specs.Marks.{refusalIn}
-use Rattle.totals.specs.Rows.{noSum, goalIn}
+use Rattle.total_rows.specs.Rows.{goalIn}
+use Rattle.total_sums.specs.Sums.{noSum}
 use Rattle.rights.specs.declared.Needed.{Needed}
 use Rattle.rights.specs.declared.Needed.the-variants.{Nothing as NoRight, On, OnGroup, InAny, OnAll}
 use Rattle.rights.specs.declared.Permission.the-variants.{Put as ToPut, Read as ToRead, Collect as ToCollect, Mark as ToMark}

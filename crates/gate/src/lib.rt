@@ -158,8 +158,8 @@ fn terms_of(o: Operation, rows: &[u32; 1024], n: usize) -> Terms
             Doing::FlushTake,
         ),
         Operation::Total { group } => {
-            let first = totals::first_of(rows, n, group);
-            let goal = totals::goal_at(rows, n, group, first, totals::no_sum());
+            let first = total_rows::first_of(rows, n, group);
+            let goal = total_rows::goal_at(rows, n, group, first, total_sums::no_sum());
             let row = first as u16;
             Terms {
                 register: Named::Nothing,
@@ -230,7 +230,7 @@ fn group_ok(row: Named, rows: &[u32; 1024], n: usize) -> bool
 {
     match row {
         Named::Nothing => true,
-        Named::Is(i) => wide16(i) < totals::counted(rows, n),
+        Named::Is(i) => wide16(i) < total_rows::counted(rows, n),
     }
 }
 
@@ -371,7 +371,7 @@ fn sizes_ok(p: u8, v: u16, n: u16, clock: u32, long: usize) -> bool
 fn setup_ok(p: u8, v: u16, n: u16, clock: u32, long: usize, list: &[u8]) -> bool
     ensures { λ r. ⌜ r ≡ setupOk p v n clock long (now (list .entry)) ⌝ }
 {
-    sizes_ok(p, v, n, clock, long) & totals::list_ok(list, v)
+    sizes_ok(p, v, n, clock, long) & total_list::list_ok(list, v)
 }
 
 // What is to be done with a record that was read as r, where `up` says that the memory counts as set up, of a worker at the place d with

@@ -40,7 +40,7 @@ use Rattle.runs.specs.declared.Counted.{Counted}
 use Rattle.runs.proofs.Applied as P
 use Rattle.runs.proofs.Applied.Laws as P′
 use Rattle.runs.proofs.Counted as L
-use Rattle.runs.proofs.Counted.Laws as L′
+use Rattle.runs.proofs.Kept.Laws as L′
 use Rattle.hub.proofs.Lends.{Ends, call-on}
 use Rattle.hub.proofs.Passed.{Single, SingleLeft, single-vals, single-list, single-own, single-end, OneDone, Buffer, BufferLeft}
 use Rattle.hub.proofs.Passed.{buffer-vals}

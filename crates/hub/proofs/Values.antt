@@ -22,7 +22,7 @@ use Rattle.hub.specs.declared.Answered.{Answered}
 use Rattle.runs.proofs.Applied as P
 use Rattle.runs.proofs.Applied.Laws as P′
 use Rattle.runs.proofs.Counted as L
-use Rattle.runs.proofs.Counted.Laws as L′
+use Rattle.runs.proofs.Kept.Laws as L′
 use Rattle.hub.proofs.Owned as O
 use Rattle.hub.proofs.Owned.Laws as O′
 use Rattle.hub.proofs.Answered as N

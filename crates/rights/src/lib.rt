@@ -181,11 +181,17 @@ fn may_on_group<'a>(
         ⌝ }
 {
     let list: &[u32] = rows;
-    let most = totals::counted(list, listed);
+    let most = total_rows::counted(list, listed);
     for i in 0..most {
         let row = list[i];
-        if totals::group_of(row) == group {
-            if !may(rights, n, w, p, Place::At(totals::register_of(row) as u64)) {
+        if total_rows::group_of(row) == group {
+            if !may(
+                rights,
+                n,
+                w,
+                p,
+                Place::At(total_rows::register_of(row) as u64),
+            ) {
                 return false;
             }
         }

@@ -48,7 +48,7 @@ use Rattle.gate.specs.Gate.{operationRep, decodedRep, decodedIn, sizesOk, gateO
 use Rattle.gate.proofs.Tests.{begin-gate-by}
 use Rattle.announcing.specs.declared.Outcome.{Outcome}
 use Rattle.worker.specs.declared.Sum.{Sum}
-use Rattle.totals.specs.Rows.{sumWith}
+use Rattle.total_sums.specs.Sums.{sumWith}
 use Rattle.step.specs.declared.Next.{Next}
 use Rattle.step.specs.declared.Next.the-variants.{Taken, Mark}
 use Rattle.announcing.specs.Announcing.{outcomeOf}

@@ -34,7 +34,7 @@ use Rattle.worker.specs.declared.Doing.the-variants.{ReadStand}
 use Rattle.worker.specs.Rep.{announcedRep, sumRep, goalRep}
 use Rattle.marks.specs.declared.MarkNeed as Need
 use Rattle.marks.specs.Marks.{refusalIn, timeIn}
-use Rattle.totals.specs.Rows.{addedTo}
+use Rattle.total_sums.specs.Sums.{addedTo}
 use Rattle.announcing.specs.declared.Outcome.{Outcome}
 use Rattle.announcing.specs.Announcing.{outcomeOf}
 use Rattle.step.specs.Step.{Stepped, newestAt, stillAt, needOf, readEnterStep, answerTo, signedOf, totalFoundOf, foundOf, readStandStep, getShowStep}

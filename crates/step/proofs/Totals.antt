@@ -16,7 +16,8 @@ use Rattle.worker.specs.declared.Announced.{Announced}
 use Rattle.worker.specs.declared.Sum.{Sum}
 use Rattle.worker.specs.declared.Goal.{Goal}
 use Rattle.worker.specs.declared.Doing.the-variants.{Idle, ReadEnter}
-use Rattle.totals.specs.Rows.{goalIn, sumWith}
+use Rattle.total_rows.specs.Rows.{goalIn}
+use Rattle.total_sums.specs.Sums.{sumWith}
 use Rattle.announcing.specs.declared.Outcome.{Outcome}
 use Rattle.announcing.specs.Announcing.{outcomeOf}
 use Rattle.step.specs.Step.{signedOf, totalFoundOf}

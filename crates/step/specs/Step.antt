@@ -33,7 +33,8 @@ use Rattle.worker.specs.Rep.{timeOf}
 use Rattle.marks.specs.declared.MarkNeed.{MarkNeed}
 use Rattle.marks.specs.declared.MarkNeed.the-variants.{Nothing, Empty, Held, Unread}
 use Rattle.marks.specs.Marks.{refusalIn, timeIn}
-use Rattle.totals.specs.Rows.{goalIn, sumWith}
+use Rattle.total_rows.specs.Rows.{goalIn}
+use Rattle.total_sums.specs.Sums.{sumWith}
 use Rattle.announcing.specs.declared.Outcome.{Outcome}
 use Rattle.announcing.specs.Announcing.{outcomeOf, openAnnounceStep, openPassStep, closeWithdrawStep}
 use Rattle.step.specs.declared.Next.{Next}

@@ -187,10 +187,10 @@ fn total_found(
 ) -> Outcome
     ensures { λ r. ⌜ r ≡ totalFoundOf group i sum x t clock n (take listed (now (rows .entry))) ⌝ }
 {
-    if totals::count_of(x) <= 999999999999 {
-        let more = totals::sum_with(sum, totals::row_at(rows, listed, wide(i)), x);
-        if totals::goes_on(rows, listed, group, i) {
-            let goal = totals::goal_at(rows, listed, group, wide(i) + 1, more);
+    if total_sums::count_of(x) <= 999999999999 {
+        let more = total_sums::sum_with(sum, total_rows::row_at(rows, listed, wide(i)), x);
+        if total_rows::goes_on(rows, listed, group, i) {
+            let goal = total_rows::goal_at(rows, listed, group, wide(i) + 1, more);
             let place = Doing::ReadEnter { goal };
             return announcing::outcome_of(place, t, clock, n, Answer::Going);
         }

@@ -47,7 +47,7 @@ use Rattle.state.proofs.Hub as B
 use Rattle.state.proofs.Hub.Laws as B′
 use Rattle.runs.specs.declared.Counted.{Counted}
 use Rattle.runs.proofs.Counted as L
-use Rattle.runs.proofs.Counted.Laws as L′
+use Rattle.runs.proofs.Kept.Laws as L′
 use Rattle.hub.proofs.Rows.{through}
 use Rattle.hub.proofs.Lends.{big-lit}
 use Rattle.hub.proofs.Local.{lends-local, takes-back}

@@ -50,7 +50,7 @@ use Rattle.state.proofs.Hub.Laws as B′
 use Rattle.runs.specs.declared.Counted.{Counted}
 use Rattle.hub.specs.declared.Owned.{Owned}
 use Rattle.runs.proofs.Counted as L
-use Rattle.runs.proofs.Counted.Laws as L′
+use Rattle.runs.proofs.Kept.Laws as L′
 use Rattle.hub.proofs.Owned as O
 use Rattle.hub.proofs.Owned.Laws as O′
 use Rattle.hub.proofs.Lends.{big-lit}

@@ -8,7 +8,7 @@ use borrow.Author.Needs.{needs}
 use Rattle.lists.specs.Over.{over}
 use Rattle.lists.proofs.Over.{over-nil}
 use Rattle.model.specs.Rights.{tableOf}
-use Rattle.totals.proofs.Listed.{take-room}
+use Rattle.total_rows.proofs.Kept.{take-room}
 use Rattle.rights.proofs.Given.{length-table, filled-more}
 use Rattle.rights.proofs.fill_table.Statement.{statement}
 use Rattle.rights.proofs.fill_table.Tie as tie

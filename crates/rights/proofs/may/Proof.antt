@@ -6,7 +6,7 @@ use native.Mathlib.Omega.{arith}
 use lib.ListN.{getD, take, drop}
 use borrow.Author.Needs.{needs}
 use Rattle.model.specs.Rights.{anyOf}
-use Rattle.totals.proofs.First.{row-kept}
+use Rattle.total_rows.proofs.Kept.{row-kept}
 use Rattle.rights.specs.Needs.{permissionOf}
 use Rattle.rights.specs.Places.{givesIn}
 use Rattle.rights.proofs.Scan.{Passed, turn, passed-all, any-none, any-here, any-behind}

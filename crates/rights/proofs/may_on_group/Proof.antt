@@ -8,7 +8,7 @@ use lib.ListN.{getD, take, drop}
 use borrow.Author.Needs.{needs}
 use borrow.Author.Tests.{not-true, not-false}
 use Rattle.model.specs.Rights.{mayOn}
-use Rattle.totals.proofs.First.{row-kept}
+use Rattle.total_rows.proofs.Kept.{row-kept}
 use Rattle.rights.specs.Needs.{permissionOf}
 use Rattle.rights.proofs.Scan.{Passed, turn, passed-all, eachIn, none-in, own-fails, own-behind, other-behind}
 use Rattle.rights.proofs.may_on_group.Statement.{statement}

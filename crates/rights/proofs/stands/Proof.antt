@@ -7,7 +7,7 @@ use lib.ListN.{getD, take, drop}
 use borrow.Author.Needs.{needs}
 use borrow.Author.Tests.{le-leb, lt-leb, not-true, not-false}
 use Rattle.model.specs.Rights.{eachOf, rightFits}
-use Rattle.totals.proofs.First.{row-kept}
+use Rattle.total_rows.proofs.Kept.{row-kept}
 use Rattle.rights.proofs.Scan.{Passed, turn, passed-all, each-none, each-fails, each-behind}
 use Rattle.rights.proofs.stands.Statement.{statement}
 use Rattle.rights.proofs.stands.Tie as tie

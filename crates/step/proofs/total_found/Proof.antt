@@ -11,7 +11,7 @@ use Rattle.model.specs.Rules.{twelveDigits}
 use Rattle.model.specs.Totals.{rowAt}
 use Rattle.model.specs.Store.{countOf}
 use Rattle.values.specs.Meaning.{contentOf}
-use Rattle.totals.specs.Rows.{sumWith}
+use Rattle.total_sums.specs.Sums.{sumWith}
 use Rattle.step.proofs.Totals.{total-refused, total-next, total-answered}
 use Rattle.step.proofs.total_found.Statement.{statement}
 use Rattle.step.proofs.total_found.Tie as tie
