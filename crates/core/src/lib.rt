@@ -87,7 +87,7 @@ fn put_answer(kinds: &mut [u16], numbers: &mut [u64], k: usize, y: Answer) -> An
 fn kept_rows(rights: &[u64; 64], granted: usize) -> usize
     ensures { λ r. ⌜ r ≡ cond (leb granted 64 && eachOf rightFits (take granted (now (rights .entry)))) granted 0 ⌝ }
 {
-    if rights::stands(rights, granted) {
+    if rights_table::stands(rights, granted) {
         return granted;
     }
     0

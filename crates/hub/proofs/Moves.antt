@@ -41,8 +41,8 @@ use Rattle.hub.proofs.Words.{Words, Row}
 use Rattle.hub.proofs.Lends.{Ends, call-on, call-two}
 use Rattle.hub.proofs.zeros as zeros
 use Rattle.hub.proofs.zeros.Symbol.{name as #hub·zeros}
-use Rattle.runs.proofs.at_most as at-most
-use Rattle.runs.proofs.at_most.Symbol.{name as #runs·at-most}
+use Rattle.bounds.proofs.at_most as at-most
+use Rattle.bounds.proofs.at_most.Symbol.{name as #bounds·at-most}
 use Rattle.hub.proofs.load_row as load-row
 use Rattle.hub.proofs.load_row.Symbol.{name as #hub·load-row}
 use Rattle.hub.proofs.store_row as store-row
@@ -218,10 +218,10 @@ module _ {M : Type 1} {𝓤 : URA M} {H : Heap 𝓤} {A : Atoms 𝓤} {K : Type 
       call-value t fm (Zeros 𝓤 H A mem run) known RowArray row-vals (array-tells Words word-vals word-tells 2048) ws (to-zeros 𝓤 H A W mem run ws is)
       (Zeroed 𝓤 H A W mem run ws is) (goes-zeros 𝓤 H A W mem run ws is) (λ w. id⊢ 𝓤 _) (zeroed 𝓤 H A W mem run ws is) os k
 
-  pub call-at-most : K → (mem : Memory → SProp 𝓤) (run : Routine → Fun 𝓤) → FmC 𝓤 H (W .laws) C → Triple 𝓤 (C #runs·at-most) (AtMost 𝓤 H A mem run)
+  pub call-at-most : K → (mem : Memory → SProp 𝓤) (run : Routine → Fun 𝓤) → FmC 𝓤 H (W .laws) C → Triple 𝓤 (C #bounds·at-most) (AtMost 𝓤 H A mem run)
       → (n m k : ℕ) → min n m ≡ k → n < 2 ^ 64 → m < 2 ^ 64
       → ((j : Item 𝓤) → Opds K W (j ∷ Γ) E xs (vint w64 n ∷ vint w64 m ∷ [])) → (k < 2 ^ 64 → Seq K W Γ (lands C Λ E dst (vint w64 k) rest q))
-      → Seq K W Γ (runs C Λ E (seq (call #runs·at-most xs dst) rest) q)
+      → Seq K W Γ (runs C Λ E (seq (call #bounds·at-most xs dst) rest) q)
   call-at-most t mem run fm known n m k is gn gm os next =
       call-value t fm (AtMost 𝓤 H A mem run) known usize (uint-vals w64) (uint-tells w64) k (to-at-most 𝓤 H A W mem run n m k is)
       (Lesser 𝓤 H A W mem run n m k is) (goes-at-most 𝓤 H A W mem run n m k is gn gm) (λ w. id⊢ 𝓤 _) (lesser 𝓤 H A W mem run n m k is)

@@ -85,7 +85,7 @@ pub fn apply(
         ⌝ }
 {
     let mut row = zeros();
-    let n = runs::at_most(slots.len(), 2048);
+    let n = bounds::at_most(slots.len(), 2048);
     load_row(slots, &mut row, n);
     let done = runs::run_one(
         &mut row,
@@ -145,7 +145,7 @@ pub fn apply_all(
         ⌝ }
 {
     let mut row = zeros();
-    let n = runs::at_most(slots.len(), 2048);
+    let n = bounds::at_most(slots.len(), 2048);
     load_row(slots, &mut row, n);
     let done = runs::run_all(
         &mut row,
@@ -262,7 +262,7 @@ pub fn give_table<'a>(
         ⌝ }
 {
     let mut row = zeros();
-    let n = runs::at_most(slots.len(), 2048);
+    let n = bounds::at_most(slots.len(), 2048);
     load_row(slots, &mut row, n);
     runs::give_table(&row, n, hub, table, newest, free, queue, lens, merged)
 }
@@ -412,7 +412,7 @@ pub fn apply_row(
         ⌝ }
 {
     let mut slots = row;
-    let n = runs::at_most(long, 2048);
+    let n = bounds::at_most(long, 2048);
     let applied = apply(
         &mut slots[0..n],
         hub,
@@ -462,6 +462,6 @@ pub fn give_table_row<'a>(
         })
         ⌝ }
 {
-    let n = runs::at_most(long, 2048);
+    let n = bounds::at_most(long, 2048);
     give_table(&row[0..n], hub, table, newest, free, queue, lens, merged)
 }

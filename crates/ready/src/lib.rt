@@ -1,6 +1,6 @@
 // Whether lent memory counts as set up: a test of all of it, by scans without branches.
 ghost use mathlib.Core.Path.{_≡_};
-ghost use Prim.Native.Nat.{_+_, _*_, _-_, _<_, _≤_, min};
+ghost use Prim.Native.Nat.{_+_, _*_, _-_, _<_, _≤_};
 ghost use lib.ListN.{length};
 ghost use Rattle.model.specs.Batch.{batchOf};
 ghost use Rattle.ready.specs.Ready.{belowTo, slotsBelow, poolFits, listFits, handFits, namedBelow, rowsBelow, purposeFits, readFits};
@@ -29,16 +29,6 @@ fn wide32(x: u32) -> usize
     ensures { λ r. ⌜ (r ≡ x) × (r < 4294967296) ⌝ }
 {
     x as usize
-}
-
-// The smaller of the two numbers.
-fn least(a: usize, b: usize) -> usize
-    ensures { λ r. ⌜ r ≡ min a b ⌝ }
-{
-    if a < b {
-        return a;
-    }
-    b
 }
 
 // N - V, and 0 where V is larger.
@@ -297,7 +287,12 @@ fn scans_fit<'a>(
         let c = slots_below(queue, w.from, w.queued, n as u32);
         let d = lens_fit(lens, w.first, w.pools, (2 * size) as u32);
         let e = lens_sum(lens, w.first, w.pools) == w.queued;
-        let f = workers_fit(hub, merged, least(size, most), least(4 * size, most));
+        let f = workers_fit(
+            hub,
+            merged,
+            bounds::at_most(size, most),
+            bounds::at_most(4 * size, most),
+        );
         let g = rows_below(&hub.rows, hub.listed, hub.v as u32);
         return (((a & b) & (c & d)) & (e & f)) & (g & linked);
     }
@@ -321,5 +316,5 @@ pub fn ready<'a>(
         ⌝ }
 {
     let fit = scans_fit(hub, newest, free, queue, lens, merged, linked, long);
-    fit & rights::stands(&hub.rights, hub.granted)
+    fit & rights_table::stands(&hub.rights, hub.granted)
 }

@@ -1,3 +1,2 @@
-pub mod Given
 pub mod Has
-pub mod Scan
+pub mod InGroup

@@ -1,14 +1,10 @@
-// The table of rights (H15): the table that is given, the rows that a hub keeps, of which the first n count, and what they permit.
+// What the table of rights permits (H15): of the rows that a hub keeps the first n count.
 ghost use mathlib.Core.Path.{_≡_};
-ghost use mathlib.Core.Bool.{cond, _&&_};
 ghost use mathlib.Core.List.{map};
-ghost use Prim.Native.Nat.{_≤_};
-ghost use lib.Dec.{leb};
-ghost use lib.ListN.{length, take};
-ghost use Rattle.lists.specs.Over.{over};
+ghost use lib.ListN.{take};
 ghost use Rattle.model.specs.Store.{upFrom};
 ghost use Rattle.model.specs.Totals.{registerOf, ofGroup};
-ghost use Rattle.model.specs.Rights.{anyOf, eachOf, rightFits, tableOf, tableFits, among, mayOnEach, allowed};
+ghost use Rattle.model.specs.Rights.{anyOf, among, mayOnEach, allowed};
 ghost use Rattle.rights.specs.Needs.{permissionOf, neededIn};
 ghost use Rattle.rights.specs.Places.{givesIn};
 
@@ -64,79 +60,6 @@ fn gives(row: u64, w: u8, p: Permission, place: Place) -> bool
     }
 }
 
-// H15.8: whether the row is one that a table may have.
-fn row_ok(row: u64) -> bool
-    ensures { λ y. ⌜ y ≡ rightFits row ⌝ }
-{
-    let last = row / 4294967296 % 65536;
-    ((row % 256 <= 15) & (row / 256 % 256 <= 15))
-        & ((last <= 255) & (row / 65536 % 65536 <= last))
-        & (row / 281474976710656 == 0)
-}
-
-// How many rows there are where n count.
-fn counted(rights: &[u64], n: usize) -> usize
-    ensures { λ r. ⌜ (r ≡ length (take n (now (rights .entry)))) × (r ≤ n) × (r ≤ length (now (rights .entry))) ⌝ }
-{
-    if n < rights.len() {
-        return n;
-    }
-    rights.len()
-}
-
-// ---- the table that is given
-
-// The rows of the bytes, as many as an array has room for; the entries behind them keep their contents.
-fn fill_table(rights: &mut [u64; 64], table: &[u8])
-    ensures { λ _. ⌜ now (rights .exit) ≡ over (take 64 (tableOf (now (table .entry)))) (now (rights .entry)) ⌝ }
-{
-    let to: &mut [u64] = rights;
-    let room = counted(to, table.len() / 8);
-    for i in 0..room {
-        to[i] = record::eight(table, 8 * i);
-    }
-}
-
-// Whether the first n rows are a table: there are at most 64, and each is as it may be.
-pub fn stands(rights: &[u64; 64], n: usize) -> bool
-    ensures { λ y. ⌜ y ≡ leb n 64 && eachOf rightFits (take n (now (rights .entry))) ⌝ }
-{
-    if 64 < n {
-        return false;
-    }
-    let rows: &[u64] = rights;
-    let most = counted(rows, n);
-    for i in 0..most {
-        if !row_ok(rows[i]) {
-            return false;
-        }
-    }
-    true
-}
-
-// H15.8: takes the rows of a table of any bytes, and says so; where the table is not accepted, the rows that stood stay.
-pub fn take_table(rights: &mut [u64; 64], table: &[u8]) -> bool
-    ensures { λ y. ⌜ y ≡ tableFits (now (table .entry)) ⌝ }
-    ensures { λ _. ⌜
-        now (rights .exit)
-        ≡ cond (tableFits (now (table .entry))) (over (tableOf (now (table .entry))) (now (rights .entry))) (now (rights .entry))
-        ⌝ }
-{
-    if 512 < table.len() {
-        return false;
-    }
-    if table.len() % 8 != 0 {
-        return false;
-    }
-    let mut rows = [0u64; 64];
-    fill_table(&mut rows, table);
-    if !stands(&rows, table.len() / 8) {
-        return false;
-    }
-    fill_table(rights, table);
-    true
-}
-
 // ---- what is permitted
 
 // H15.3: whether one of the first n rows gives worker w the right there.
@@ -144,7 +67,7 @@ fn may(rights: &[u64; 64], n: usize, w: u8, p: Permission, place: Place) -> bool
     ensures { λ y. ⌜ y ≡ anyOf (givesIn w (permissionOf p) place) (take n (now (rights .entry))) ⌝ }
 {
     let rows: &[u64] = rights;
-    let most = counted(rows, n);
+    let most = bounds::at_most(n, rows.len());
     for i in 0..most {
         if gives(rows[i], w, p, place) {
             return true;
@@ -185,13 +108,8 @@ fn may_on_group<'a>(
     for i in 0..most {
         let row = list[i];
         if total_rows::group_of(row) == group {
-            if !may(
-                rights,
-                n,
-                w,
-                p,
-                Place::At(total_rows::register_of(row) as u64),
-            ) {
+            let register = total_rows::register_of(row) as u64;
+            if !may(rights, n, w, p, Place::At(register)) {
                 return false;
             }
         }
@@ -213,7 +131,8 @@ pub fn is_allowed<'a>(
         y ≡ allowed (take n (now (rights .entry))) v w (neededIn need (take listed (now (rows .entry))))
         ⌝ }
 {
-    if counted(rights, n) == 0 {
+    let list: &[u64] = rights;
+    if bounds::at_most(n, list.len()) == 0 {
         return true;
     }
     match need {

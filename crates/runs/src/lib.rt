@@ -1,7 +1,7 @@
 // The loop over the records (crate `core`) run on the first n slots of a row of words: for one record, and for as many as there is room for. And the
 // call that gives a table of rights.
 ghost use mathlib.Core.Path.{_≡_};
-ghost use Prim.Native.Nat.{_+_, _/_, _≤_, min};
+ghost use Prim.Native.Nat.{_+_, _/_, _≤_};
 ghost use lib.ListN.{length, take, drop};
 ghost use Rattle.versions.specs.Versions.{rowOf};
 ghost use Rattle.simulation.specs.Loop.{RanAll};
@@ -9,16 +9,6 @@ ghost use Rattle.simulation.specs.Tables.{Gives};
 ghost use Rattle.runs.specs.Runs.{One};
 use state::Hub;
 use values::Answer;
-
-// The smaller of the two numbers.
-pub fn at_most(n: usize, most: usize) -> usize
-    ensures { λ r. ⌜ (r ≡ min n most) × (r ≤ most) ⌝ }
-{
-    if n < most {
-        return n;
-    }
-    most
-}
 
 // How many records n bytes are. A rest of fewer than sixteen is one more.
 fn count_records(n: usize) -> usize
@@ -145,7 +135,7 @@ pub fn give_table<'a>(
         };
     }
     let mut rights = hub.rights;
-    if rights::take_table(&mut rights, table) {
+    if rights_table::take_table(&mut rights, table) {
         let granted = table.len() / 8;
         let left = Hub::fresh(0, 0, 0, 0, 0, [0u32; 1024], granted, rights);
         return Applied {
@@ -209,8 +199,8 @@ pub fn run_all(
         (now (kinds .exit)) (now (numbers .exit))
         ⌝ }
 {
-    let room = at_most(kinds.len(), numbers.len());
-    let count = at_most(count_records(bytes.len()), room);
+    let room = bounds::at_most(kinds.len(), numbers.len());
+    let count = bounds::at_most(count_records(bytes.len()), room);
     let done = core::run(
         &mut row[0..n],
         hub,

@@ -1,7 +1,7 @@
 // The version slots as one lent row of words, six a slot: what stands in a slot, the test of neighbours and a setup. The words are the
 // count of its reading, low, high, older, newer, and the status of its reading plus one, which is 0 where there is none.
 ghost use mathlib.Core.Path.{_≡_};
-ghost use Prim.Native.Nat.{_≤_, min};
+ghost use Prim.Native.Nat.{_≤_};
 ghost use lib.ListN.{set, getD};
 ghost use Rattle.slots.specs.Slots.{vacantSlot, linkedTo, madeTo};
 ghost use Rattle.versions.specs.Versions.{rowOf, contentIn, countWord, heldWord};
@@ -81,20 +81,11 @@ pub fn store(row: &mut [[u64; 6]], i: usize, s: Slot)
     ];
 }
 
-fn at_most(n: usize, most: usize) -> usize
-    ensures { λ r. ⌜ r ≡ min n most ⌝ }
-{
-    if n < most {
-        return n;
-    }
-    most
-}
-
 // Whether the neighbours of the first n slots are slots below n or absent. Past the end of the row there are none to look at.
 pub fn all_linked(row: &[[u64; 6]], n: usize) -> bool
     ensures { λ r. ⌜ r ≡ linkedTo (rowOf (now (row .entry))) n n ⌝ }
 {
-    let most = at_most(n, row.len());
+    let most = bounds::at_most(n, row.len());
     let mut ok = true;
     for i in 0..most {
         let s = load(row, i);

@@ -63,9 +63,9 @@ use Rattle.hub.proofs.Runs.{RunAll, call-run-all}
 use Rattle.hub.proofs.zeros.Symbol as zeros-def
 use Rattle.hub.proofs.zeros.Symbol.{name as #hub·zeros}
 use Rattle.hub.proofs.zeros.Met as zeros-thm
-use Rattle.runs.proofs.at_most.Symbol as at-most-def
-use Rattle.runs.proofs.at_most.Symbol.{name as #runs·at-most}
-use Rattle.runs.proofs.at_most.Met as at-most-thm
+use Rattle.bounds.proofs.at_most.Symbol as at-most-def
+use Rattle.bounds.proofs.at_most.Symbol.{name as #bounds·at-most}
+use Rattle.bounds.proofs.at_most.Met as at-most-thm
 use Rattle.hub.proofs.load_row.Symbol as load-def
 use Rattle.hub.proofs.load_row.Symbol.{name as #hub·load-row}
 use Rattle.hub.proofs.load_row.Met as load-thm
@@ -129,7 +129,7 @@ module _ {M : Type 1} (𝓤 : URA M) (H : Heap 𝓤) (A : Atoms 𝓤) (W : Given
       owned ! L.the-row (Is L.the-row) (LL.makes L.the-type L′.the-plain 𝓤 H A) r (left-vals r) g $ done !
 
   module _ (𝓣 : Tables 𝓤 H) (known-zeros : Triple 𝓤 (𝓣 .C #hub·zeros) (Zeros 𝓤 H A mem run))
-      (known-most : Triple 𝓤 (𝓣 .C #runs·at-most) (AtMost 𝓤 H A mem run)) (known-load : Triple 𝓤 (𝓣 .C #hub·load-row) (LoadRow 𝓤 H A mem run))
+      (known-most : Triple 𝓤 (𝓣 .C #bounds·at-most) (AtMost 𝓤 H A mem run)) (known-load : Triple 𝓤 (𝓣 .C #hub·load-row) (LoadRow 𝓤 H A mem run))
       (known-run : Triple 𝓤 (𝓣 .C #runs·run-all) (RunAll 𝓤 H A mem run)) (known-store : Triple 𝓤 (𝓣 .C #hub·store-row) (StoreRow 𝓤 H A mem run)) where
     abbrev fm : FmC 𝓤 H (W .laws) (𝓣 .C)
     fm = fmOf 𝓤 H (W .laws) 𝓣
@@ -242,7 +242,7 @@ module _ {M : Type 1} (𝓤 : URA M) (H : Heap 𝓤) (A : Atoms 𝓤) (W : Given
         gr))))))))))))))))))))))))))))))))))))))))))))))
 
 module _ {M : Type 1} (𝓤 : URA M) (H : Heap 𝓤) (A : Atoms 𝓤) (W : Given 𝓤 H A) (mem : Memory → SProp 𝓤) (run : Routine → Fun 𝓤) (𝓣 : Tables 𝓤 H)
-    (known-zeros : Triple 𝓤 (𝓣 .C #hub·zeros) (Zeros 𝓤 H A mem run)) (known-most : Triple 𝓤 (𝓣 .C #runs·at-most) (AtMost 𝓤 H A mem run))
+    (known-zeros : Triple 𝓤 (𝓣 .C #hub·zeros) (Zeros 𝓤 H A mem run)) (known-most : Triple 𝓤 (𝓣 .C #bounds·at-most) (AtMost 𝓤 H A mem run))
     (known-load : Triple 𝓤 (𝓣 .C #hub·load-row) (LoadRow 𝓤 H A mem run)) (known-run : Triple 𝓤 (𝓣 .C #runs·run-all) (RunAll 𝓤 H A mem run))
     (known-store : Triple 𝓤 (𝓣 .C #hub·store-row) (StoreRow 𝓤 H A mem run)) where
   apply-all-walks : Walks 𝓤 H A f.ended stayed (WpFn 𝓤 H (𝓣 .C) (𝓣 .Λ) code.function) (f.clauses 𝓤 H A mem run)
@@ -271,7 +271,7 @@ apply-all-spec 𝓤 H 𝓜 𝓖 𝓡 =
     (tables 𝓤 H 𝓜 𝓡 code.env .C) (tables 𝓤 H 𝓜 𝓡 code.env .Λ) #hub·apply-all code.function (code.unfolded 𝓤 H 𝓜 𝓡)
     (apply-all-meets 𝓤 H (𝓖 .A) (givenOf 𝓤 H 𝓜 𝓖) (𝓜 .mem) (𝓡 .run) (tablesOf 𝓤 H 𝓜 (tables 𝓤 H 𝓜 𝓡 code.env))
     (cited 𝓤 H (Zeros 𝓤 H (𝓖 .A) (𝓜 .mem) (𝓡 .run)) 𝓜 𝓡 code.env #hub·zeros zeros-def.routine code.calls-hub·zeros (zeros-thm.met 𝓤 H 𝓜 𝓖 𝓡))
-    (cited 𝓤 H (AtMost 𝓤 H (𝓖 .A) (𝓜 .mem) (𝓡 .run)) 𝓜 𝓡 code.env #runs·at-most at-most-def.routine code.calls-runs·at-most (at-most-thm.met 𝓤 H 𝓜 𝓖 𝓡))
+    (cited 𝓤 H (AtMost 𝓤 H (𝓖 .A) (𝓜 .mem) (𝓡 .run)) 𝓜 𝓡 code.env #bounds·at-most at-most-def.routine code.calls-bounds·at-most (at-most-thm.met 𝓤 H 𝓜 𝓖 𝓡))
     (cited 𝓤 H (LoadRow 𝓤 H (𝓖 .A) (𝓜 .mem) (𝓡 .run)) 𝓜 𝓡 code.env #hub·load-row load-def.routine code.calls-hub·load-row (load-thm.met 𝓤 H 𝓜 𝓖 𝓡))
     (cited 𝓤 H (RunAll 𝓤 H (𝓖 .A) (𝓜 .mem) (𝓡 .run)) 𝓜 𝓡 code.env #runs·run-all run-def.routine code.calls-runs·run-all (run-thm.met 𝓤 H 𝓜 𝓖 𝓡))
     (cited 𝓤 H (StoreRow 𝓤 H (𝓖 .A) (𝓜 .mem) (𝓡 .run)) 𝓜 𝓡 code.env #hub·store-row store-def.routine code.calls-hub·store-row

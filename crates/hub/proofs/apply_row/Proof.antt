@@ -66,9 +66,9 @@ use Rattle.hub.proofs.Passed.{SingleDoes}
 use Rattle.hub.proofs.Handed.{single-gave, single-go}
 use Rattle.hub.proofs.Moves.{AtMost, call-at-most}
 use Rattle.hub.proofs.Singles.{Apply, call-apply}
-use Rattle.runs.proofs.at_most.Symbol as at-most-def
-use Rattle.runs.proofs.at_most.Symbol.{name as #runs·at-most}
-use Rattle.runs.proofs.at_most.Met as at-most-thm
+use Rattle.bounds.proofs.at_most.Symbol as at-most-def
+use Rattle.bounds.proofs.at_most.Symbol.{name as #bounds·at-most}
+use Rattle.bounds.proofs.at_most.Met as at-most-thm
 use Rattle.hub.proofs.apply.Symbol as apply-def
 use Rattle.hub.proofs.apply.Symbol.{name as #hub·apply}
 use Rattle.hub.proofs.apply.Met as apply-thm
@@ -137,7 +137,7 @@ module _ {M : Type 1} (𝓤 : URA M) (H : Heap 𝓤) (A : Atoms 𝓤) (W : Given
       says ! e $ frame ! $ nothing ! $ fjoin ! $ nothing ! $ fjoin ! $ nothing ! $ fjoin ! $ nothing ! $ fjoin ! $ nothing ! $ fjoin ! $ frame ! $
       owned ! N.the-row (Is N.the-row) (LL.makes N.the-type N′.the-plain 𝓤 H A) (back r us) (answered-vals (back r us)) g $ done !
 
-  module _ (𝓣 : Tables 𝓤 H) (known-most : Triple 𝓤 (𝓣 .C #runs·at-most) (AtMost 𝓤 H A mem run))
+  module _ (𝓣 : Tables 𝓤 H) (known-most : Triple 𝓤 (𝓣 .C #bounds·at-most) (AtMost 𝓤 H A mem run))
       (known : Triple 𝓤 (𝓣 .C #hub·apply) (Apply 𝓤 H A mem run)) where
     abbrev fm : FmC 𝓤 H (W .laws) (𝓣 .C)
     fm = fmOf 𝓤 H (W .laws) 𝓣
@@ -209,7 +209,7 @@ module _ {M : Type 1} (𝓤 : URA M) (H : Heap 𝓤) (A : Atoms 𝓤) (W : Given
         by ! (exits r (joined zs) z (said r zs z long e) (is-back r (joined zs) gr gz))))))))))))))))))))))))))))))))
 
 module _ {M : Type 1} (𝓤 : URA M) (H : Heap 𝓤) (A : Atoms 𝓤) (W : Given 𝓤 H A) (mem : Memory → SProp 𝓤) (run : Routine → Fun 𝓤) (𝓣 : Tables 𝓤 H)
-    (known-most : Triple 𝓤 (𝓣 .C #runs·at-most) (AtMost 𝓤 H A mem run)) (known : Triple 𝓤 (𝓣 .C #hub·apply) (Apply 𝓤 H A mem run)) where
+    (known-most : Triple 𝓤 (𝓣 .C #bounds·at-most) (AtMost 𝓤 H A mem run)) (known : Triple 𝓤 (𝓣 .C #hub·apply) (Apply 𝓤 H A mem run)) where
   apply-row-walks : Walks 𝓤 H A f.ended stayed (WpFn 𝓤 H (𝓣 .C) (𝓣 .Λ) code.function) (f.clauses 𝓤 H A mem run)
   apply-row-walks =
       walked 𝓤 H A f.ended stayed (f.clauses 𝓤 H A mem run) (WpFn 𝓤 H (𝓣 .C) (𝓣 .Λ) code.function)
@@ -233,5 +233,5 @@ apply-row-spec 𝓤 H 𝓜 𝓖 𝓡 =
     entered 𝓤 H (tripleOf 𝓤 H (𝓖 .A) f.signature (f.spec 𝓤 H (𝓖 .A) (𝓜 .mem) (𝓡 .run)))
     (tables 𝓤 H 𝓜 𝓡 code.env .C) (tables 𝓤 H 𝓜 𝓡 code.env .Λ) #hub·apply-row code.function (code.unfolded 𝓤 H 𝓜 𝓡)
     (apply-row-meets 𝓤 H (𝓖 .A) (givenOf 𝓤 H 𝓜 𝓖) (𝓜 .mem) (𝓡 .run) (tablesOf 𝓤 H 𝓜 (tables 𝓤 H 𝓜 𝓡 code.env))
-    (cited 𝓤 H (AtMost 𝓤 H (𝓖 .A) (𝓜 .mem) (𝓡 .run)) 𝓜 𝓡 code.env #runs·at-most at-most-def.routine code.calls-runs·at-most (at-most-thm.met 𝓤 H 𝓜 𝓖 𝓡))
+    (cited 𝓤 H (AtMost 𝓤 H (𝓖 .A) (𝓜 .mem) (𝓡 .run)) 𝓜 𝓡 code.env #bounds·at-most at-most-def.routine code.calls-bounds·at-most (at-most-thm.met 𝓤 H 𝓜 𝓖 𝓡))
     (cited 𝓤 H (Apply 𝓤 H (𝓖 .A) (𝓜 .mem) (𝓡 .run)) 𝓜 𝓡 code.env #hub·apply apply-def.routine code.calls-hub·apply (apply-thm.met 𝓤 H 𝓜 𝓖 𝓡)))

@@ -59,9 +59,9 @@ use Rattle.hub.proofs.Values.{hub-vals, applied-vals, typed-hub, typed-
 use Rattle.hub.proofs.Moves.{AtMost, call-at-most}
 use Rattle.hub.proofs.Shared.{Tabled, tabled-types, tabled-vals, tabled-spells, tabled-tells, tabled-list, TableGives, tabled-dropped, tabled-go}
 use Rattle.hub.proofs.Giving.{GiveTable, call-give-table}
-use Rattle.runs.proofs.at_most.Symbol as at-most-def
-use Rattle.runs.proofs.at_most.Symbol.{name as #runs·at-most}
-use Rattle.runs.proofs.at_most.Met as at-most-thm
+use Rattle.bounds.proofs.at_most.Symbol as at-most-def
+use Rattle.bounds.proofs.at_most.Symbol.{name as #bounds·at-most}
+use Rattle.bounds.proofs.at_most.Met as at-most-thm
 use Rattle.hub.proofs.give_table.Symbol as give-table-def
 use Rattle.hub.proofs.give_table.Symbol.{name as #hub·give-table}
 use Rattle.hub.proofs.give_table.Met as give-table-thm
@@ -106,7 +106,7 @@ module _ {M : Type 1} (𝓤 : URA M) (H : Heap 𝓤) (A : Atoms 𝓤) (W : Given
       nothing ! $ fjoin ! $ nothing ! $ fjoin ! $ nothing ! $ fjoin ! $ nothing ! $ fjoin ! $ frame ! $
       owned ! P.the-row (Is P.the-row) (LL.makes P.the-type P′.the-plain 𝓤 H A) r (applied-vals r) g $ done !
 
-  module _ (𝓣 : Tables 𝓤 H) (known-most : Triple 𝓤 (𝓣 .C #runs·at-most) (AtMost 𝓤 H A mem run))
+  module _ (𝓣 : Tables 𝓤 H) (known-most : Triple 𝓤 (𝓣 .C #bounds·at-most) (AtMost 𝓤 H A mem run))
       (known : Triple 𝓤 (𝓣 .C #hub·give-table) (GiveTable 𝓤 H A mem run)) where
     abbrev fm : FmC 𝓤 H (W .laws) (𝓣 .C)
     fm = fmOf 𝓤 H (W .laws) 𝓣
@@ -162,7 +162,7 @@ module _ {M : Type 1} (𝓤 : URA M) (H : Heap 𝓤) (A : Atoms 𝓤) (W : Given
         by ! (exits r (subst (λ (j : ℕ). TableGives hub (take j ys) x (r .hub) (r .answer)) (sym is-k) e) gr)))))))))))))))))))))))
 
 module _ {M : Type 1} (𝓤 : URA M) (H : Heap 𝓤) (A : Atoms 𝓤) (W : Given 𝓤 H A) (mem : Memory → SProp 𝓤) (run : Routine → Fun 𝓤) (𝓣 : Tables 𝓤 H)
-    (known-most : Triple 𝓤 (𝓣 .C #runs·at-most) (AtMost 𝓤 H A mem run)) (known : Triple 𝓤 (𝓣 .C #hub·give-table) (GiveTable 𝓤 H A mem run)) where
+    (known-most : Triple 𝓤 (𝓣 .C #bounds·at-most) (AtMost 𝓤 H A mem run)) (known : Triple 𝓤 (𝓣 .C #hub·give-table) (GiveTable 𝓤 H A mem run)) where
   give-table-row-walks : Walks 𝓤 H A f.ended stayed (WpFn 𝓤 H (𝓣 .C) (𝓣 .Λ) code.function) (f.clauses 𝓤 H A mem run)
   give-table-row-walks =
       walked 𝓤 H A f.ended stayed (f.clauses 𝓤 H A mem run) (WpFn 𝓤 H (𝓣 .C) (𝓣 .Λ) code.function)
@@ -186,6 +186,6 @@ give-table-row-spec 𝓤 H 𝓜 𝓖 𝓡 =
     entered 𝓤 H (tripleOf 𝓤 H (𝓖 .A) f.signature (f.spec 𝓤 H (𝓖 .A) (𝓜 .mem) (𝓡 .run)))
     (tables 𝓤 H 𝓜 𝓡 code.env .C) (tables 𝓤 H 𝓜 𝓡 code.env .Λ) #hub·give-table-row code.function (code.unfolded 𝓤 H 𝓜 𝓡)
     (give-table-row-meets 𝓤 H (𝓖 .A) (givenOf 𝓤 H 𝓜 𝓖) (𝓜 .mem) (𝓡 .run) (tablesOf 𝓤 H 𝓜 (tables 𝓤 H 𝓜 𝓡 code.env))
-    (cited 𝓤 H (AtMost 𝓤 H (𝓖 .A) (𝓜 .mem) (𝓡 .run)) 𝓜 𝓡 code.env #runs·at-most at-most-def.routine code.calls-runs·at-most (at-most-thm.met 𝓤 H 𝓜 𝓖 𝓡))
+    (cited 𝓤 H (AtMost 𝓤 H (𝓖 .A) (𝓜 .mem) (𝓡 .run)) 𝓜 𝓡 code.env #bounds·at-most at-most-def.routine code.calls-bounds·at-most (at-most-thm.met 𝓤 H 𝓜 𝓖 𝓡))
     (cited 𝓤 H (GiveTable 𝓤 H (𝓖 .A) (𝓜 .mem) (𝓡 .run)) 𝓜 𝓡 code.env #hub·give-table give-table-def.routine code.calls-hub·give-table
     (give-table-thm.met 𝓤 H 𝓜 𝓖 𝓡)))

@@ -48,14 +48,14 @@ lens-fit-requires c κs = omega (arith, told (c .before .before .before .before 
 lens-sum-requires : tie.Need-lens-sum-requires
 lens-sum-requires c κs = omega (arith, told (c .before .before .before .before .before .before .before .before .before .before))
 
-least-requires : tie.Need-least-requires
-least-requires c κs = search needs
+at-most-requires : tie.Need-at-most-requires
+at-most-requires c κs = search needs
 
-mul-least : tie.Need-mul-least
-mul-least c = search needs
+mul-at-most : tie.Need-mul-at-most
+mul-at-most c = search needs
 
-least-requires-2 : tie.Need-least-requires-2
-least-requires-2 c κs = search needs
+at-most-requires-2 : tie.Need-at-most-requires-2
+at-most-requires-2 c κs = search needs
 
 workers-fit-requires : tie.Need-workers-fit-requires
 workers-fit-requires c κs =
@@ -65,8 +65,8 @@ workers-fit-requires c κs =
       omega (arith, z .v .1),
       omega (arith, z .n .1),
       omega (arith, z .listed),
-      omega (arith, size .1, c .before .least .ensures),
-      omega (arith, size .1, c .least2 .ensures),
+      omega (arith, size .1, c .before .at-most .ensures .0),
+      omega (arith, size .1, c .at-most2 .ensures .0),
     )
 
 cast-rows-below : tie.Need-cast-rows-below
@@ -98,8 +98,8 @@ returns c =
       scanned .lens-sum .ensures,
       ← size .batch-of .ensures .0,
       ← newest .before .before .besides .ensures,
-      ← workers .before .before .least .ensures,
-      ← workers .before .least2 .ensures,
+      ← workers .before .before .at-most .ensures .0,
+      ← workers .before .at-most2 .ensures .0,
       workers .workers-fit .ensures,
       c .rows-below .ensures,
     )
@@ -124,9 +124,9 @@ scans-fit-spec =
     cast-lens-fit
     lens-fit-requires
     lens-sum-requires
-    least-requires
-    mul-least
-    least-requires-2
+    at-most-requires
+    mul-at-most
+    at-most-requires-2
     workers-fit-requires
     cast-rows-below
     rows-below-requires

@@ -1,7 +1,7 @@
 -- `is_allowed` meets its contract: without rows all is allowed, and with rows each arm asks what the need asks.
 use mathlib.Core.Path.{_≡_, sym, _∙_}
 use native.Mathlib.Omega.{arith}
-use lib.ListN.{take}
+use lib.ListN.{take, length-take}
 use borrow.Author.Needs.{needs}
 use Rattle.model.specs.Rights.{has, allowed}
 use Rattle.rights.specs.declared.Needed.{Needed}
@@ -10,13 +10,13 @@ use Rattle.rights.proofs.Has.{without-rows, with-rows, on-one}
 use Rattle.rights.proofs.is_allowed.Statement.{statement}
 use Rattle.rights.proofs.is_allowed.Tie as tie
 
-counted-requires : tie.Need-counted-requires
-counted-requires c κs = search needs
+at-most-requires : tie.Need-at-most-requires
+at-most-requires c κs = search needs
 
 returns : tie.Need-returns
 returns c =
     let s = c .before .before .before .args in
-    sym (without-rows (take (s .n) (s .rights .now)) _ _ _ (omega arith))
+    sym (without-rows (take (s .n) (s .rights .now)) _ _ _ (omega (arith, length-take (s .n) (s .rights .now))))
 
 enum-told : tie.Need-enum-told
 enum-told c = search needs
@@ -24,8 +24,8 @@ enum-told c = search needs
 enum-known-need : tie.Need-enum-known-need
 enum-known-need c = search needs
 
-cast-t18 : tie.Need-cast-t18
-cast-t18 c = search needs
+cast-t19 : tie.Need-cast-t19
+cast-t19 c = search needs
 
 may-requires : tie.Need-may-requires
 may-requires c κs = search needs
@@ -57,7 +57,7 @@ asked : (c : tie.Else1) (q : Needed)
 asked c q e =
     let s = c .before .before .before .args in
     let t = take (s .n) (s .rights .now) in
-    rw e (with-rows t (s .v) (s .w) _ (omega arith))
+    rw e (with-rows t (s .v) (s .w) _ (omega (arith, length-take (s .n) (s .rights .now))))
 
 returns-2 : tie.Need-returns-2
 returns-2 c = sym (asked (c .before .before) _ (c .enum-told .given .1))
@@ -83,11 +83,11 @@ pub is-allowed-spec : {M : Type 1} → statement M
 is-allowed-spec =
     tie.close
     (tie.spec
-    counted-requires
+    at-most-requires
     returns
     enum-told
     enum-known-need
-    cast-t18
+    cast-t19
     may-requires
     enum-known-need-2
     may-on-group-requires

@@ -3,13 +3,13 @@ use mathlib.Core.Path.{_≡_, refl, sym, _∙_}
 use mathlib.Core.List.{_∷_}
 use Prim.Native.Nat.{_+_, _-_, _≤_}
 use native.Mathlib.Omega.{arith}
-use lib.ListN.{getD, take, drop}
+use lib.ListN.{getD, take, drop, length-take}
+use lib.Seq.{getD-take}
 use borrow.Author.Needs.{needs}
 use Rattle.model.specs.Rights.{anyOf}
-use Rattle.total_rows.proofs.Kept.{row-kept}
 use Rattle.rights.specs.Needs.{permissionOf}
 use Rattle.rights.specs.Places.{givesIn}
-use Rattle.rights.proofs.Scan.{Passed, turn, passed-all, any-none, any-here, any-behind}
+use Rattle.rights_table.proofs.Scan.{Passed, turn, passed-all, any-none, any-here, any-behind}
 use Rattle.rights.proofs.may.Statement.{statement}
 use Rattle.rights.proofs.may.Tie as tie
 
@@ -19,8 +19,8 @@ Inv-loop rights n w p place rows most i₀ i = (i ≤ most) × Passed (anyOf (gi
 abbrev μ-loop : tie.MeasureT-loop
 μ-loop rights n w p place rows most i₀ i = most - i
 
-counted-requires : tie.Need-counted-requires Inv-loop μ-loop
-counted-requires c κs = search needs
+at-most-requires : tie.Need-at-most-requires Inv-loop μ-loop
+at-most-requires c κs = search needs
 
 loop-holds : tie.Need-loop-holds Inv-loop μ-loop
 loop-holds c = (omega arith, refl)
@@ -44,8 +44,8 @@ looked c =
     let l = c .before .before .before in
     let s = l .before .before .before .args in
     let f = givesIn (s .w) (permissionOf (s .p)) (s .place) in
-    turn (anyOf f) (take (s .n) (s .rights .now)) (l .loop .i) _ (omega arith)
-    (row-kept (s .n) (s .rights .now) (l .loop .i) (omega arith)) (l .loop .inv .1)
+    turn (anyOf f) (take (s .n) (s .rights .now)) (l .loop .i) _ (omega (arith, length-take (s .n) (s .rights .now)))
+    (sym (getD-take (s .n) (s .rights .now) (l .loop .i) 0 (omega arith))) (l .loop .inv .1)
 
 returns : tie.Need-returns Inv-loop μ-loop
 returns c = sym (looked (c .before) ∙ any-here _ _ _ (sym (c .before .gives .ensures) ∙ c .if1 .taken))
@@ -64,7 +64,7 @@ returns-2 c =
     let l = c .before in
     let s = l .before .before .before .args in
     let f = givesIn (s .w) (permissionOf (s .p)) (s .place) in
-    sym (passed-all (anyOf f) (take (s .n) (s .rights .now)) (l .loop .i) (omega arith) (l .loop .inv .1) ∙ any-none f)
+    sym (passed-all (anyOf f) (take (s .n) (s .rights .now)) (l .loop .i) (omega (arith, length-take (s .n) (s .rights .now))) (l .loop .inv .1) ∙ any-none f)
 
 pub may-spec : {M : Type 1} → statement M
 may-spec =
@@ -72,7 +72,7 @@ may-spec =
     (tie.spec
     Inv-loop
     μ-loop
-    counted-requires
+    at-most-requires
     loop-holds
     mul-gives
     shared-slice-read-gives

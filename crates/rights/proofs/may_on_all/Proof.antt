@@ -10,8 +10,8 @@ use borrow.Author.Tests.{not-true, not-false}
 use Rattle.model.specs.Store.{upFrom}
 use Rattle.model.specs.Rights.{mayOn, mayOnEach}
 use Rattle.rights.specs.Needs.{permissionOf}
-use Rattle.rights.proofs.Given.{length-up, getD-up}
-use Rattle.rights.proofs.Scan.{Passed, turn, passed-all, each-none, each-fails, each-behind}
+use Rattle.rights_table.proofs.Given.{length-up, getD-up}
+use Rattle.rights_table.proofs.Scan.{Passed, turn, passed-all, each-none, each-fails, each-behind}
 use Rattle.rights.proofs.may_on_all.Statement.{statement}
 use Rattle.rights.proofs.may_on_all.Tie as tie
 

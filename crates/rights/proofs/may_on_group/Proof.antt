@@ -10,7 +10,8 @@ use borrow.Author.Tests.{not-true, not-false}
 use Rattle.model.specs.Rights.{mayOn}
 use Rattle.total_rows.proofs.Kept.{row-kept}
 use Rattle.rights.specs.Needs.{permissionOf}
-use Rattle.rights.proofs.Scan.{Passed, turn, passed-all, eachIn, none-in, own-fails, own-behind, other-behind}
+use Rattle.rights_table.proofs.Scan.{Passed, turn, passed-all}
+use Rattle.rights.proofs.InGroup.{eachIn, none-in, own-fails, own-behind, other-behind}
 use Rattle.rights.proofs.may_on_group.Statement.{statement}
 use Rattle.rights.proofs.may_on_group.Tie as tie
 
@@ -39,8 +40,8 @@ group-of-requires c κs = search needs
 register-of-requires : tie.Need-register-of-requires Inv-loop μ-loop
 register-of-requires c κs = search needs
 
-cast-t20 : tie.Need-cast-t20 Inv-loop μ-loop
-cast-t20 c = search needs
+cast-register : tie.Need-cast-register Inv-loop μ-loop
+cast-register c = search needs
 
 may-requires : tie.Need-may-requires Inv-loop μ-loop
 may-requires c κs = search needs
@@ -107,7 +108,7 @@ may-on-group-spec =
     shared-slice-read-row
     group-of-requires
     register-of-requires
-    cast-t20
+    cast-register
     may-requires
     returns
     add-i

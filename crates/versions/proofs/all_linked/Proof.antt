@@ -45,7 +45,7 @@ returns : tie.Need-returns Inv-loop μ-loop
 returns c =
     let a = c .before .before .before .args in
     let l = rowOf (a .row .now) in
-    let e : c .before .loop .i ≡ min (a .n) (length l) = omega (arith, c .before .before .at-most .ensures, length-map (a .row .now) slotIn) in
+    let e : c .before .loop .i ≡ min (a .n) (length l) = omega (arith, c .before .before .at-most .ensures .0, length-map (a .row .now) slotIn) in
     c .before .loop .inv .1 ∙ ap (linkedTo l (a .n)) e ∙ linked-min l (a .n)
 
 pub all-linked-spec : {M : Type 1} → statement M

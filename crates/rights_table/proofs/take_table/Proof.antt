@@ -5,9 +5,9 @@ use native.Mathlib.Omega.{arith}
 use borrow.Author.Needs.{needs}
 use borrow.Author.Tests.{not-true, not-false}
 use Rattle.model.specs.Rights.{tableFits}
-use Rattle.rights.proofs.Given.{all-rows, tested, ragged-fails, long-fails}
-use Rattle.rights.proofs.take_table.Statement.{statement}
-use Rattle.rights.proofs.take_table.Tie as tie
+use Rattle.rights_table.proofs.Given.{all-rows, tested, ragged-fails, long-fails}
+use Rattle.rights_table.proofs.take_table.Statement.{statement}
+use Rattle.rights_table.proofs.take_table.Tie as tie
 
 returns : tie.Need-returns
 returns c =

@@ -1,15 +1,12 @@
 -- The walk along a list that ends at the first entry that decides: what the entries that were passed leave to be decided. A turn looks at one
 -- entry, and either it decides or the walk goes on behind it.
 use mathlib.Core.Path.{_≡_, refl, ap, _∙_}
-use mathlib.Core.Logic.{_≢_}
 use mathlib.Core.Bool.{Bool, true, false}
-use mathlib.Core.List.{List, [], _∷_, map}
+use mathlib.Core.List.{List, [], _∷_}
 use Prim.Native.Nat.{ℕ, _+_, _≤_, _<_}
 use native.Mathlib.Numerals.{add-one}
 use lib.ListN.{length, getD, drop, drop-of-length-le}
 use lib.Seq.{drop-cons}
-use borrow.Author.Tests.{eq-eqb, ne-eqb}
-use Rattle.model.specs.Totals.{groupOf, registerOf, ofGroup}
 use Rattle.model.specs.Rights.{anyOf, eachOf}
 
 module _ (F : List ℕ → Bool) (l : List ℕ) where
@@ -49,25 +46,3 @@ module _ (f : ℕ → Bool) where
     pub each-behind : f x ≡ true → eachOf f (x ∷ l) ≡ eachOf f l
     unfolding eachOf
     each-behind e = rw e
-
--- each register of the rows of group g
-abbrev pub eachIn : (ℕ → Bool) → ℕ → List ℕ → Bool
-eachIn f g rows = eachOf f (map registerOf (ofGroup g rows))
-
-module _ (f : ℕ → Bool) (g : ℕ) where
-  pub none-in : eachIn f g [] ≡ true
-  unfolding eachOf ofGroup
-  none-in = refl
-
-  module _ (x : ℕ) (rows : List ℕ) where
-    pub own-fails : groupOf x ≡ g → f (registerOf x) ≡ false → eachIn f g (x ∷ rows) ≡ false
-    unfolding ofGroup
-    own-fails o e = rw (eq-eqb (groupOf x) g o) (each-fails f (registerOf x) (map registerOf (ofGroup g rows)) e)
-
-    pub own-behind : groupOf x ≡ g → f (registerOf x) ≡ true → eachIn f g (x ∷ rows) ≡ eachIn f g rows
-    unfolding ofGroup
-    own-behind o e = rw (eq-eqb (groupOf x) g o) (each-behind f (registerOf x) (map registerOf (ofGroup g rows)) e)
-
-    pub other-behind : groupOf x ≢ g → eachIn f g (x ∷ rows) ≡ eachIn f g rows
-    unfolding ofGroup
-    other-behind o = rw (ne-eqb (groupOf x) g o)

@@ -1,17 +1,17 @@
 -- `fill_table` meets its contract. The invariant: the first i rows of the table have replaced the first i entries.
 use mathlib.Core.Path.{_≡_, sym, ap, _∙_}
 use mathlib.Core.List.{List}
-use Prim.Native.Nat.{ℕ, _-_, _≤_}
+use Prim.Native.Nat.{ℕ, _-_, _≤_, min}
 use native.Mathlib.Omega.{arith}
 use lib.ListN.{length, take}
 use borrow.Author.Needs.{needs}
 use Rattle.lists.specs.Over.{over}
 use Rattle.lists.proofs.Over.{over-nil}
 use Rattle.model.specs.Rights.{tableOf}
-use Rattle.total_rows.proofs.Kept.{take-room}
-use Rattle.rights.proofs.Given.{length-table, filled-more}
-use Rattle.rights.proofs.fill_table.Statement.{statement}
-use Rattle.rights.proofs.fill_table.Tie as tie
+use Rattle.bounds.proofs.Room.{take-room}
+use Rattle.rights_table.proofs.Given.{length-table, filled-more}
+use Rattle.rights_table.proofs.fill_table.Statement.{statement}
+use Rattle.rights_table.proofs.fill_table.Tie as tie
 
 abbrev Inv-loop : tie.InvT-loop
 Inv-loop table to₀ room i₀ to i = (i ≤ room) × (to ≡ over (take i (tableOf table)) to₀) × (length to ≡ length to₀)
@@ -19,8 +19,8 @@ Inv-loop table to₀ room i₀ to i = (i ≤ room) × (to ≡ over (take i (tabl
 abbrev μ-loop : tie.MeasureT-loop
 μ-loop table to₀ room i₀ to i = room - i
 
-counted-requires : tie.Need-counted-requires Inv-loop μ-loop
-counted-requires c κs = search needs
+at-most-requires : tie.Need-at-most-requires Inv-loop μ-loop
+at-most-requires c κs = search needs
 
 loop-holds : tie.Need-loop-holds Inv-loop μ-loop
 loop-holds c = (omega arith, sym (over-nil _), search needs)
@@ -51,13 +51,13 @@ loop-again c =
 returns : tie.Need-returns Inv-loop μ-loop
 returns c =
     let l = c .before in
-    let a = l .before .before .before .before .before .args in
+    let a = l .before .before .before .before .args in
     let d = a .rights .now in
     let rows = tableOf (a .table .now) in
-    let long : length d ≡ 64 = l .before .before .before .to .given .0 .1 in
-    let e : l .loop .i ≡ length (take (length rows) d) = rw (length-table (a .table .now)) (omega arith) in
+    let long : length d ≡ 64 = l .before .before .to .given .0 .1 in
+    let e : l .loop .i ≡ min (length rows) (length d) = rw (length-table (a .table .now)) (omega arith) in
     l .loop .inv .1
-    ∙ ap (λ (q : List ℕ). over q d) (ap (λ (k : ℕ). take k rows) e ∙ take-room rows d ∙ ap (λ (k : ℕ). take k rows) long)
+    ∙ ap (λ (q : List ℕ). over q d) (take-room rows d _ e ∙ ap (λ (k : ℕ). take k rows) long)
 
 pub fill-table-spec : {M : Type 1} → statement M
 fill-table-spec =
@@ -65,7 +65,7 @@ fill-table-spec =
     (tie.spec
     Inv-loop
     μ-loop
-    counted-requires
+    at-most-requires
     loop-holds
     mul-eight
     eight-requires
