@@ -57,7 +57,7 @@ fn log_input<'a>(list: &'a [u8], table: &'a [u8]) {
         }
         let n = got.n;
         let ended = n == kept;
-        let end = logs::to_log(n, ended);
+        let end = input_parts::to_log(n, ended);
         if ended & (end == 0) {
             return;
         }
@@ -87,7 +87,7 @@ fn log_input<'a>(list: &'a [u8], table: &'a [u8]) {
             return;
         }
         first = std::num::wrapping_add_u64(first, done.count as u64);
-        kept = logs::keep_rest(block, end, n);
+        kept = input_parts::keep_rest(block, end, n);
     }
 }
 

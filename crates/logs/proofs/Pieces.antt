@@ -22,7 +22,7 @@ use Rattle.simulation.specs.Left.{ready}
 use Rattle.simulation.specs.Holds.{Holds}
 use Rattle.simulation.specs.Demands.{Demands}
 use Rattle.simulation.proofs.Demands.{demands}
-use Rattle.logs.specs.Part.{wholeRecords}
+use Rattle.input_parts.specs.Whole.{wholeRecords}
 use Rattle.logs.specs.File.{CutBetweenRecords, StartsBlank, StartsWith, lastPart, partsOf, AnyReads}
 use Rattle.logs.proofs.Whole.{whole-file}
 

@@ -18,7 +18,7 @@ use Rattle.simulation.specs.Memory.{Memory, memory, lentIn}
 use Rattle.simulation.specs.Left.{Sized, ready}
 use Rattle.simulation.specs.Tables.{Gives}
 use Rattle.logs.specs.OnePart.{Call}
-use Rattle.logs.specs.Part.{wholeRecords}
+use Rattle.input_parts.specs.Whole.{wholeRecords}
 
 -- a part of a file: its bytes, the text that was printed for it, how many records it had, and the memory after it
 pub record Part : Type 0 where

@@ -8,10 +8,6 @@ use Rattle.simulation.specs.Memory.{Memory}
 use Rattle.simulation.specs.Buffer.{Applies}
 use Rattle.lines.specs.Written.{longest, linesFrom}
 
--- how many of n bytes are whole records
-abbrev pub wholeRecords : ℕ → ℕ
-wholeRecords n = 16 * (n / 16)
-
 -- the bytes of the records for whose lines there is room in the text, sixteen bytes a record (H3.1) and 70 a line
 abbrev pub inRoom : List ℕ → List ℕ → List ℕ
 inRoom bytes text = take (16 * (length text / longest)) bytes

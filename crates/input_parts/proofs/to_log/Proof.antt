@@ -1,8 +1,8 @@
 -- `to_log` meets its contract: by the test for the end of the input.
 use native.Mathlib.Omega.{arith}
 use borrow.Author.Needs.{needs}
-use Rattle.logs.proofs.to_log.Statement.{statement}
-use Rattle.logs.proofs.to_log.Tie as tie
+use Rattle.input_parts.proofs.to_log.Statement.{statement}
+use Rattle.input_parts.proofs.to_log.Tie as tie
 
 returns : tie.Need-returns
 returns c = search needs

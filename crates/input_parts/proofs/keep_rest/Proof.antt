@@ -5,8 +5,8 @@ use lib.ListN.{length, length-set, take, drop}
 use Rattle.lists.specs.Over.{over, shifted}
 use Rattle.lists.proofs.Over.{over-nil, shift-push}
 use native.Mathlib.Omega.{arith}
-use Rattle.logs.proofs.keep_rest.Statement.{statement}
-use Rattle.logs.proofs.keep_rest.Tie as tie
+use Rattle.input_parts.proofs.keep_rest.Statement.{statement}
+use Rattle.input_parts.proofs.keep_rest.Tie as tie
 
 abbrev Inv-loop : tie.InvT-loop
 Inv-loop buf₀ from n rest i₀ buf i = (i ≤ rest) × (length buf ≡ length buf₀) × (buf ≡ over (take i (drop from buf₀)) buf₀)
