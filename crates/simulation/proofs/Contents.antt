@@ -6,7 +6,7 @@ use Rattle.model.specs.Steps.{answerFor}
 use Rattle.values.specs.declared.Content.{Content}
 use Rattle.values.specs.declared.Content.the-variants.{NoReading, Of}
 use Rattle.values.specs.Meaning.{contentOf, contentRep, answerOf}
-use Rattle.step.specs.Step.{answerTo}
+use Rattle.showing.specs.Shown.{answerTo}
 
 pub content-back : (c : Content) → contentRep (contentOf c) ≡ c
 content-back NoReading = refl

@@ -54,7 +54,8 @@ use Rattle.step.specs.declared.Next.the-variants.{Taken, Mark}
 use Rattle.announcing.specs.Announcing.{outcomeOf}
 use Rattle.step.specs.Step.{Stepped, newestAt, stillAt, needOf, readOrSplit, freeOrDone, stepOf}
 use Rattle.announcing.specs.Announcing.{openAnnounceStep, openPassStep, closeWithdrawStep}
-use Rattle.step.specs.Step.{answerTo, signedOf, totalFoundOf, foundOf, putPublishStep, putStampStep, readEnterStep, readStandStep, getShowStep}
+use Rattle.step.specs.Step.{totalFoundOf, foundOf, putPublishStep, putStampStep, readEnterStep, readStandStep, getShowStep}
+use Rattle.showing.specs.Shown.{answerTo, signedOf}
 use Rattle.flush.specs.Flush.{handedPool, putHandInStep}
 use Rattle.simulation.specs.Memory.{Memory, withHub, Result, answered}
 use Rattle.simulation.specs.Shell.{rowsKept, marksRead, readAfter, takenIn, handedIn, tookIn, readIn, allReadIn, markedIn}

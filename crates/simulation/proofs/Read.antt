@@ -37,7 +37,8 @@ use Rattle.marks.specs.Marks.{refusalIn, timeIn}
 use Rattle.total_sums.specs.Sums.{addedTo}
 use Rattle.announcing.specs.declared.Outcome.{Outcome}
 use Rattle.announcing.specs.Announcing.{outcomeOf}
-use Rattle.step.specs.Step.{Stepped, newestAt, stillAt, needOf, readEnterStep, answerTo, signedOf, totalFoundOf, foundOf, readStandStep, getShowStep}
+use Rattle.step.specs.Step.{Stepped, newestAt, stillAt, needOf, readEnterStep, totalFoundOf, foundOf, readStandStep, getShowStep}
+use Rattle.showing.specs.Shown.{answerTo, signedOf}
 use Rattle.step.specs.Step.{stepOf}
 use Rattle.simulation.specs.Memory.{Memory, readOf, handWords, write}
 use Rattle.simulation.specs.Left.{Sized}

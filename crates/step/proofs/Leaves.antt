@@ -21,7 +21,8 @@ use Rattle.marks.specs.Marks.{refusalIn, timeIn}
 use Rattle.announcing.specs.declared.Outcome.{Outcome}
 use Rattle.step.specs.declared.Next.the-variants.{Taken}
 use Rattle.announcing.specs.Announcing.{outcomeOf}
-use Rattle.step.specs.Step.{Stepped, newestAt, nextFree, putPublishStep, putStampStep, stopped, needOf, readEnterStep, answerTo, foundOf}
+use Rattle.showing.specs.Shown.{answerTo}
+use Rattle.step.specs.Step.{Stepped, newestAt, nextFree, putPublishStep, putStampStep, stopped, needOf, readEnterStep, foundOf}
 use Rattle.step.specs.Step.{readStandStep, getShowStep}
 
 abbrev leaves : Outcome → List Slot → List ℕ → Stepped

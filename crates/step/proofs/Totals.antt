@@ -20,7 +20,8 @@ use Rattle.total_rows.specs.Rows.{goalIn}
 use Rattle.total_sums.specs.Sums.{sumWith}
 use Rattle.announcing.specs.declared.Outcome.{Outcome}
 use Rattle.announcing.specs.Announcing.{outcomeOf}
-use Rattle.step.specs.Step.{signedOf, totalFoundOf}
+use Rattle.showing.specs.Shown.{signedOf}
+use Rattle.step.specs.Step.{totalFoundOf}
 
 -- refusal 18
 pub total-refused : (g i : ℕ) (sum : Sum) (x : Content) (rows : List ℕ) {t : Announced} {k n : ℕ} {o : Outcome}

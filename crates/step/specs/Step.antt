@@ -12,9 +12,7 @@ use Rattle.model.specs.Rules.{twelveDigits}
 use Rattle.model.specs.Totals.{rowAt, goesOn}
 use Rattle.values.specs.declared.Reading.{Reading}
 use Rattle.values.specs.declared.Content.{Content}
-use Rattle.values.specs.declared.Content.the-variants.{NoReading, Of}
-use Rattle.values.specs.declared.Answer.{Answer}
-use Rattle.values.specs.declared.Answer.the-variants.{Going, Value, None, Below, Done, No}
+use Rattle.values.specs.declared.Answer.the-variants.{Going, Done, No}
 use Rattle.values.specs.Meaning.{contentOf}
 use Rattle.slots.specs.declared.Slot.{Slot}
 use Rattle.arrays.specs.Arrays.{short}
@@ -35,6 +33,7 @@ use Rattle.marks.specs.declared.MarkNeed.the-variants.{Nothing, Empty, Held, Un
 use Rattle.marks.specs.Marks.{refusalIn, timeIn}
 use Rattle.total_rows.specs.Rows.{goalIn}
 use Rattle.total_sums.specs.Sums.{sumWith}
+use Rattle.showing.specs.Shown.{answerTo, signedOf}
 use Rattle.announcing.specs.declared.Outcome.{Outcome}
 use Rattle.announcing.specs.Announcing.{outcomeOf, openAnnounceStep, openPassStep, closeWithdrawStep}
 use Rattle.step.specs.declared.Next.{Next}
@@ -110,12 +109,6 @@ readEnterStep g t k n l newest marks reading =
     })
     (stillAt (stopped j t k n) l newest)
 
--- H12.8, H16.6: what a total answers with the sums of all its rows: what was added less what was subtracted, and the largest status
-abbrev pub signedOf : Sum → Answer
-signedOf y =
-    cond (leb (y .minus) (y .plus)) (Value (record { count = y .plus - y .minus; status = y .status }))
-    (Below (record { count = y .minus - y .plus; status = y .status }))
-
 -- H12.6: a total found x for row i. H12.9: refusal 18 where it has more than twelve digits. H12.7: the next row of the group is read as this one was;
 -- behind the last one the sum is the answer.
 unfoldable pub totalFoundOf : ℕ → ℕ → Sum → Content → Announced → ℕ → ℕ → List ℕ → Outcome
@@ -124,11 +117,6 @@ totalFoundOf g i sum x t k n rows =
     let next = outcomeOf (ReadEnter (goalIn rows g (i + 1) more)) t k n Going in
     let last = outcomeOf Idle t k n (signedOf more) in
     cond (leb (countOf (contentOf x)) twelveDigits) (cond (goesOn rows g i) next last) (outcomeOf Idle t k n (No 18))
-
--- H10.3: what a get or a read answers that found this
-abbrev pub answerTo : Content → Answer
-answerTo NoReading = None
-answerTo (Of x) = Value x
 
 -- what follows where the version that the time needs holds x
 abbrev pub foundOf : Purpose → Content → Announced → ℕ → ℕ → List ℕ → Outcome

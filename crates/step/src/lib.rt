@@ -3,8 +3,8 @@
 ghost use mathlib.Core.Path.{_≡_};
 ghost use lib.ListN.{take};
 ghost use Rattle.versions.specs.Versions.{rowOf};
-ghost use Rattle.step.specs.Step.{newestAt, nextFree, putPublishStep, putStampStep, needOf, readEnterStep, signedOf, totalFoundOf};
-ghost use Rattle.step.specs.Step.{answerTo, foundOf, readStandStep, getShowStep, markOrStop, timeStepOf, readOrSplit, freeOrDone, stepOf};
+ghost use Rattle.step.specs.Step.{newestAt, nextFree, putPublishStep, putStampStep, needOf, readEnterStep, totalFoundOf};
+ghost use Rattle.step.specs.Step.{foundOf, readStandStep, getShowStep, markOrStop, timeStepOf, readOrSplit, freeOrDone, stepOf};
 use announcing::Outcome;
 use marks::MarkNeed;
 use values::Answer;
@@ -160,19 +160,6 @@ fn read_enter<'a>(
     Next::Taken(announcing::outcome_of(place, t, clock, n, Answer::Going))
 }
 
-// What a total answers with the sums of all its rows.
-fn signed(sum: Sum) -> Answer
-    ensures { λ r. ⌜ r ≡ signedOf sum ⌝ }
-{
-    let status = sum.status;
-    if sum.minus <= sum.plus {
-        let count = sum.plus - sum.minus;
-        return Answer::Value(Reading { count, status });
-    }
-    let count = sum.minus - sum.plus;
-    Answer::Below(Reading { count, status })
-}
-
 // A total that found x for row i.
 fn total_found(
     group: u16,
@@ -194,20 +181,10 @@ fn total_found(
             let place = Doing::ReadEnter { goal };
             return announcing::outcome_of(place, t, clock, n, Answer::Going);
         }
-        let answer = signed(more);
+        let answer = showing::signed(more);
         return announcing::outcome_of(Doing::Idle, t, clock, n, answer);
     }
     announcing::outcome_of(Doing::Idle, t, clock, n, Answer::No(18))
-}
-
-// What a get or a read answers that found x.
-fn answer_for(x: Content) -> Answer
-    ensures { λ r. ⌜ r ≡ answerTo x ⌝ }
-{
-    match x {
-        Content::NoReading => Answer::None,
-        Content::Of(reading) => Answer::Value(reading),
-    }
 }
 
 // What follows where the version that the time needs holds x.
@@ -223,8 +200,14 @@ fn found(
     ensures { λ r. ⌜ r ≡ foundOf purpose x t clock n (take listed (now (rows .entry))) ⌝ }
 {
     match purpose {
-        Purpose::Single => announcing::outcome_of(Doing::Idle, t, clock, n, answer_for(x)),
-        Purpose::Marked(_) => announcing::outcome_of(Doing::Idle, t, clock, n, answer_for(x)),
+        Purpose::Single => announcing::outcome_of(Doing::Idle, t, clock, n, showing::answer_for(x)),
+        Purpose::Marked(_) => announcing::outcome_of(
+            Doing::Idle,
+            t,
+            clock,
+            n,
+            showing::answer_for(x),
+        ),
         Purpose::Totaling {
             group,
             row,
@@ -287,7 +270,7 @@ fn get_show(
     let v = versions::load(row, i);
     linking::stamp(row, i, clock);
     let x = v.value;
-    Next::Taken(announcing::outcome_of(Doing::Idle, t, clock, n, answer_for(x)))
+    Next::Taken(announcing::outcome_of(Doing::Idle, t, clock, n, showing::answer_for(x)))
 }
 
 // A mark gets a time, or none, unless it meets the refusal k.

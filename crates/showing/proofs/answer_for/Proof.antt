@@ -1,7 +1,7 @@
 -- `answer_for` meets its contract: by cases.
 use borrow.Author.Needs.{needs}
-use Rattle.step.proofs.answer_for.Statement.{statement}
-use Rattle.step.proofs.answer_for.Tie as tie
+use Rattle.showing.proofs.answer_for.Statement.{statement}
+use Rattle.showing.proofs.answer_for.Tie as tie
 
 enum-told : tie.Need-enum-told
 enum-told c = search needs

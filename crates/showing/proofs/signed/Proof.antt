@@ -1,8 +1,8 @@
 -- `signed` meets its contract: the test of which sum is larger decides.
 use borrow.Author.Tests.{le-leb, lt-leb}
 use borrow.Author.Needs.{needs}
-use Rattle.step.proofs.signed.Statement.{statement}
-use Rattle.step.proofs.signed.Tie as tie
+use Rattle.showing.proofs.signed.Statement.{statement}
+use Rattle.showing.proofs.signed.Tie as tie
 
 returns : tie.Need-returns
 returns c = rw (le-leb _ _ (c .before .if1 .taken))
