@@ -24,7 +24,7 @@ use Rattle.worker.specs.declared.Doing.{Doing}
 use Rattle.worker.specs.declared.Doing.the-variants.{Idle, FlushRead, FlushFree}
 use Rattle.worker.specs.declared.Pool.{Pool}
 use Rattle.worker.specs.declared.Worker.{Worker}
-use Rattle.worker.specs.Pool.{placed}
+use Rattle.pools.specs.Placed.{placed}
 use Rattle.worker.specs.Rep.{poolRep}
 use Rattle.worker.proofs.Rep.{padded-nil}
 use Rattle.marks.specs.Marks.{readNext}

@@ -6,9 +6,9 @@ use native.Mathlib.Numerals.{add-one}
 use lib.ListN.{length, getD, set}
 use lib.Seq.{set-getD}
 use Rattle.worker.specs.declared.Doing.{Doing}
-use Rattle.worker.specs.declared.Stance.{Stance}
-use Rattle.worker.specs.declared.Stance.the-variants.{Nowhere, StandsOn}
-use Rattle.worker.specs.About.{aboutOf}
+use Rattle.places.specs.declared.Stance.{Stance}
+use Rattle.places.specs.declared.Stance.the-variants.{Nowhere, StandsOn}
+use Rattle.places.specs.About.{aboutOf}
 use Rattle.worker.specs.declared.Worker.{Worker}
 use Rattle.state.specs.declared.Hub.{Hub}
 use Rattle.state.specs.State.{nobody, atPlace, withWorkersIn}

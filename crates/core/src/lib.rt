@@ -273,9 +273,9 @@ pub fn run(
                         let mut pool = y.pool;
                         let at = pool.len;
                         let h = flush::put_hand_in(row, at, covered, hub.p);
-                        worker::put_slot(&mut pool.slots, at, covered);
-                        worker::put_time(&mut pool.lows, at, h.low);
-                        worker::put_time(&mut pool.highs, at, h.high);
+                        pools::put_slot(&mut pool.slots, at, covered);
+                        pools::put_time(&mut pool.lows, at, h.low);
+                        pools::put_time(&mut pool.highs, at, h.high);
                         pool.len = h.len;
                         let doing = h.doing;
                         hub.workers[w] = Worker { doing, pool, ..y };

@@ -13,7 +13,8 @@ use Rattle.worker.specs.declared.Announced.{Announced}
 use Rattle.worker.specs.declared.Doing.{Doing}
 use Rattle.worker.specs.declared.Doing.the-variants.{Idle, FlushTake}
 use Rattle.worker.specs.declared.Pool.{Pool}
-use Rattle.worker.specs.Pool.{oneMore, appended}
+use Rattle.worker.specs.Pool.{appended}
+use Rattle.pools.specs.Placed.{oneMore}
 use Rattle.worker.specs.Rep.{timeOf}
 use Rattle.flush.specs.declared.Handed.{Handed}
 

@@ -30,7 +30,7 @@ pub fn put_hand_in(row: &[[u64; 6]], n: usize, covered: u16, p: usize) -> Handed
     let v = versions::load(row, covered as usize);
     let low = (v.low % 4294967296) as u32;
     let high = (v.high % 4294967296) as u32;
-    let len = worker::one_more(n);
+    let len = pools::one_more(n);
     let size = batch::batch((p % 256) as u8);
     if len == size as usize {
         return Handed {

@@ -9,9 +9,9 @@ use Rattle.arrays.specs.Arrays.{short}
 use Rattle.versions.specs.Versions.{slotAtIn, unlinkedIn}
 use Rattle.worker.specs.declared.Doing.{Doing}
 use Rattle.worker.specs.declared.Doing.the-variants.{ReadStand}
-use Rattle.worker.specs.declared.Stance.{Stance}
-use Rattle.worker.specs.declared.Stance.the-variants.{Nowhere, StandsOn}
-use Rattle.worker.specs.About.{aboutOf}
+use Rattle.places.specs.declared.Stance.{Stance}
+use Rattle.places.specs.declared.Stance.the-variants.{Nowhere, StandsOn}
+use Rattle.places.specs.About.{aboutOf}
 use Rattle.freeing.specs.declared.Freed.{Freed}
 
 -- the range that is freed next stands last in worker w's part, of m

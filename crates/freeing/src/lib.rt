@@ -3,8 +3,8 @@ ghost use mathlib.Core.Path.{_≡_};
 ghost use Prim.Native.Nat.{_<_};
 ghost use Rattle.versions.specs.Versions.{rowOf};
 ghost use Rattle.freeing.specs.Freeing.{nextToFree, oneMore, freedStep, freedRow, freedFree, offDoing, standsOn};
+use places::Stance;
 use worker::Doing;
-use worker::Stance;
 
 // The slot that is freed, its older neighbour, and how many slots are free then.
 pub struct Freed {
@@ -69,7 +69,7 @@ pub fn flush_free(
 pub fn stands_on(d: Doing, c: u16) -> bool
     ensures { λ r. ⌜ r ≡ standsOn d c ⌝ }
 {
-    let y = worker::about(d);
+    let y = places::about(d);
     let on = y.stance;
     match on {
         Stance::Nowhere => false,
@@ -81,7 +81,7 @@ pub fn stands_on(d: Doing, c: u16) -> bool
 pub fn off(d: Doing, c: u16, o: u16) -> Doing
     ensures { λ r. ⌜ r ≡ offDoing c o d ⌝ }
 {
-    let y = worker::about(d);
+    let y = places::about(d);
     let on = y.stance;
     match on {
         Stance::Nowhere => d,

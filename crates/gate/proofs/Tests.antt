@@ -13,7 +13,7 @@ use Rattle.model.specs.Rights.{allowed}
 use Rattle.model.proofs.Basic.{cond-both}
 use Rattle.worker.specs.declared.Announced.{Announced}
 use Rattle.worker.specs.declared.Doing.{Doing}
-use Rattle.worker.specs.About.{aboutOf}
+use Rattle.places.specs.About.{aboutOf}
 use Rattle.record.specs.declared.Operation.{Operation}
 use Rattle.rights.specs.Needs.{neededIn}
 use Rattle.marks.proofs.Refused.{refusal-by}

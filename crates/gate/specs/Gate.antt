@@ -18,9 +18,9 @@ use Rattle.worker.specs.declared.Doing.{Doing}
 use Rattle.worker.specs.declared.Doing.the-variants.{PutPublish, FlushTake, OnTime, ReadEnter, GetShow}
 use Rattle.worker.specs.declared.TimeStep.the-variants.{OpenAnnounce, CloseWithdraw, MarkKeep, MarkRelease}
 use Rattle.worker.specs.declared.Purpose.the-variants.{Single, Marked}
-use Rattle.worker.specs.declared.Named.{Named}
-use Rattle.worker.specs.declared.Named.the-variants.{Nothing, Is}
-use Rattle.worker.specs.About.{aboutOf}
+use Rattle.places.specs.declared.Named.{Named}
+use Rattle.places.specs.declared.Named.the-variants.{Nothing, Is}
+use Rattle.places.specs.About.{aboutOf}
 use Rattle.record.specs.declared.Operation.{Operation}
 use Rattle.record.specs.declared.Operation.the-variants.{Put, Open, Read, Close, Get, Collect, Total, Mark, Release, MarkedRead}
 use Rattle.record.specs.declared.Command.{Command}

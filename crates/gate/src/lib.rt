@@ -5,6 +5,7 @@ ghost use lib.ListN.{take};
 ghost use Rattle.gate.specs.Gate.{bare, onRegister, onMark, termsOf, markOf, namedOk, groupOk, valueOk, statusOk, hasTime, openOk, timeOk};
 ghost use Rattle.gate.specs.Gate.{beginGate, sizesOk, setupOk, gateOf};
 use marks::MarkNeed;
+use places::Named;
 use record::Command;
 use record::Decoded;
 use record::Operation;
@@ -14,7 +15,6 @@ use values::Reading;
 use worker::Announced;
 use worker::Doing;
 use worker::Goal;
-use worker::Named;
 use worker::Purpose;
 use worker::TimeStep;
 
@@ -322,7 +322,7 @@ fn begin<'a>(
     let fits = value_ok(value);
     let status_known = status_ok(value);
     let may = rights::is_allowed(right, rights, granted, rows, n, v, worker);
-    let place = worker::about(d);
+    let place = places::about(d);
     let unannounced = open_ok(need, t);
     let announced = time_ok(need, t);
     let k = marks::refusal(mark, marks, reading, p);

@@ -10,10 +10,10 @@ use Rattle.worker.specs.declared.Announced.{Announced}
 use Rattle.worker.specs.declared.Doing.{Doing}
 use Rattle.worker.specs.declared.Purpose.{Purpose}
 use Rattle.worker.specs.declared.Purpose.the-variants.{Single, Marked, Totaling}
-use Rattle.worker.specs.declared.Stance.{Stance}
-use Rattle.worker.specs.declared.Stance.the-variants.{Nowhere, StandsOn}
+use Rattle.places.specs.declared.Stance.{Stance}
+use Rattle.places.specs.declared.Stance.the-variants.{Nowhere, StandsOn}
 use Rattle.worker.specs.Rep.{timeOf}
-use Rattle.worker.specs.About.{aboutOf}
+use Rattle.places.specs.About.{aboutOf}
 use Rattle.marks.specs.declared.MarkNeed.{MarkNeed}
 use Rattle.marks.specs.declared.MarkNeed.the-variants.{Nothing, Empty, Held, Unread}
 

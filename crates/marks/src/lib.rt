@@ -4,10 +4,10 @@ ghost use Prim.Native.Nat.{_+_, _*_, _≤_, _<_};
 ghost use lib.ListN.{length, take};
 ghost use Rattle.lists.specs.Over.{overAt};
 ghost use Rattle.marks.specs.Marks.{shownAs, readAs, readBy, readNext, readIn, markIn, heldIn, refusalIn, timeIn};
+use places::Stance;
 use worker::Announced;
 use worker::Doing;
 use worker::Purpose;
-use worker::Stance;
 
 // What is asked of a mark: nothing; that it is empty, else 19; that it holds a time, else 20; that it holds a time, else 20, and that no
 // read of it runs, else 21.
@@ -48,7 +48,7 @@ fn read_as(x: Purpose) -> u8
 fn read_by(d: Doing) -> u8
     ensures { λ r. ⌜ r ≡ readBy d ⌝ }
 {
-    let y = worker::about(d);
+    let y = places::about(d);
     let stance = y.stance;
     match stance {
         Stance::Nowhere => 0,

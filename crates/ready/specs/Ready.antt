@@ -10,12 +10,12 @@ use Rattle.model.specs.Batch.{batchOf}
 use Rattle.model.specs.Rules.{twelveDigits}
 use Rattle.model.specs.Totals.{registerOf, rowAt}
 use Rattle.values.specs.declared.Window.{Window}
-use Rattle.worker.specs.declared.Named.{Named}
-use Rattle.worker.specs.declared.Named.the-variants.{Nothing, Is}
+use Rattle.places.specs.declared.Named.{Named}
+use Rattle.places.specs.declared.Named.the-variants.{Nothing, Is}
 use Rattle.worker.specs.declared.Purpose.{Purpose}
 use Rattle.worker.specs.declared.Purpose.the-variants.{Single, Marked, Totaling}
-use Rattle.worker.specs.declared.Facts.{Facts}
-use Rattle.worker.specs.About.{aboutOf}
+use Rattle.places.specs.declared.Facts.{Facts}
+use Rattle.places.specs.About.{aboutOf}
 use Rattle.worker.specs.declared.Pool.{Pool}
 use Rattle.worker.specs.declared.Worker.{Worker}
 use Rattle.state.specs.declared.Hub.{Hub}

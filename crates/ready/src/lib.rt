@@ -5,10 +5,10 @@ ghost use lib.ListN.{length};
 ghost use Rattle.model.specs.Batch.{batchOf};
 ghost use Rattle.ready.specs.Ready.{belowTo, slotsBelow, poolFits, listFits, handFits, namedBelow, rowsBelow, purposeFits, readFits};
 ghost use Rattle.ready.specs.Ready.{placeFits, workerFits, workersFit, lensFit, lensSum, windowFits, sizesFit, readyOf, scansFit};
+use places::Facts;
+use places::Named;
 use state::Hub;
 use values::Window;
-use worker::Facts;
-use worker::Named;
 use worker::Pool;
 use worker::Purpose;
 use worker::Worker;
@@ -189,7 +189,7 @@ fn worker_fits(
     ensures { λ r. ⌜ r ≡ workerFits x w (now (merged .entry)) local list p v n k ⌝ }
 {
     let d = x.doing;
-    let y = worker::about(d);
+    let y = places::about(d);
     let ranges = y.ranges;
     let q = x.pool;
     (place_fits(y, p, v, n, k) & pool_fits(q, local, n))

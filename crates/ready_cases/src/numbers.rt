@@ -1,11 +1,11 @@
 // The numbers in memory that have a range: their kinds, how many there are of each, one past the range, and memory with one replaced.
 use crate::records::Memory;
+use places::Named;
 use slots::Slot;
 use state::Hub;
 use values::Window;
 use worker::Doing;
 use worker::Goal;
-use worker::Named;
 use worker::Purpose;
 use worker::TimeStep;
 use worker::Worker;
@@ -184,7 +184,7 @@ fn one_if_totaling(x: Purpose) -> usize {
 // How many numbers of this kind a worker's record has.
 pub fn in_worker(kind: u8, x: Worker) -> usize {
     let d = x.doing;
-    let y = worker::about(d);
+    let y = places::about(d);
     let register = y.register;
     let slot = y.slot;
     let ranges = y.ranges;

@@ -34,7 +34,7 @@ use Rattle.worker.specs.declared.Doing.{Doing}
 use Rattle.worker.specs.declared.Doing.the-variants.{Idle, PutPublish, PutStamp, PutHandIn, FlushTake, FlushRead, FlushFree}
 use Rattle.worker.specs.declared.Doing.the-variants.{OnTime, ReadEnter, ReadStand, GetShow}
 use Rattle.worker.specs.declared.TimeStep.the-variants.{OpenAnnounce, OpenPass, CloseWithdraw, MarkKeep, MarkRelease}
-use Rattle.worker.specs.About.{aboutOf}
+use Rattle.places.specs.About.{aboutOf}
 use Rattle.worker.specs.declared.Pool.{Pool}
 use Rattle.worker.specs.declared.Worker.{Worker}
 use Rattle.marks.specs.declared.MarkNeed.{MarkNeed}

@@ -20,12 +20,12 @@ use Rattle.model.specs.Apply as Begin
 use Rattle.model.proofs.Totals.{first-within}
 use Rattle.model.specs.Apply.{Terms, terms, namedBelow, groupThere, valueWithin, statusKnown, mayOpen, mayUseTime}
 use Rattle.worker.specs.declared.Announced.the-variants as Announced
-use Rattle.worker.specs.declared.Named.{Named}
-use Rattle.worker.specs.declared.Named.the-variants.{Nothing, Is}
-use Rattle.worker.specs.declared.Stance.{Stance}
-use Rattle.worker.specs.declared.Stance.the-variants.{Nowhere, StandsOn}
+use Rattle.places.specs.declared.Named.{Named}
+use Rattle.places.specs.declared.Named.the-variants.{Nothing, Is}
+use Rattle.places.specs.declared.Stance.{Stance}
+use Rattle.places.specs.declared.Stance.the-variants.{Nowhere, StandsOn}
 use Rattle.worker.specs.Rep.{announcedRep, readingRep, goalRep, doingRep}
-use Rattle.worker.specs.About.{aboutOf}
+use Rattle.places.specs.About.{aboutOf}
 use Rattle.rights.specs.declared.Needed.{Needed}
 use Rattle.rights.specs.Needs.{neededIn}
 use Rattle.gate.specs.declared.TimeNeed.{TimeNeed}

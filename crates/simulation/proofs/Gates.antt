@@ -29,7 +29,7 @@ use Rattle.record.specs.declared.Decoded.{Decoded}
 use Rattle.state.specs.declared.Hub.{Hub}
 use Rattle.state.specs.State.{workerIn, tableKept}
 use Rattle.rights.specs.Needs.{neededIn}
-use Rattle.worker.specs.About.{aboutOf}
+use Rattle.places.specs.About.{aboutOf}
 use Rattle.gate.specs.declared.Terms as Code
 use Rattle.gate.specs.declared.Gate.{Gate}
 use Rattle.gate.specs.declared.Gate.the-variants.{Refuse, Make, Start, Go}

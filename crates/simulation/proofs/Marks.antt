@@ -17,7 +17,7 @@ use Rattle.model.specs.About.{about}
 use Rattle.model.specs.Marks.{MarkNeed, NoMark, EmptyMark, HeldMark, UnreadMark, asOf, reads, isRead, markRefusal, needFor, timeFor}
 use Rattle.model.proofs.Basic.{cond-both, eq-cases}
 use Rattle.theorem.proofs.View.{off-cases}
-use Rattle.worker.specs.declared.Stance.{Stance}
+use Rattle.places.specs.declared.Stance.{Stance}
 use Rattle.worker.specs.Rep.{purposeRep, doingRep, announcedRep, timeOf}
 use Rattle.marks.specs.Marks.{shownAs, readAs, readFrom, readBy, readIn, refusalIn, timeIn}
 use Rattle.step.specs.Step.{needOf}

@@ -13,9 +13,9 @@ use Rattle.model.specs.Rules.{twelveDigits}
 use Rattle.model.specs.Rights.{rightFits}
 use Rattle.worker.specs.declared.Purpose.{Purpose}
 use Rattle.worker.specs.declared.Purpose.the-variants.{Single, Marked, Totaling}
-use Rattle.worker.specs.declared.Facts.{Facts}
+use Rattle.places.specs.declared.Facts.{Facts}
 use Rattle.worker.specs.declared.Worker.{Worker}
-use Rattle.worker.specs.About.{aboutOf}
+use Rattle.places.specs.About.{aboutOf}
 use Rattle.slots.specs.Slots.{linkedTo}
 use Rattle.state.specs.State.{workerIn, tableSound}
 use Rattle.ready.specs.Ready.{

@@ -23,7 +23,7 @@ use Rattle.model.specs.Reached.{sumBy, inHand, versionsHeld, TotalFits}
 use Rattle.model.proofs.Basic.{All-map, All-occurrences, getD-map, All-at, and-both}
 use Rattle.model.proofs.Totals.{row-fits}
 use Rattle.theorem.proofs.Count.{sumBy-one}
-use Rattle.worker.specs.About.{markRead, aboutOf}
+use Rattle.places.specs.About.{markRead, aboutOf}
 use Rattle.worker.specs.Rep.{timesRead, padded, poolRep, purposeRep, doingRep}
 use Rattle.worker.proofs.Rep.{padded-at}
 use Rattle.slots.specs.Slots.{vacantSlot}

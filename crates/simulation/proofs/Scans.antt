@@ -20,8 +20,8 @@ use Rattle.slots.specs.declared.Slot.{Slot}
 use Rattle.slots.specs.Slots as Slots
 use Rattle.slots.specs.Slots.{vacantSlot, linkedTo}
 use Rattle.worker.specs.declared.Pool.{Pool}
-use Rattle.worker.specs.declared.Named.{Named}
-use Rattle.worker.specs.declared.Named.the-variants.{Nothing, Is}
+use Rattle.places.specs.declared.Named.{Named}
+use Rattle.places.specs.declared.Named.the-variants.{Nothing, Is}
 use Rattle.state.specs.declared.Hub.{Hub}
 use Rattle.state.specs.State.{workerIn}
 use Rattle.ranges.specs.Words.{flat}

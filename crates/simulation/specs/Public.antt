@@ -13,7 +13,7 @@ use Rattle.model.specs.Answer.{No, said}
 use Rattle.values.specs.Meaning.{answerOf}
 use Rattle.values.specs.declared.Answer.{Answer}
 use Rattle.worker.specs.declared.Doing.the-variants.{Idle}
-use Rattle.worker.specs.About.{aboutOf}
+use Rattle.places.specs.About.{aboutOf}
 use Rattle.state.specs.State.{workerIn, withWorkerIn, atPlace}
 use Rattle.simulation.specs.Memory.{Memory, withHub}
 use Rattle.simulation.specs.Left.{ready}

@@ -12,10 +12,10 @@ use Rattle.model.specs.Rules.{twelveDigits}
 use Rattle.model.specs.Rights.{workerOf, rightsOf, firstRegister, lastRegister, lastPair}
 use Rattle.worker.specs.declared.Purpose.{Purpose}
 use Rattle.worker.specs.declared.Purpose.the-variants.{Single, Marked, Totaling}
-use Rattle.worker.specs.declared.Facts.{Facts}
-use Rattle.worker.specs.declared.Named.the-variants.{Is}
+use Rattle.places.specs.declared.Facts.{Facts}
+use Rattle.places.specs.declared.Named.the-variants.{Is}
 use Rattle.worker.specs.declared.Worker.{Worker}
-use Rattle.worker.specs.About.{aboutOf}
+use Rattle.places.specs.About.{aboutOf}
 use Rattle.slots.specs.Slots.{vacantSlot}
 use Rattle.state.specs.declared.Hub.{Hub}
 use Rattle.state.specs.State.{workerIn}

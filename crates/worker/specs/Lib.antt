@@ -1,3 +1,2 @@
 pub mod Rep
 pub mod Pool
-pub mod About

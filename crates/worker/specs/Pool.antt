@@ -1,19 +1,10 @@
 -- A local pool, H1.19: a count and at most 64 ranges.
-use mathlib.Core.Bool.{cond}
 use mathlib.Core.List.{List, [], _∷_}
 use Prim.Native.Nat.{ℕ, zero, suc, _+_}
-use lib.Dec.{ltb}
-use lib.ListN.{getD, set}
+use lib.ListN.{getD}
 use Rattle.model.specs.Store.{Range}
+use Rattle.pools.specs.Placed.{placed, oneMore}
 use Rattle.worker.specs.declared.Pool.{Pool}
-
--- entry n of an array of 64 replaced, where there is one
-abbrev pub placed : List ℕ → ℕ → ℕ → List ℕ
-placed l n x = cond (ltb n 64) (set l n x) l
-
--- how many ranges a pool of n has with one more
-abbrev pub oneMore : ℕ → ℕ
-oneMore n = cond (ltb n 64) (n + 1) n
 
 -- H5.12: the pool with one range more; unchanged where it is full
 abbrev pub appended : Pool → ℕ → ℕ → ℕ → Pool

@@ -10,7 +10,7 @@ use borrow.Author.Tests.{eq-eqb, ne-eqb}
 use Rattle.model.specs.Batch.{batchOf}
 use Rattle.slots.specs.declared.Slot.{Slot}
 use Rattle.versions.specs.Versions.{slotAtIn}
-use Rattle.worker.specs.Pool.{oneMore}
+use Rattle.pools.specs.Placed.{oneMore}
 use Rattle.flush.specs.Flush.{handedOf, handedOn}
 use Rattle.flush.proofs.put_hand_in.Statement.{statement}
 use Rattle.flush.proofs.put_hand_in.Tie as tie

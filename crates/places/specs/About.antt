@@ -1,19 +1,19 @@
 -- What is asked of a place besides its step: one definition, a line for each place.
 use mathlib.Core.Bool.{Bool, true, false}
 use Prim.Native.Nat.{ℕ}
 use Rattle.worker.specs.declared.Doing.{Doing}
 use Rattle.worker.specs.declared.Doing.the-variants.{Idle, PutPublish, PutStamp, PutHandIn, FlushTake, FlushRead, FlushFree, OnTime}
 use Rattle.worker.specs.declared.Doing.the-variants.{ReadEnter, ReadStand, GetShow}
-use Rattle.worker.specs.declared.Named.{Named}
-use Rattle.worker.specs.declared.Named.the-variants.{Nothing, Is}
-use Rattle.worker.specs.declared.Stance.{Stance}
-use Rattle.worker.specs.declared.Stance.the-variants.{Nowhere, StandsOn}
+use Rattle.places.specs.declared.Named.{Named}
+use Rattle.places.specs.declared.Named.the-variants.{Nothing, Is}
+use Rattle.places.specs.declared.Stance.{Stance}
+use Rattle.places.specs.declared.Stance.the-variants.{Nowhere, StandsOn}
 use Rattle.worker.specs.declared.TimeStep.{TimeStep}
 use Rattle.worker.specs.declared.TimeStep.the-variants.{OpenAnnounce, OpenPass, CloseWithdraw, MarkKeep, MarkRelease}
 use Rattle.worker.specs.declared.Purpose.{Purpose}
 use Rattle.worker.specs.declared.Purpose.the-variants.{Single, Marked, Totaling}
 use Rattle.worker.specs.declared.Goal.{Goal}
-use Rattle.worker.specs.declared.Facts.{Facts}
+use Rattle.places.specs.declared.Facts.{Facts}
 
 -- a place that names this register, slot, list of so many ranges and count of times, reads nothing and names no mark
 abbrev pub naming : Bool → Named → Named → Named → ℕ → Facts

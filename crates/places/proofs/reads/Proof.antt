@@ -1,7 +1,7 @@
 -- `reads` meets its contract: it rewrites with the mark that is read.
 use borrow.Author.Needs.{needs}
-use Rattle.worker.proofs.reads.Statement.{statement}
-use Rattle.worker.proofs.reads.Tie as tie
+use Rattle.places.proofs.reads.Statement.{statement}
+use Rattle.places.proofs.reads.Tie as tie
 
 mark-read-requires : tie.Need-mark-read-requires
 mark-read-requires c κs = search needs

@@ -1,7 +1,7 @@
 -- `about` meets its contract: in each arm the place that the match found is put into `aboutOf`.
 use borrow.Author.Needs.{needs}
-use Rattle.worker.proofs.about.Statement.{statement}
-use Rattle.worker.proofs.about.Tie as tie
+use Rattle.places.proofs.about.Statement.{statement}
+use Rattle.places.proofs.about.Tie as tie
 
 enum-told : tie.Need-enum-told
 enum-told c = search needs

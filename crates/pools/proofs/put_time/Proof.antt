@@ -1,8 +1,8 @@
 -- `put_time` meets its contract: each return rewrites with the test that led there.
 use borrow.Author.Needs.{needs}
 use borrow.Author.Tests.{le-ltb, lt-ltb}
-use Rattle.worker.proofs.put_time.Statement.{statement}
-use Rattle.worker.proofs.put_time.Tie as tie
+use Rattle.pools.proofs.put_time.Statement.{statement}
+use Rattle.pools.proofs.put_time.Tie as tie
 
 mul-times : tie.Need-mul-times
 mul-times c = search needs

@@ -1,7 +1,7 @@
 -- `moves` meets its contract: it rewrites with the mark that the step moves.
 use borrow.Author.Needs.{needs}
-use Rattle.worker.proofs.moves.Statement.{statement}
-use Rattle.worker.proofs.moves.Tie as tie
+use Rattle.places.proofs.moves.Statement.{statement}
+use Rattle.places.proofs.moves.Tie as tie
 
 mark-moved-requires : tie.Need-mark-moved-requires
 mark-moved-requires c κs = search needs

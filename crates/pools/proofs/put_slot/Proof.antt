@@ -1,8 +1,8 @@
 -- `put_slot` meets its contract: each return rewrites with the test that led there.
 use borrow.Author.Needs.{needs}
 use borrow.Author.Tests.{le-ltb, lt-ltb}
-use Rattle.worker.proofs.put_slot.Statement.{statement}
-use Rattle.worker.proofs.put_slot.Tie as tie
+use Rattle.pools.proofs.put_slot.Statement.{statement}
+use Rattle.pools.proofs.put_slot.Tie as tie
 
 mul-slots : tie.Need-mul-slots
 mul-slots c = search needs

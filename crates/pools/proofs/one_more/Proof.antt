@@ -1,8 +1,8 @@
 -- `one_more` meets its contract: each return rewrites with the test that led there.
 use borrow.Author.Needs.{needs}
 use borrow.Author.Tests.{le-ltb, lt-ltb}
-use Rattle.worker.proofs.one_more.Statement.{statement}
-use Rattle.worker.proofs.one_more.Tie as tie
+use Rattle.pools.proofs.one_more.Statement.{statement}
+use Rattle.pools.proofs.one_more.Tie as tie
 
 returns : tie.Need-returns
 returns c = rw (le-ltb _ _ (c .if1 .taken))
