@@ -131,7 +131,7 @@ fn make(
     );
     arrays::fill_newest(newest, v as usize);
     arrays::fill_free(free, n as usize, hub.free);
-    versions::set_up(row, v as usize, n as usize);
+    all_versions::set_up(row, v as usize, n as usize);
     hub
 }
 
@@ -180,7 +180,7 @@ pub fn run(
         (now (kinds .exit)) (now (numbers .exit)) (r .last)
         ⌝ }
 {
-    let linked = versions::all_linked(row, start.n);
+    let linked = all_versions::all_linked(row, start.n);
     let mut up = ready::ready(start, newest, free, queue, lens, merged, linked, row.len());
     let mut hub = start;
     // The hub's window, by itself while the loop runs.

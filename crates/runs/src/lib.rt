@@ -127,7 +127,7 @@ pub fn give_table<'a>(
         ⌝ }
 {
     let first = &row[0..n];
-    let linked = versions::all_linked(first, hub.n);
+    let linked = all_versions::all_linked(first, hub.n);
     if ready::ready(hub, newest, free, queue, lens, merged, linked, n) {
         return Applied {
             hub,

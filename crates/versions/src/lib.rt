@@ -1,9 +1,9 @@
-// The version slots as one lent row of words, six a slot: what stands in a slot, the test of neighbours and a setup. The words are the
-// count of its reading, low, high, older, newer, and the status of its reading plus one, which is 0 where there is none.
+// The version slots as one lent row of words, six a slot: what stands in a slot. The words are the count of its reading,
+// low, high, older, newer, and the status of its reading plus one, which is 0 where there is none.
 ghost use mathlib.Core.Path.{_≡_};
 ghost use Prim.Native.Nat.{_≤_};
 ghost use lib.ListN.{set, getD};
-ghost use Rattle.slots.specs.Slots.{vacantSlot, linkedTo, madeTo};
+ghost use Rattle.slots.specs.Slots.{vacantSlot};
 ghost use Rattle.versions.specs.Versions.{rowOf, contentIn, countWord, heldWord};
 use slots::Slot;
 use values::Content;
@@ -79,28 +79,4 @@ pub fn store(row: &mut [[u64; 6]], i: usize, s: Slot)
         s.newer as u64,
         held(value),
     ];
-}
-
-// Whether the neighbours of the first n slots are slots below n or absent. Past the end of the row there are none to look at.
-pub fn all_linked(row: &[[u64; 6]], n: usize) -> bool
-    ensures { λ r. ⌜ r ≡ linkedTo (rowOf (now (row .entry))) n n ⌝ }
-{
-    let most = bounds::at_most(n, row.len());
-    let mut ok = true;
-    for i in 0..most {
-        let s = load(row, i);
-        ok = slots::linked_and(ok, s, n);
-    }
-    ok
-}
-
-// The first n slots as a setup of v registers leaves them.
-pub fn set_up(row: &mut [[u64; 6]], v: usize, n: usize)
-    ensures { λ _. ⌜ rowOf (now (row .exit)) ≡ madeTo (rowOf (now (row .entry))) v n ⌝ }
-{
-    for i in 0..n {
-        let s = load(row, i);
-        let t = slots::made(i, v, s);
-        store(row, i, t);
-    }
 }

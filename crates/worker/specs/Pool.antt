@@ -1,6 +1,6 @@
 -- A local pool, H1.19: a count and at most 64 ranges.
 use mathlib.Core.List.{List, [], _∷_}
-use Prim.Native.Nat.{ℕ, zero, suc, _+_}
+use Prim.Native.Nat.{ℕ, zero, suc}
 use lib.ListN.{getD}
 use Rattle.model.specs.Store.{Range}
 use Rattle.pools.specs.Placed.{placed, oneMore}

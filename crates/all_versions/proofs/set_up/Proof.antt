@@ -7,10 +7,10 @@ use lib.ListN.{length, length-map}
 use borrow.Author.Needs.{needs}
 use Rattle.slots.specs.Slots.{madeTo}
 use Rattle.slots.proofs.Growth.{length-madeTo}
 use Rattle.versions.specs.Versions.{rowOf}
-use Rattle.versions.proofs.Laws.{made-more}
-use Rattle.versions.proofs.set_up.Statement.{statement}
-use Rattle.versions.proofs.set_up.Tie as tie
+use Rattle.all_versions.proofs.Laws.{made-more}
+use Rattle.all_versions.proofs.set_up.Statement.{statement}
+use Rattle.all_versions.proofs.set_up.Tie as tie
 
 abbrev Inv-loop : tie.InvT-loop
 Inv-loop row₀ v n i₀ row i = (i ≤ n) × (rowOf row ≡ madeTo (rowOf row₀) v i)

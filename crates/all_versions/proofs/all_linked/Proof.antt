@@ -6,10 +6,10 @@ use native.Mathlib.Omega.{arith}
 use lib.ListN.{length, length-map}
 use borrow.Author.Needs.{needs}
 use Rattle.slots.specs.Slots.{linkedTo}
 use Rattle.versions.specs.Versions.{slotIn, rowOf}
-use Rattle.versions.proofs.Laws.{linked-min}
-use Rattle.versions.proofs.all_linked.Statement.{statement}
-use Rattle.versions.proofs.all_linked.Tie as tie
+use Rattle.all_versions.proofs.Laws.{linked-min}
+use Rattle.all_versions.proofs.all_linked.Statement.{statement}
+use Rattle.all_versions.proofs.all_linked.Tie as tie
 
 abbrev Inv-loop : tie.InvT-loop
 Inv-loop row n most ok₀ i₀ ok i = (i ≤ most) × (ok ≡ linkedTo (rowOf row) n i)
