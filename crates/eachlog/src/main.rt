@@ -59,6 +59,24 @@ fn write_answer(k: u64, answer: Answer) -> bool {
     io::write_all(libc::STDOUT_FILENO, &line[0..used])
 }
 
+// A hub with no worker, no register and no slot, to which the table was given. Such memory counts as not set up whatever is lent beside it, so that
+// no slot and zeros are lent.
+fn hub_with(table: &[u8]) -> Hub {
+    let newest = [0u16; 256];
+    let free = [0u16; 2048];
+    let queue = [0u32; 12288];
+    let lens = [0u32; 4096];
+    let merged = [0u32; 12288];
+    let hub = Hub::empty();
+    let given = hub::give_table_words(&[], hub, table, &newest, &free, &queue, &lens, &merged);
+    let answer = given.answer;
+    // All but `Ok` is a refusal, and on memory that is not set up none but 24 is given.
+    if answers::kind(answer) != 0 {
+        input::say(b"eachlog: the table is refused: 24\n");
+    }
+    given.hub
+}
+
 fn main() {
     let long = argument(1, 2048);
     let at = argument(2, 100000000);
@@ -91,26 +109,7 @@ fn main() {
     let shared = &table[..];
     let none = slots::vacant();
     let mut slots = [none; 2048];
-    // No worker, no register, no slot, no table: memory that counts as not set up.
-    let mut hub = Hub::empty();
-    let given = hub::give_table_row(
-        slots,
-        long,
-        hub,
-        &shared[0..rows],
-        &newest,
-        &free,
-        &queue,
-        &lens,
-        &merged,
-    );
-    let fresh = given.hub;
-    hub = fresh;
-    let answer = given.answer;
-    // All but `Ok` is a refusal, and on memory that is not set up none but 24 is given.
-    if answers::kind(answer) != 0 {
-        input::say(b"eachlog: the table is refused: 24\n");
-    }
+    let mut hub = hub_with(&shared[0..rows]);
     let mut k: u64 = 0;
     let mut lent = long;
     // Nothing says that the input ends, so the turns are counted, from a number that no run uses up.

@@ -9,11 +9,11 @@ use ghost.Atoms.{Atoms}
 use contract.Lifetimes.{Within}
 use types.Kit.{Given}
 use denote.RattleType.{RattleType}
-use denote.Builtin.{u8, u16, u32, u64}
-use denote.Signature.{Slot, plain, mutRefTo, mutSliceOf, shrSliceOf}
+use denote.Builtin.{u8, u16, u32}
+use denote.Signature.{Slot, plain, mutRefTo, shrSliceOf}
 use denote.Signature.Array.{arrayOf}
 use denote.Triple.End.{all}
-use denote.Triple.Walked.{Stay, Stays, gave-ref, gave-slice, stay-dropped, Goes, AllGo, goes-gave-ref, goes-gave-slice, goes-dropped}
+use denote.Triple.Walked.{Stay, Stays, gave-ref, stay-dropped, Goes, AllGo, goes-gave-ref, goes-dropped}
 use denote.Exit.{yes}
 
 -- a lifetime by its number
@@ -24,22 +24,13 @@ module _ {n : ℕ} (a : At n) where
   abbrev bytes : Slot n
   bytes = shrSliceOf (a .0 ∷ []) (a .1) (plain (λ _. u8))
 
-  abbrev row : RattleType → Slot n
-  row R = mutSliceOf (a .0 ∷ []) (a .1) (plain (λ _. R))
-
   abbrev array : RattleType → ℕ → Slot n
   array R k = mutRefTo (a .0 ∷ []) (a .1) (arrayOf (plain (λ _. R)) k)
-
-  abbrev gave-row : (R : RattleType) → Stay (row R) yes
-  gave-row R = gave-slice (a .0 ∷ []) (a .1) (plain (λ _. R))
 
   abbrev gave : (R : RattleType) (k : ℕ) → Stay (array R k) yes
   gave R k = gave-ref (a .0 ∷ []) (a .1) (arrayOf (plain (λ _. R)) k)
 
 module _ {M : Type 1} (𝓤 : URA M) (H : Heap 𝓤) (A : Atoms 𝓤) (W : Given 𝓤 H A) (n : ℕ) (a : At n) where
-  go-row : (R : RattleType) → Goes 𝓤 H A W n (row a R) yes (gave-row a R)
-  go-row R = goes-gave-slice 𝓤 H A W n (a .0) (a .1) (plain (λ _. R))
-
   go : (R : RattleType) (k : ℕ) → Goes 𝓤 H A W n (array a R k) yes (gave a R k)
   go R k = goes-gave-ref 𝓤 H A W n (a .0) (a .1) (arrayOf (plain (λ _. R)) k)
 
@@ -68,16 +59,3 @@ module _ (n : ℕ) (l r a b c d e : At n) where
   single-go 𝓤 H A W =
       let z : (i : At n) → Goes 𝓤 H A W n (bytes i) yes (stay-dropped (bytes i) yes) = λ i. goes-dropped 𝓤 H A W n (bytes i) yes (λ κs x f. refl) in
       (z l, (z r, arrays-go n a b c d e 𝓤 H A W))
-
--- ---- a buffer: the list, its bytes, the rows of answers and the arrays
-module _ (n : ℕ) (l r s t a b c d e : At n) where
-  abbrev buffer : List (Slot n)
-  buffer = bytes l ∷ bytes r ∷ row s u16 ∷ row t u64 ∷ arrays n a b c d e
-
-  abbrev pub buffer-gave : Stays buffer (all yes buffer)
-  buffer-gave = (stay-dropped (bytes l) yes, (stay-dropped (bytes r) yes, (gave-row s u16, (gave-row t u64, arrays-gave n a b c d e))))
-
-  pub buffer-go : {M : Type 1} (𝓤 : URA M) (H : Heap 𝓤) (A : Atoms 𝓤) (W : Given 𝓤 H A) → AllGo 𝓤 H A W n buffer (all yes buffer) buffer-gave
-  buffer-go 𝓤 H A W =
-      let z : (i : At n) → Goes 𝓤 H A W n (bytes i) yes (stay-dropped (bytes i) yes) = λ i. goes-dropped 𝓤 H A W n (bytes i) yes (λ κs x f. refl) in
-      (z l, (z r, (go-row 𝓤 H A W n s u16, (go-row 𝓤 H A W n t u64, arrays-go n a b c d e 𝓤 H A W))))

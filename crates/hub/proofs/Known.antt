@@ -74,14 +74,6 @@ module _ {M : Type 1} (𝓤 : URA M) (H : Heap 𝓤) (A : Atoms 𝓤) (W : Given
           check ! (λ i. fit-at (fInt w8) 0 (record { fits = lit< tt }) (x .now) a i .fits) $ done !)));
     }
 
-  -- what tells nothing
-  pub untold : (o : Fml) → Learns 𝓤 H A (Unit {0}) (A .lft κ q) o
-  untold o = record {
-    learned =
-        qed W (‵ (flft κ q) ∷ ‵ o ∷ []) {P = H .⇛ (guard 𝓤 (Unit {0}) (sep 𝓤 (A .lft κ q) (sem 𝓤 H A o)))} (updating ! $ at-once ! $
-        check ! tt $ done !);
-  }
-
 -- of nothing one learns nothing, and of one thing more what it tells
 module _ {M : Type 1} (𝓤 : URA M) (H : Heap 𝓤) (A : Atoms 𝓤) (W : Given 𝓤 H A) where
   pub no-thing : Learns 𝓤 H A (Unit {0}) (emp 𝓤) ftrue

@@ -87,37 +87,6 @@ module _ {M : Type 1} {𝓤 : URA M} {H : Heap 𝓤} {A : Atoms 𝓤} {K : Type 
         regoal t (λ (u : Val). lands C Λ E dst u rest q) (ap only (tells r (w ∷ []) is)) refl $
         k r l e (subst (λ (m : ℕ). length (last l) ≡ m) len long) (subst (Is Q r) (tells r (w ∷ []) is) is)))))))))
 
-  -- the same with the slice lent on as a `&[T]`: it comes back as it was, and Ψ is what the `ensures` says of the result
-  module _ (Q : RattleType) (vals : Q .Denot → List Val) (tells : Tells Q (Is Q) vals) (R : RattleType) {κ : Lft} {p : Share} {γ : GName} (n b o : ℕ)
-      (ys : List (R .Denot)) (len : length ys ≡ n) (room : Room R n) (x : Lft → GName → c .Ghost) (T : Lft → Item 𝓤)
-      (S : Lft → GName → Q .Denot → SProp 𝓤) (j j′ : Item 𝓤) (Ψ : Q .Denot → Type 0) where
-    pub call-shown : ((ν : Lft) → ent 𝓤 (mean 𝓤 H A (T ν)) (mean 𝓤 H A (‵ (flft ν fullShare) ⊛ j′)))
-        → ((ν : Lft) (δ : GName) → ent 𝓤 (sep 𝓤 (A .lft ν fullShare) (sep 𝓤 (sem 𝓤 H A (Shr R ν n b o δ ys)) (mean 𝓤 H A j))) (c .pre (x ν δ)))
-        → ((ν : Lft) (δ : GName) (w : Val) → ent 𝓤 (c .post (x ν δ) w) (mean 𝓤 H A (Answers (T ν) Q (S ν δ) w)))
-        → ((ν : Lft) (δ : GName) (r : Q .Denot) → ent 𝓤 (S ν δ r) (fact 𝓤 (Ψ r)))
-        → ((ν : Lft) (δ : GName) (i k : Item 𝓤) → Opds K W (i ∷ k ∷ Γ) E xs (c .args (x ν δ)))
-        → ((r : Q .Denot) → Ψ r → Is Q r (vals r)
-        → Seq K W (‵ (Mut R κ n b o γ ys) ∷ ‵ (flft κ p) ∷ j′ ∷ Γ) (lands C Λ E dst (only (vals r)) rest q))
-        → Seq K W (‵ (Mut R κ n b o γ ys) ∷ ‵ (flft κ p) ∷ j ∷ Γ) (runs C Λ E (seq (call f xs dst) rest) q)
-    call-shown parts goes after says os k =
-        rewrite t 0 (λ (m : ℕ). ‵ (Mut R κ m b o γ ys)) (sym len) refl $ lft-new t tt (λ α. move t (1 ∷ 2 ∷ []) $
-        use2 W (later (some (λ (δ : GName). ‵ (Shr R (α ∷ []) (length ys) b o δ ys) ⊛ ‵ (SharedAgain R κ (α ∷ []) p γ b o ys))))
-        (shares-again R κ (α ∷ []) p γ b o ys 𝓤 H A W (named 0) (named 0)) $
-        await t tt $ pick t (λ δ. split t $ rewrite t 0 (λ (m : ℕ). ‵ (Shr R (α ∷ []) m b o δ ys)) len refl $
-        -- [the `&`; what is kept of the slice; the token; what is handed over; …]
-        move t (2 ∷ 0 ∷ 3 ∷ []) $ use3 W (raw (c .pre (x (α ∷ []) δ))) (goes (α ∷ []) δ) $
-        calls-at t fm c known (x (α ∷ []) δ) (os (α ∷ []) δ _ _) (λ w. use1 W (Answers (T (α ∷ [])) Q (S (α ∷ []) δ) w) (after (α ∷ []) δ w) $
-        await t tt $ pick t (λ r. split t $ move t (1 ∷ []) $ use1 W (raw (fact 𝓤 (Ψ r))) (says (α ∷ []) δ r) $ heard t (Ψ r) (λ e.
-        -- [the tokens and the result; what is kept; …]
-        split t $ use1 W (‵ (flft (α ∷ []) fullShare) ⊛ j′) (parts (α ∷ [])) $ split t $ lft-end t tt $ move t (0 ∷ 3 ∷ []) $
-        use2 W (later (‵ (Mut R κ (length ys) b o γ ys) ⊛ ‵ (flft κ p)))
-        (unshares R κ (α ∷ []) p γ b o ys 𝓤 H A W (named 0) (named 0) (subst (Room R) (sym len) room)) $
-        await t tt $ split t $ rewrite t 0 (λ (m : ℕ). ‵ (Mut R κ m b o γ ys)) len refl $
-        -- [the slice; its token; what came back; the result; …]
-        move t (3 ∷ []) $ facts t Q (Is Q) (shows 𝓤 H A Q) r (w ∷ []) (λ is.
-        regoal t (λ (u : Val). lands C Λ E dst u rest q) (ap only (tells r (w ∷ []) is)) refl $
-        k r e (subst (Is Q r) (tells r (w ∷ []) is) is)))))))
-
   -- two slices: one lent on as a `&[T]`, one as a `&mut [T]`, by whoever holds both as `&mut`
   module _ (R₀ R₁ : RattleType) {κ₀ κ₁ : Lft} {p₀ p₁ : Share} {γ₀ γ₁ : GName} (n₀ b₀ o₀ : ℕ) (ys : List (R₀ .Denot)) (len₀ : length ys ≡ n₀)
       (room₀ : Room R₀ n₀) (n₁ b₁ o₁ : ℕ) (zs : List (R₁ .Denot)) (len₁ : length zs ≡ n₁) (room₁ : Room R₁ n₁)

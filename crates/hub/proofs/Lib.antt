@@ -1,5 +1,4 @@
 pub mod AsWords
-pub mod Buffers
 pub mod Copying
 pub mod Front
 pub mod Growth
@@ -13,8 +12,5 @@ pub mod Rows
 pub mod Runs
 pub mod Singles
 pub mod SlotArray
-pub mod Tables
 pub mod Values
 pub mod Words
-pub mod Shared
-pub mod Giving

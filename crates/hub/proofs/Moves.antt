@@ -1,5 +1,4 @@
--- A call of `zeros`, of `at_most`, of `load_row` and of `store_row` as one step of a walk that holds the slots and a row of words as `&mut`; of
--- `load_row` also where it holds the slots as `&`.
+-- A call of `zeros`, of `at_most`, of `load_row` and of `store_row` as one step of a walk that holds the slots and a row of words as `&mut`.
 use mathlib.Core.Path.{_≡_, refl, _∙_}
 use Prim.Native.Nat.{ℕ, _<_, _≤_, _^_, min}
 use mathlib.Core.List.{List, [], _∷_}
@@ -16,29 +15,28 @@ use prog.Routine.{Routine}
 use prog.Wp.{Heap, Env, Calls, Loops}
 use ghost.Atoms.{Atoms, sem}
 use contract.Monad.{Fun, fact, fact-mono}
-use types.Kit.{Given, Item, mean, Post, Seq, runs, lands, ‵, raw, _⊛_, _$_, _∵_, !, qed, move, keep, drop, use1, split, join, fsplit, fjoin}
-use types.Kit.{frame, show, done}
+use types.Kit.{Given, Item, mean, Post, Seq, runs, lands, ‵, _⊛_, _$_, _∵_, !, qed, move, keep, drop, split, join, fsplit, fjoin}
+use types.Kit.{frame, done}
 use types.Run.{Opds}
 use sound.WpLaws.{FmC}
 use denote.RattleType.{RattleType, owns}
 use denote.Laws.{Is, Tells, Makes}
-use denote.Plain.{Nothing, nothing-vals, nothing-tells, uint-vals, uint-tells, uint-makes, uint-lawful}
+use denote.Plain.{uint-vals, uint-tells, uint-makes, uint-lawful}
 use denote.Builtin.{u64, usize}
 use denote.Array.{Array, array-vals, array-tells, array-makes, array-lawful}
-use denote.Slice.{sliceVal, MutSlice, ShrSlice, Room, shr-slice-copy, finally}
-use denote.Steps.{only, owned, nothing, heard}
+use denote.Slice.{sliceVal, MutSlice, ShrSlice, Room, finally}
+use denote.Steps.{only, owned, nothing}
 use denote.Triple.Statement.{Contract, Triple}
 use denote.Triple.Clauses.{ensured, lasts}
 use denote.Triple.Spec.{tripleOf}
-use denote.Triple.Walked.{says}
 use Rattle.slots.specs.declared.Slot.{Slot}
 use Rattle.slots.proofs.Slot as T
 use Rattle.slots.proofs.Calls.{Mut, Shr, slice, call-value}
-use Rattle.slots.proofs.Row.{Slots, Shared}
+use Rattle.slots.proofs.Row.{Slots}
 use Rattle.versions.specs.Versions.{rowOf}
 use Rattle.hub.specs.Doors.{copiedTo}
 use Rattle.hub.proofs.Words.{Words, Row}
-use Rattle.hub.proofs.Lends.{Ends, call-on, call-two}
+use Rattle.hub.proofs.Lends.{call-two}
 use Rattle.hub.proofs.zeros as zeros
 use Rattle.hub.proofs.zeros.Symbol.{name as #hub·zeros}
 use Rattle.bounds.proofs.at_most as at-most
@@ -155,58 +153,6 @@ module _ {M : Type 1} (𝓤 : URA M) (H : Heap 𝓤) (A : Atoms 𝓤) (W : Given
       qed W ((‵ (flft ν fullShare) ⊛ (‵ (flft μ fullShare) ⊛ ‵ ftrue)) ∷ []) ∵ split ! $ move ! (1 ∷ []) $ split ! $
       keep ! (2 ∷ 0 ∷ []) $ done !
 
--- ---- load_row, of slots that are held as a `&[Slot]`
-module _ {M : Type 1} (𝓤 : URA M) (H : Heap 𝓤) (A : Atoms 𝓤) (W : Given 𝓤 H A) (mem : Memory → SProp 𝓤) (run : Routine → Fun 𝓤)
-    (κ : Lft) (p : Share) (γ : GName) (n b o : ℕ) (ys : List Slot) (n₁ b₁ o₁ : ℕ) (ws : List (List ℕ)) (m : ℕ) where
-  -- what its contract binds outside, and that the caller has what it asks
-  abbrev to-read : Lft → GName → LoadRow 𝓤 H A mem run .Ghost
-  to-read μ ε = (
-    (
-      (κ, (μ, tt)),
-      (p, (fullShare, tt)),
-      tt,
-      (slice b o γ ys, (slice b₁ o₁ ε ws, (m, tt))),
-      (sliceVal (b, o) n ∷ [], (sliceVal (b₁, o₁) n₁ ∷ [], (vint w64 m ∷ [], tt))),
-    ),
-    tt,
-  )
-
-  goes-read : m < 2 ^ 64 → (μ : Lft) (ε : GName)
-      → ent 𝓤 (sep 𝓤 (A .lft μ fullShare) (sep 𝓤 (sem 𝓤 H A (Row μ n₁ b₁ o₁ ε ws)) (sep 𝓤 (A .lft κ p) (sem 𝓤 H A (Shared κ n b o γ ys)))))
-      (LoadRow 𝓤 H A mem run .pre (to-read μ ε))
-  goes-read gm μ ε =
-      qed W (‵ (flft μ fullShare) ∷ ‵ (Row μ n₁ b₁ o₁ ε ws) ∷ ‵ (flft κ p) ∷ ‵ (Shared κ n b o γ ys) ∷ []) ∵ nothing ! $
-      owned ! usize (Is usize) (uint-makes 𝓤 H A W w64) m _ (refl, gm) $ fjoin ! $
-      move ! (2 ∷ 0 ∷ []) $ fjoin ! $ move ! (3 ∷ 0 ∷ []) $ fjoin ! $ nothing ! $ move ! (2 ∷ 0 ∷ []) $ join ! $ move ! (2 ∷ 0 ∷ []) $
-      join ! $ join ! $
-      frame ! $ done !
-
-  -- the tokens that come back
-  abbrev read-tokens : Lft → Item 𝓤
-  read-tokens μ = ‵ (flft κ p) ⊛ (‵ (flft μ fullShare) ⊛ ‵ ftrue)
-
-  its-tokens : (μ : Lft) → ent 𝓤 (mean 𝓤 H A (read-tokens μ)) (mean 𝓤 H A (‵ (flft μ fullShare) ⊛ ‵ (flft κ p)))
-  its-tokens μ = qed W (read-tokens μ ∷ []) ∵ split ! $ move ! (1 ∷ []) $ split ! $ keep ! (0 ∷ 2 ∷ []) $ done !
-
-  -- what it says of what it leaves
-  abbrev Read : List (List ℕ) → Type 0
-  Read zs = rowOf zs ≡ copiedTo ys (rowOf ws) m
-
-  abbrev ReadLast : Type 0
-  ReadLast = Last 𝓤 H A W T.the-row Words
-
-  abbrev SaidRead : Lft → GName → Unit {0} → SProp 𝓤
-  SaidRead μ ε = ensured 𝓤 H A load-row.ended (load-row.clauses 𝓤 H A mem run) (κ, (μ, tt)) (slice b o γ ys, (slice b₁ o₁ ε ws, (m, tt))) tt
-
-  said-read : (μ : Lft) (ε : GName) (r : Unit {0})
-      → ent 𝓤 (SaidRead μ ε r) (mean 𝓤 H A (Ends Words ws ReadLast (λ l. l .1 .0) (λ l. ‵ (fsep ftrue ftrue)) (λ l. Read (l .1 .0)) ε))
-  said-read μ ε r = exE 𝓤 _ (λ (l : ReadLast).
-      qed W (‵ (CopyEnds 𝓤 H A W T.the-row Words ws ε l) ∷ raw (fact 𝓤 (Read (l .1 .0))) ∷ []) ∵
-      fsplit ! $ drop ! $ fsplit ! $ move ! (2 ∷ []) $ heard ! (Read (l .1 .0)) (λ e.
-      show ! (λ (a : ReadLast). sep 𝓤 (sep 𝓤 (sem 𝓤 H A (fsep (finally Words ε (a .1 .0)) (feq ℕ (length (a .1 .0)) (length ws))))
-      (sem 𝓤 H A (fsep ftrue ftrue))) (fact 𝓤 (Read (a .1 .0)))) l $
-      says ! e $ frame ! $ done !))
-
 module _ {M : Type 1} {𝓤 : URA M} {H : Heap 𝓤} {A : Atoms 𝓤} {K : Type 0} {W : Given 𝓤 H A} {Γ : List (Item 𝓤)} {E : Env 𝓤 H}
     {C : Calls 𝓤 H} {Λ : Loops 𝓤 H}
     {q : Post 𝓤 H} {dst : Place} {rest : Body} {xs : List Operand} where
@@ -281,26 +227,3 @@ module _ {M : Type 1} {𝓤 : URA M} {H : Heap 𝓤} {A : Atoms 𝓤} {K : Type 
         (Last 𝓤 H A W Words T.the-row) (λ l. l .1 .0) (CopyEnds 𝓤 H A W Words T.the-row ys) (λ l. l .1 .0 ≡ copiedTo (rowOf ws) ys m)
         (copy-ends 𝓤 H A W Words T.the-row ys) (two-tokens 𝓤 H A W Words T.the-row) (goes-copy 𝓤 H A W Words T.the-row n₁ b₁ o₁ ws n b o ys m gm)
         (λ ν δ μ ε w. id⊢ 𝓤 _) (λ ν δ μ ε r. id⊢ 𝓤 _) (λ ν δ μ ε. os) (λ l. k (l .1 .0))
-
-  -- the slots are held as a `&[Slot]`, of which a copy is passed
-  module _ {κ κ₁ : Lft} {p p₁ : Share} {γ γ₁ : GName} where
-    pub call-read-row : K → (mem : Memory → SProp 𝓤) (run : Routine → Fun 𝓤) → FmC 𝓤 H (W .laws) C
-        → Triple 𝓤 (C #hub·load-row) (LoadRow 𝓤 H A mem run)
-        → (n b o : ℕ) (ys : List Slot) (n₁ b₁ o₁ : ℕ) (ws : List (List ℕ)) → length ws ≡ n₁ → Room Words n₁ → (m : ℕ) → m < 2 ^ 64
-        → ((i j k : Item 𝓤) → Opds K W (i ∷ j ∷ k ∷ Γ) E xs (sliceVal (b, o) n ∷ sliceVal (b₁, o₁) n₁ ∷ vint w64 m ∷ []))
-        → ((zs : List (List ℕ)) → rowOf zs ≡ copiedTo ys (rowOf ws) m → length zs ≡ n₁ → Seq K W
-        (‵ (Shared κ n b o γ ys) ∷ ‵ (flft κ p) ∷ ‵ (Row κ₁ n₁ b₁ o₁ γ₁ zs) ∷ ‵ (flft κ₁ p₁) ∷ Γ) (lands C Λ E dst vunit rest q))
-        → Seq K W (‵ (Shared κ n b o γ ys) ∷ ‵ (flft κ p) ∷ ‵ (Row κ₁ n₁ b₁ o₁ γ₁ ws) ∷ ‵ (flft κ₁ p₁) ∷ Γ)
-        (runs C Λ E (seq (call #hub·load-row xs dst) rest) q)
-    call-read-row t mem run fm known n b o ys n₁ b₁ o₁ ws len₁ room₁ m gm os k =
-        use1 W (‵ (Shared κ n b o γ ys) ⊛ ‵ (Shared κ n b o γ ys))
-        (shr-slice-copy 𝓤 H A W (named 0) κ T.the-row .twice (slice b o γ ys) (sliceVal (b, o) n ∷ [])) $ split t $
-        move t (2 ∷ 0 ∷ []) $ join t $ move t (2 ∷ 3 ∷ []) $
-        call-on t fm (LoadRow 𝓤 H A mem run) known Nothing nothing-vals nothing-tells Words n₁ b₁ o₁ ws len₁ room₁
-        (to-read 𝓤 H A W mem run κ p γ n b o ys n₁ b₁ o₁ ws m) (read-tokens 𝓤 H A W mem run κ p γ n b o ys n₁ b₁ o₁ ws m)
-        (SaidRead 𝓤 H A W mem run κ p γ n b o ys n₁ b₁ o₁ ws m) (‵ (flft κ p) ⊛ ‵ (Shared κ n b o γ ys)) (‵ (flft κ p))
-        (Last 𝓤 H A W T.the-row Words) (λ l. l .1 .0) (λ l. ‵ (fsep ftrue ftrue)) (λ r l. rowOf (l .1 .0) ≡ copiedTo ys (rowOf ws) m)
-        (its-tokens 𝓤 H A W mem run κ p γ n b o ys n₁ b₁ o₁ ws m) (goes-read 𝓤 H A W mem run κ p γ n b o ys n₁ b₁ o₁ ws m gm) (λ ν δ w. id⊢ 𝓤 _)
-        (said-read 𝓤 H A W mem run κ p γ n b o ys n₁ b₁ o₁ ws m) (λ ν δ i j. os i j (‵ (Shared κ n b o γ ys)))
-        -- [the row; its token; the slots' token; what else is said; the slots; …]
-        (λ r l e long is. move t (3 ∷ []) $ drop t $ move t (3 ∷ 2 ∷ []) $ k (l .1 .0) e long)

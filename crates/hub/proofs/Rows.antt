@@ -1,7 +1,7 @@
 -- What a row of slots is as words: the first n slots copied into words and back are the same slots.
 use mathlib.Core.Path.{_≡_, refl, sym, ap, subst, _∙_}
 use mathlib.Core.List.{List, [], _∷_, _++_}
-use Prim.Native.Nat.{ℕ, zero, suc, _≤_, _-_, min}
+use Prim.Native.Nat.{ℕ, zero, suc, _≤_, min}
 use native.Mathlib.Nat.{min-zero, suc-min-suc}
 use native.Mathlib.Omega.{arith}
 use lib.ListN.{length, take, drop, length-map}
@@ -40,7 +40,7 @@ module _ (slots : List Slot) (m n : ℕ) (is : min (length slots) m ≡ n) where
   meant : (row : List (List ℕ)) → length row ≡ m → n ≤ length (rowOf row)
   meant row long = let e : length (rowOf row) ≡ length row = length-map row slotIn in omega arith
 
-  pub door-in : (row row₁ : List (List ℕ)) → length row ≡ m → rowOf row₁ ≡ copiedTo slots (rowOf row) n → take n (rowOf row₁) ≡ take m slots
+  door-in : (row row₁ : List (List ℕ)) → length row ≡ m → rowOf row₁ ≡ copiedTo slots (rowOf row) n → take n (rowOf row₁) ≡ take m slots
   door-in row row₁ long e =
       ap (take n) e ∙ copied-first slots (rowOf row) n (omega arith) (meant row long) ∙ ap (λ (k : ℕ). take k slots) (sym is) ∙ take-min slots m
 

@@ -1,4 +1,4 @@
--- A call of `run_one` and of `run_all` as one step of a walk: the row of words is lent on, everything else is handed over for good.
+-- A call of `run_one` as one step of a walk: the row of words is lent on, everything else is handed over for good.
 use mathlib.Core.Path.{_≡_, refl}
 use Prim.Native.Nat.{ℕ, _<_, _≤_, _^_}
 use mathlib.Core.List.{List, [], _∷_}
@@ -15,7 +15,7 @@ use prog.Wp.{Heap, Env, Calls, Loops}
 use ghost.Atoms.{Atoms, sem}
 use contract.Lifetimes.{Lfts, Shares, toks}
 use contract.Monad.{Fun, fact}
-use types.Kit.{Given, Item, Post, Seq, runs, lands, mean, ‵, raw, _⊛_, given, _$_, _∵_, !, qed, move, drop, use1, learn, join, fsplit}
+use types.Kit.{Given, Item, Post, Seq, runs, lands, mean, ‵, raw, _⊛_, _$_, _∵_, !, qed, move, drop, join, fsplit}
 use types.Kit.{fjoin, frame, show}
 use types.Kit.{done}
 use types.Run.{Opds}
@@ -36,28 +36,18 @@ use Rattle.state.proofs.Hub as B
 use Rattle.state.proofs.Hub.Laws as B′
 use Rattle.versions.specs.Versions.{rowOf}
 use Rattle.runs.specs.declared.Applied.{Applied}
-use Rattle.runs.specs.declared.Counted.{Counted}
 use Rattle.runs.proofs.Applied as P
 use Rattle.runs.proofs.Applied.Laws as P′
-use Rattle.runs.proofs.Counted as L
-use Rattle.runs.proofs.Kept.Laws as L′
 use Rattle.hub.proofs.Lends.{Ends, call-on}
-use Rattle.hub.proofs.Passed.{Single, SingleLeft, single-vals, single-list, single-own, single-end, OneDone, Buffer, BufferLeft}
-use Rattle.hub.proofs.Passed.{buffer-vals}
-use Rattle.hub.proofs.Passed.{buffer-list, buffer-own, buffer-end, buffer-ends, AllDone, SameLong}
-use Rattle.hub.proofs.Values.{hub-vals, applied-vals, left-vals}
+use Rattle.hub.proofs.Passed.{Single, SingleLeft, single-vals, single-list, single-own, single-end, OneDone}
+use Rattle.hub.proofs.Values.{hub-vals, applied-vals}
 use Rattle.hub.proofs.Words.{Words, Row}
 use Rattle.runs.proofs.run_one as run-one
 use Rattle.runs.proofs.run_one.Symbol.{name as #runs·run-one}
-use Rattle.runs.proofs.run_all as run-all
-use Rattle.runs.proofs.run_all.Symbol.{name as #runs·run-all}
 
 module _ {M : Type 1} (𝓤 : URA M) (H : Heap 𝓤) (A : Atoms 𝓤) (mem : Memory → SProp 𝓤) (run : Routine → Fun 𝓤) where
   abbrev pub RunOne : Contract 𝓤
   RunOne = tripleOf 𝓤 H A run-one.signature (run-one.spec 𝓤 H A mem run)
-
-  abbrev pub RunAll : Contract 𝓤
-  RunAll = tripleOf 𝓤 H A run-all.signature (run-all.spec 𝓤 H A mem run)
 
 -- ---- run-one
 module _ {M : Type 1} (𝓤 : URA M) (H : Heap 𝓤) (A : Atoms 𝓤) (W : Given 𝓤 H A) (mem : Memory → SProp 𝓤) (run : Routine → Fun 𝓤) (n b o : ℕ)
@@ -96,47 +86,6 @@ module _ {M : Type 1} (𝓤 : URA M) (H : Heap 𝓤) (A : Atoms 𝓤) (W : Given
       (sem 𝓤 H A (single-end x (a .1 .1 .1)))) (fact 𝓤 (Says-one r a))) l $
       says ! (e .1) $ move ! (1 ∷ 0 ∷ []) $ frame ! $ done !))
 
--- ---- run-all
-module _ {M : Type 1} (𝓤 : URA M) (H : Heap 𝓤) (A : Atoms 𝓤) (W : Given 𝓤 H A) (mem : Memory → SProp 𝓤) (run : Routine → Fun 𝓤) (n b o : ℕ)
-    (ws : List (List ℕ)) (k : ℕ) (h : Hub) (ks : Lfts 9) (qs : Shares 9) (x : Buffer) where
-  -- what the callee's contract binds outside, and that the caller has what it asks
-  abbrev to-all : Lft → GName → RunAll 𝓤 H A mem run .Ghost
-  to-all ν δ =
-      (((ν, ks), (fullShare, qs), tt, (slice b o δ ws, (k, (h, x))), (sliceVal (b, o) n ∷ [], (vint w64 k ∷ [], (hub-vals h, buffer-vals x)))), tt)
-
-  goes-all : k < 2 ^ 64 → Is B.the-row h (hub-vals h) → k ≤ length ws → (ν : Lft) (δ : GName)
-      → ent 𝓤 (sep 𝓤 (A .lft ν fullShare) (sep 𝓤 (sem 𝓤 H A (Row ν n b o δ ws)) (sep 𝓤 (toks 𝓤 A 9 ks qs) (sem 𝓤 H A (buffer-own ks x)))))
-      (RunAll 𝓤 H A mem run .pre (to-all ν δ))
-  goes-all gk gh within ν δ =
-      qed W (‵ (flft ν fullShare) ∷ ‵ (Row ν n b o δ ws) ∷ raw (toks 𝓤 A 9 ks qs) ∷ ‵ (buffer-own ks x) ∷ []) ∵ says ! within $ move ! (3 ∷ []) $
-      owned ! B.the-row (Is B.the-row) (LL.makes B.the-type B′.the-plain 𝓤 H A) h (hub-vals h) gh $ fjoin ! $
-      owned ! usize (Is usize) (uint-makes 𝓤 H A W w64) k _ (refl, gk) $ fjoin ! $ move ! (2 ∷ 0 ∷ []) $ fjoin ! $ move ! (1 ∷ 2 ∷ []) $
-      join ! $ frame ! $
-      done !
-
-  -- what it says of its answer and of what it leaves
-  abbrev Last-all : Type 0
-  Last-all = List (List ℕ) × (Unit {0} × (Unit {0} × BufferLeft))
-
-  abbrev Says-all : Counted → Last-all → Type 0
-  Says-all r l = AllDone h (take k (rowOf ws)) x (r .count) (r .hub) (take k (rowOf (l .0))) (l .1 .1 .1) × SameLong x (l .1 .1 .1)
-
-  abbrev Said-all : Lft → GName → Counted → SProp 𝓤
-  Said-all ν δ = ensured 𝓤 H A run-all.ended (run-all.clauses 𝓤 H A mem run) (ν, ks) (slice b o δ ws, (k, (h, x))) tt
-
-  said-all : (ν : Lft) (δ : GName) (r : Counted) → ent 𝓤 (Said-all ν δ r) (mean 𝓤 H A
-      (Ends Words ws Last-all (λ l. l .0) (λ l. ‵ (buffer-end x (l .1 .1 .1))) (Says-all r) δ))
-  said-all ν δ r =
-      exE 𝓤 _ (λ (l : Last-all). let D : Type 0 = (rest-of k (l .0) ≡ rest-of k ws) × AllDone h (take k (rowOf ws)) x (r .count) (r .hub)
-      (take k (rowOf (l .0))) (l .1 .1 .1) in
-      qed W (‵ (lasts run-all.ended (ν, ks) (slice b o δ ws, (k, (h, x))) l) ∷ raw (fact 𝓤 D) ∷ []) ∵
-      fsplit ! $ move ! (1 ∷ []) $ fsplit ! $ drop ! $ fsplit ! $ drop ! $
-      use1 W (given (SameLong x (l .1 .1 .1)) (‵ (buffer-end x (l .1 .1 .1)))) (buffer-ends 𝓤 H A W x (l .1 .1 .1)) $
-      learn ! (λ long. move ! (2 ∷ []) $ heard ! D (λ e.
-      show ! (λ (a : Last-all). sep 𝓤 (sep 𝓤 (sem 𝓤 H A (fsep (finally Words δ (a .0)) (feq ℕ (length (a .0)) (length ws))))
-      (sem 𝓤 H A (buffer-end x (a .1 .1 .1)))) (fact 𝓤 (Says-all r a))) l $
-      says ! (e .1, long) $ move ! (1 ∷ 0 ∷ []) $ frame ! $ done !)))
-
 module _ {M : Type 1} {𝓤 : URA M} {H : Heap 𝓤} {A : Atoms 𝓤} {K : Type 0} {W : Given 𝓤 H A} {Γ : List (Item 𝓤)} {E : Env 𝓤 H}
     {C : Calls 𝓤 H} {Λ : Loops 𝓤 H}
     {q : Post 𝓤 H} {dst : Place} {rest : Body} {xs : List Operand} {κ : Lft} {p : Share} {γ : GName} where
@@ -160,22 +109,3 @@ module _ {M : Type 1} {𝓤 : URA M} {H : Heap 𝓤} {A : Atoms 𝓤} {K : Type 
       (λ l. ‵ (single-end x (l .1 .1 .1)))
       (Says-one 𝓤 H A W mem run n b o ws k h ks qs x) (λ ν. id⊢ 𝓤 _) (goes-one 𝓤 H A W mem run n b o ws k h ks qs x gk gh within) (λ ν δ w. id⊢ 𝓤 _)
       (said-one 𝓤 H A W mem run n b o ws k h ks qs x) (λ ν δ. os) (λ r l. next r (l .0) (l .1 .1 .1))
-
-  pub call-run-all : (t : K) (mem : Memory → SProp 𝓤) (run : Routine → Fun 𝓤) → FmC 𝓤 H (W .laws) C → Triple 𝓤 (C #runs·run-all) (RunAll 𝓤 H A mem run)
-      → (n b o : ℕ) (ws : List (List ℕ)) → length ws ≡ n → Room Words n → (k : ℕ) (h : Hub) (ks : Lfts 9) (qs : Shares 9) (x : Buffer) → k < 2 ^ 64
-      → Is B.the-row h (hub-vals h) → k ≤ length ws
-      → ((i j : Item 𝓤) → Opds K W (i ∷ j ∷ Γ) E xs (sliceVal (b, o) n ∷ vint w64 k ∷ only (hub-vals h) ∷ buffer-list x))
-      → ((r : Counted) (zs : List (List ℕ)) (z : BufferLeft) → AllDone h (take k (rowOf ws)) x (r .count) (r .hub) (take k (rowOf zs)) z × SameLong x z
-      → length zs ≡ n → Is L.the-row r (left-vals r)
-      → Seq K W (‵ (Row κ n b o γ zs) ∷ ‵ (flft κ p) ∷ raw (toks 𝓤 A 9 ks qs) ∷ ‵ (buffer-end x z) ∷ Γ) (lands C Λ E dst (only (left-vals r)) rest q))
-      → Seq K W (‵ (Row κ n b o γ ws) ∷ ‵ (flft κ p) ∷ raw (toks 𝓤 A 9 ks qs) ∷ ‵ (buffer-own ks x) ∷ Γ)
-      (runs C Λ E (seq (call #runs·run-all xs dst) rest) q)
-  call-run-all t mem run fm known n b o ws len room k h ks qs x gk gh within os next =
-      move t (2 ∷ 3 ∷ []) $ join t $ move t (1 ∷ 2 ∷ 0 ∷ []) $
-      call-on t fm (RunAll 𝓤 H A mem run) known L.the-row left-vals (LL.tells L.the-type L′.the-laws) Words n b o ws len room
-      (to-all 𝓤 H A W mem run n b o ws k h ks qs x) (λ ν. ‵ (flft ν fullShare) ⊛ raw (toks 𝓤 A 9 ks qs))
-      (Said-all 𝓤 H A W mem run n b o ws k h ks qs x)
-      (raw (toks 𝓤 A 9 ks qs) ⊛ ‵ (buffer-own ks x)) (raw (toks 𝓤 A 9 ks qs)) (Last-all 𝓤 H A W mem run n b o ws k h ks qs x) (λ l. l .0)
-      (λ l. ‵ (buffer-end x (l .1 .1 .1)))
-      (Says-all 𝓤 H A W mem run n b o ws k h ks qs x) (λ ν. id⊢ 𝓤 _) (goes-all 𝓤 H A W mem run n b o ws k h ks qs x gk gh within) (λ ν δ w. id⊢ 𝓤 _)
-      (said-all 𝓤 H A W mem run n b o ws k h ks qs x) (λ ν δ. os) (λ r l. next r (l .0) (l .1 .1 .1))

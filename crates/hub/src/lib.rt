@@ -105,70 +105,11 @@ pub fn apply(
 
 // ---- a buffer of records
 
-// Applies the records of the bytes, as many as there is room for answers: the kind and the number of answer k stand at k.
-pub fn apply_all(
-    slots: &mut [Slot],
-    hub: Hub,
-    list: &[u8],
-    bytes: &[u8],
-    kinds: &mut [u16],
-    numbers: &mut [u64],
-    newest: &mut [u16; 256],
-    free: &mut [u16; 2048],
-    queue: &mut [u32; 12288],
-    lens: &mut [u32; 4096],
-    merged: &mut [u32; 12288],
-) -> Counted
-    ensures { λ r. ⌜
-        (drop 2048 (now (slots .exit)) ≡ drop 2048 (now (slots .entry)))
-        × Applies
-        (record {
-          hub = hub;
-          slots = take 2048 (now (slots .entry));
-          newest = now (newest .entry);
-          free = now (free .entry);
-          queue = now (queue .entry);
-          lens = now (lens .entry);
-          merged = now (merged .entry);
-        })
-        (now (list .entry)) (now (bytes .entry)) (now (kinds .entry)) (now (numbers .entry)) (r .count)
-        (record {
-          hub = r .hub;
-          slots = take 2048 (now (slots .exit));
-          newest = now (newest .exit);
-          free = now (free .exit);
-          queue = now (queue .exit);
-          lens = now (lens .exit);
-          merged = now (merged .exit);
-        })
-        (now (kinds .exit)) (now (numbers .exit))
-        ⌝ }
-{
-    let mut row = zeros();
-    let n = bounds::at_most(slots.len(), 2048);
-    load_row(slots, &mut row, n);
-    let done = runs::run_all(
-        &mut row,
-        n,
-        hub,
-        list,
-        bytes,
-        kinds,
-        numbers,
-        newest,
-        free,
-        queue,
-        lens,
-        merged,
-    );
-    store_row(&row, slots, n);
-    done
-}
-
 // Does nothing: where an array is passed as a slice, the proof learns how long it is.
 fn lengths_told(newest: &[u16], free: &[u16], queue: &[u32], lens: &[u32], merged: &[u32]) {}
 
-// The same for a caller that has the slots as words, a row of any length: it is lent as it is, and nothing is copied.
+// Applies the records of the bytes, as many as there is room for answers: the kind and the number of answer k stand at k. The slots are words, a row
+// of any length: it is lent as it is, and nothing is copied.
 pub fn apply_words(
     row: &mut [[u64; 6]],
     hub: Hub,
@@ -226,48 +167,8 @@ pub fn apply_words(
 
 // ---- a table of rights
 
-// H15.8: gives a table of any bytes, on any lent memory: 9 where it counts as set up, then 24; a refusal changes nothing. Nothing but the hub by
-// value is changed.
-pub fn give_table<'a>(
-    slots: &'a [Slot],
-    hub: Hub,
-    table: &'a [u8],
-    newest: &'a [u16; 256],
-    free: &'a [u16; 2048],
-    queue: &'a [u32; 12288],
-    lens: &'a [u32; 4096],
-    merged: &'a [u32; 12288],
-) -> Applied
-    ensures { λ r. ⌜
-        Gives
-        (record {
-          hub = hub;
-          slots = now (slots .entry);
-          newest = now (newest .entry);
-          free = now (free .entry);
-          queue = now (queue .entry);
-          lens = now (lens .entry);
-          merged = now (merged .entry);
-        })
-        (now (table .entry)) (r .answer)
-        (record {
-          hub = r .hub;
-          slots = now (slots .entry);
-          newest = now (newest .entry);
-          free = now (free .entry);
-          queue = now (queue .entry);
-          lens = now (lens .entry);
-          merged = now (merged .entry);
-        })
-        ⌝ }
-{
-    let mut row = zeros();
-    let n = bounds::at_most(slots.len(), 2048);
-    load_row(slots, &mut row, n);
-    runs::give_table(&row, n, hub, table, newest, free, queue, lens, merged)
-}
-
-// The same for a caller that has the slots as words.
+// H15.8: gives a table of any bytes, on any lent memory, the slots as words: 9 where it counts as set up, then 24; a refusal changes nothing. Nothing
+// but the hub by value is changed.
 pub fn give_table_words<'a>(
     row: &'a [[u64; 6]],
     hub: Hub,
@@ -305,68 +206,7 @@ pub fn give_table_words<'a>(
     runs::give_table(row, n, hub, table, newest, free, queue, lens, merged)
 }
 
-// ---- for programs that own the row
-
-// What is left of the hub by value and how many records were applied, and the row by value.
-pub struct Owned {
-    pub applied: Counted,
-    pub slots: [Slot; 2048],
-}
-
-// The same for a caller that owns the row of 2048 slots: it is taken and given back by value, so that the caller needs no proof by hand.
-pub fn apply_owned(
-    row: [Slot; 2048],
-    hub: Hub,
-    list: &[u8],
-    bytes: &[u8],
-    kinds: &mut [u16],
-    numbers: &mut [u64],
-    newest: &mut [u16; 256],
-    free: &mut [u16; 2048],
-    queue: &mut [u32; 12288],
-    lens: &mut [u32; 4096],
-    merged: &mut [u32; 12288],
-) -> Owned
-    ensures { λ r. ⌜
-        Applies
-        (record {
-          hub = hub;
-          slots = row;
-          newest = now (newest .entry);
-          free = now (free .entry);
-          queue = now (queue .entry);
-          lens = now (lens .entry);
-          merged = now (merged .entry);
-        })
-        (now (list .entry)) (now (bytes .entry)) (now (kinds .entry)) (now (numbers .entry)) (r .applied .count)
-        (record {
-          hub = r .applied .hub;
-          slots = r .slots;
-          newest = now (newest .exit);
-          free = now (free .exit);
-          queue = now (queue .exit);
-          lens = now (lens .exit);
-          merged = now (merged .exit);
-        })
-        (now (kinds .exit)) (now (numbers .exit))
-        ⌝ }
-{
-    let mut slots = row;
-    let applied = apply_all(
-        &mut slots,
-        hub,
-        list,
-        bytes,
-        kinds,
-        numbers,
-        newest,
-        free,
-        queue,
-        lens,
-        merged,
-    );
-    Owned { applied, slots }
-}
+// ---- one record, for programs that own the row
 
 // What is left of the hub and what the record is answered, and the row by value.
 pub struct Answered {
@@ -425,43 +265,4 @@ pub fn apply_row(
         merged,
     );
     Answered { applied, slots }
-}
-
-// A table of rights, given to the first `long` slots of a row that the caller owns. More than 2048 count as 2048.
-pub fn give_table_row<'a>(
-    row: [Slot; 2048],
-    long: usize,
-    hub: Hub,
-    table: &'a [u8],
-    newest: &'a [u16; 256],
-    free: &'a [u16; 2048],
-    queue: &'a [u32; 12288],
-    lens: &'a [u32; 4096],
-    merged: &'a [u32; 12288],
-) -> Applied
-    ensures { λ r. ⌜
-        Gives
-        (record {
-          hub = hub;
-          slots = take (min long 2048) row;
-          newest = now (newest .entry);
-          free = now (free .entry);
-          queue = now (queue .entry);
-          lens = now (lens .entry);
-          merged = now (merged .entry);
-        })
-        (now (table .entry)) (r .answer)
-        (record {
-          hub = r .hub;
-          slots = take (min long 2048) row;
-          newest = now (newest .entry);
-          free = now (free .entry);
-          queue = now (queue .entry);
-          lens = now (lens .entry);
-          merged = now (merged .entry);
-        })
-        ⌝ }
-{
-    let n = bounds::at_most(long, 2048);
-    give_table(&row[0..n], hub, table, newest, free, queue, lens, merged)
 }

@@ -67,8 +67,9 @@ fn main() {
     let e = write_operation(bytes, d, 5, 0, 0, 0, 1);
     write_operation(bytes, e, 3, 1, 0, 0, 3);
 
-    let none = slots::vacant();
-    let slots = [none; 2048];
+    // The slots, six words each: none of them is filled yet.
+    let mut row_space = [[0u64; 6]; 2048];
+    let row: &mut [[u64; 6]] = &mut row_space;
     let mut newest = [0u16; 256];
     let mut free = [0u16; 2048];
     let mut queue = [0u32; 12288];
@@ -79,8 +80,8 @@ fn main() {
     let kinds: &mut [u16] = &mut kind_space;
     let mut number_space = [0u64; 22];
     let numbers: &mut [u64] = &mut number_space;
-    let done = hub::apply_owned(
-        slots,
+    let done = hub::apply_words(
+        row,
         hub,
         &[],
         bytes,
@@ -96,7 +97,7 @@ fn main() {
     // 22 lines of at most 70 bytes.
     let mut text_space = [0u8; 1540];
     let text: &mut [u8] = &mut text_space;
-    let used = lines::write_lines(text, 0, kinds, numbers, done.applied.count);
+    let used = lines::write_lines(text, 0, kinds, numbers, done.count);
     let log = &text[..];
     if io::write_all(libc::STDOUT_FILENO, &log[0..used]) {
         return;

@@ -57,23 +57,17 @@ returns-2 c = search needs
 vacant-requires : tie.Need-vacant-requires Inv-loop μ-loop
 vacant-requires c κs = search needs
 
-empty-requires : tie.Need-empty-requires Inv-loop μ-loop
-empty-requires c κs = search needs
+sub-hub-with : tie.Need-sub-hub-with Inv-loop μ-loop
+sub-hub-with c = search needs
 
-sub-give-table-row : tie.Need-sub-give-table-row Inv-loop μ-loop
-sub-give-table-row c = search needs
+part-hub-with-start : tie.Need-part-hub-with-start Inv-loop μ-loop
+part-hub-with-start c = search needs
 
-part-give-table-row-start : tie.Need-part-give-table-row-start Inv-loop μ-loop
-part-give-table-row-start c = search needs
+part-hub-with-end : tie.Need-part-hub-with-end Inv-loop μ-loop
+part-hub-with-end c = search needs
 
-part-give-table-row-end : tie.Need-part-give-table-row-end Inv-loop μ-loop
-part-give-table-row-end c = search needs
-
-give-table-row-requires : tie.Need-give-table-row-requires Inv-loop μ-loop
-give-table-row-requires c κs = search needs
-
-kind-requires : tie.Need-kind-requires Inv-loop μ-loop
-kind-requires c κs = search needs
+hub-with-requires : tie.Need-hub-with-requires Inv-loop μ-loop
+hub-with-requires c κs = search needs
 
 slice-aggregate-say-3 : tie.Need-slice-aggregate-say-3 Inv-loop μ-loop
 slice-aggregate-say-3 c = search needs
@@ -102,8 +96,7 @@ part-apply-row-start c = search needs
 part-apply-row-end : tie.Need-part-apply-row-end Inv-loop μ-loop
 part-apply-row-end c =
     let s = c .before .before .before .before .before .before .before .before .before .before .before .before in
-    let t = s .before .before .before .before .before .before .before .before .before .before .before .before in
-    let r = t .before .before .before .before .before .before .before .before .before in
+    let r = s .before .before .before .before .before .before .before .before .before .before .before .before in
     search (needs, r .read-named .ensures)
 
 sub-apply-row-2 : tie.Need-sub-apply-row-2 Inv-loop μ-loop
@@ -120,12 +113,6 @@ apply-row-requires c κs = search needs
 
 write-answer-requires : tie.Need-write-answer-requires Inv-loop μ-loop
 write-answer-requires c κs = search needs
-
-slice-aggregate-say-4 : tie.Need-slice-aggregate-say-4 Inv-loop μ-loop
-slice-aggregate-say-4 c = search needs
-
-say-requires-4 : tie.Need-say-requires-4 Inv-loop μ-loop
-say-requires-4 c κs = search needs
 
 returns-4 : tie.Need-returns-4 Inv-loop μ-loop
 returns-4 c = search needs
@@ -169,14 +156,10 @@ main-spec =
     say-requires-2
     returns-2
     vacant-requires
-    empty-requires
-    sub-give-table-row
-    part-give-table-row-start
-    part-give-table-row-end
-    give-table-row-requires
-    kind-requires
-    slice-aggregate-say-3
-    say-requires-3
+    sub-hub-with
+    part-hub-with-start
+    part-hub-with-end
+    hub-with-requires
     loop-holds
     sub-turns
     fill-requires
@@ -189,8 +172,8 @@ main-spec =
     part-apply-row-end-2
     apply-row-requires
     write-answer-requires
-    slice-aggregate-say-4
-    say-requires-4
+    slice-aggregate-say-3
+    say-requires-3
     returns-4
     returns-5
     wrapping-add-u64-requires
