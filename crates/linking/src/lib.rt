@@ -1,26 +1,12 @@
-// What the steps do to version lists in the row of words: stamp, link, unlink.
+// What the steps do to version lists in the row of words: link, unlink.
 ghost use mathlib.Core.Path.{_≡_};
-ghost use Rattle.versions.specs.Versions.{rowOf, aloneSlot, publishedSlot, changeIn, stampedIn, linkedIn, unlinkedIn, withLow, withHigh};
+ghost use Rattle.versions.specs.Versions.{rowOf, aloneSlot, publishedSlot, changeIn, linkedIn, unlinkedIn};
 ghost use Rattle.versions.specs.Versions.{withOlder, withNewer};
 use slots::Slot;
 use values::Content;
 use values::Reading;
 
 // One part of the slot at an index is replaced.
-fn set_low(row: &mut [[u64; 6]], i: usize, x: u64)
-    ensures { λ _. ⌜ rowOf (now (row .exit)) ≡ changeIn (rowOf (now (row .entry))) i (λ v. withLow v x) ⌝ }
-{
-    let s = versions::load(row, i);
-    versions::store(row, i, Slot { low: x, ..s });
-}
-
-fn set_high(row: &mut [[u64; 6]], i: usize, x: u64)
-    ensures { λ _. ⌜ rowOf (now (row .exit)) ≡ changeIn (rowOf (now (row .entry))) i (λ v. withHigh v x) ⌝ }
-{
-    let s = versions::load(row, i);
-    versions::store(row, i, Slot { high: x, ..s });
-}
-
 fn set_older(row: &mut [[u64; 6]], i: usize, x: usize)
     ensures { λ _. ⌜ rowOf (now (row .exit)) ≡ changeIn (rowOf (now (row .entry))) i (λ v. withOlder v x) ⌝ }
 {
@@ -46,17 +32,6 @@ fn set_alone(row: &mut [[u64; 6]], i: usize)
         ..s
     };
     versions::store(row, i, x);
-}
-
-// Stamps the register whose newest version is in slot i.
-pub fn stamp(row: &mut [[u64; 6]], i: usize, clock: u32)
-    ensures { λ _. ⌜ rowOf (now (row .exit)) ≡ stampedIn (rowOf (now (row .entry))) i clock ⌝ }
-{
-    let a = versions::load(row, i);
-    if a.low == 4294967296 {
-        set_low(row, i, clock as u64);
-        set_high(row, a.older, clock as u64);
-    }
 }
 
 // The version that a put publishes above slot i.

@@ -82,7 +82,7 @@ fn put_publish(
     }
     let i = newest_of(newest, register);
     let f = next_free(free, n);
-    linking::stamp(row, i, clock);
+    stamping::stamp(row, i, clock);
     linking::link(row, i, f, reading);
     arrays::set_short(newest, wide(register), f);
     let covered = (i % 65536) as u16;
@@ -108,7 +108,7 @@ fn put_stamp(
     let c = versions::load(row, wide(covered));
     let place = Doing::PutHandIn { register, covered };
     if c.high == 4294967296 {
-        linking::stamp(row, newest_of(newest, register), clock);
+        stamping::stamp(row, newest_of(newest, register), clock);
         return Next::Taken(announcing::outcome_of(place, t, clock, n, Answer::Going));
     }
     Next::Taken(announcing::outcome_of(place, t, clock, n, Answer::Going))
@@ -154,7 +154,7 @@ fn read_enter<'a>(
         return Next::Taken(announcing::outcome_of(Doing::Idle, t, clock, n, Answer::No(k)));
     }
     let i = newest_of(newest, goal.register);
-    linking::stamp(row, i, clock);
+    stamping::stamp(row, i, clock);
     let slot = (i % 65536) as u16;
     let place = Doing::ReadStand { goal, slot };
     Next::Taken(announcing::outcome_of(place, t, clock, n, Answer::Going))
@@ -268,7 +268,7 @@ fn get_show(
 {
     let i = newest_of(newest, register);
     let v = versions::load(row, i);
-    linking::stamp(row, i, clock);
+    stamping::stamp(row, i, clock);
     let x = v.value;
     Next::Taken(announcing::outcome_of(Doing::Idle, t, clock, n, showing::answer_for(x)))
 }

@@ -11,7 +11,7 @@ use Rattle.values.specs.declared.Content.{Content}
 use Rattle.values.specs.declared.Content.the-variants.{NoReading, Of}
 use Rattle.slots.specs.declared.Slot.{Slot}
 use Rattle.slots.specs.Slots.{vacantSlot}
-use Rattle.versions.specs.Versions.{contentIn, countWord, heldWord, slotIn, rowOf, slotAtIn}
+use Rattle.versions.specs.Versions.{contentIn, countWord, heldWord, slotIn, rowOf, slotAtIn, changeIn}
 
 ------------------------------------------------------------------------
 -- Loads and stores
@@ -45,3 +45,7 @@ row-stored l i s x k e f =
 
 pub row-out : (l : List (List ℕ)) (i : ℕ) (s : Slot) → length l ≤ i → rowOf l ≡ set (rowOf l) i s
 row-out l i s h = sym (set-out (rowOf l) i s (rw (length-map l slotIn) h))
+
+-- a slot that is loaded, changed and stored
+pub changed : (l m : List Slot) (i : ℕ) (f : Slot → Slot) (a : Slot) → a ≡ slotAtIn l i → m ≡ set l i (f a) → m ≡ changeIn l i f
+changed l m i f a ea e = e ∙ ap (λ (s : Slot). set l i (f s)) ea

@@ -1,7 +1,7 @@
 -- `set_alone` meets its contract: what is stored is the loaded slot without its neighbours.
 use borrow.Author.Needs.{needs}
 use Rattle.versions.specs.Versions.{rowOf, aloneSlot}
-use Rattle.linking.proofs.Laws.{changed}
+use Rattle.versions.proofs.Laws.{changed}
 use Rattle.linking.proofs.set_alone.Statement.{statement}
 use Rattle.linking.proofs.set_alone.Tie as tie
 

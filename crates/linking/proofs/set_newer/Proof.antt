@@ -1,7 +1,7 @@
 -- `set_newer` meets its contract: what is stored is the loaded slot with another newer neighbour.
 use borrow.Author.Needs.{needs}
 use Rattle.versions.specs.Versions.{rowOf, withNewer}
-use Rattle.linking.proofs.Laws.{changed}
+use Rattle.versions.proofs.Laws.{changed}
 use Rattle.linking.proofs.set_newer.Statement.{statement}
 use Rattle.linking.proofs.set_newer.Tie as tie
 

@@ -1,7 +1,7 @@
 -- `set_older` meets its contract: what is stored is the loaded slot with another older neighbour.
 use borrow.Author.Needs.{needs}
 use Rattle.versions.specs.Versions.{rowOf, withOlder}
-use Rattle.linking.proofs.Laws.{changed}
+use Rattle.versions.proofs.Laws.{changed}
 use Rattle.linking.proofs.set_older.Statement.{statement}
 use Rattle.linking.proofs.set_older.Tie as tie
 

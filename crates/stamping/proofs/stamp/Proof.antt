@@ -2,9 +2,9 @@
 use borrow.Author.Tests.{eq-eqb, ne-eqb}
 use borrow.Author.Needs.{needs}
 use Rattle.versions.specs.Versions.{rowOf}
-use Rattle.linking.proofs.Laws.{stamped-both, stamped-none}
-use Rattle.linking.proofs.stamp.Statement.{statement}
-use Rattle.linking.proofs.stamp.Tie as tie
+use Rattle.stamping.proofs.Laws.{stamped-both, stamped-none}
+use Rattle.stamping.proofs.stamp.Statement.{statement}
+use Rattle.stamping.proofs.stamp.Tie as tie
 
 load-requires : tie.Need-load-requires
 load-requires c κs = search needs

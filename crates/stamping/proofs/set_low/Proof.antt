@@ -1,9 +1,9 @@
 -- `set_low` meets its contract: what is stored is the loaded slot with another low.
 use borrow.Author.Needs.{needs}
 use Rattle.versions.specs.Versions.{rowOf, withLow}
-use Rattle.linking.proofs.Laws.{changed}
-use Rattle.linking.proofs.set_low.Statement.{statement}
-use Rattle.linking.proofs.set_low.Tie as tie
+use Rattle.versions.proofs.Laws.{changed}
+use Rattle.stamping.proofs.set_low.Statement.{statement}
+use Rattle.stamping.proofs.set_low.Tie as tie
 
 load-requires : tie.Need-load-requires
 load-requires c κs = search needs

@@ -1,9 +1,9 @@
 -- `set_high` meets its contract: what is stored is the loaded slot with another high.
 use borrow.Author.Needs.{needs}
 use Rattle.versions.specs.Versions.{rowOf, withHigh}
-use Rattle.linking.proofs.Laws.{changed}
-use Rattle.linking.proofs.set_high.Statement.{statement}
-use Rattle.linking.proofs.set_high.Tie as tie
+use Rattle.versions.proofs.Laws.{changed}
+use Rattle.stamping.proofs.set_high.Statement.{statement}
+use Rattle.stamping.proofs.set_high.Tie as tie
 
 load-requires : tie.Need-load-requires
 load-requires c κs = search needs
