@@ -12,7 +12,7 @@ use Rattle.places.specs.About.{aboutOf}
 use Rattle.worker.specs.declared.Worker.{Worker}
 use Rattle.state.specs.declared.Hub.{Hub}
 use Rattle.state.specs.State.{nobody, atPlace, withWorkersIn}
-use Rattle.freeing.specs.Freeing.{offTo, offDoing, isOn, standsOn}
+use Rattle.standing.specs.Standing.{offTo, offDoing, isOn, standsOn}
 use Rattle.simulation.specs.Shell.{offWorker}
 use Rattle.lists.proofs.Mapped.{mapped, mapped-more}
 

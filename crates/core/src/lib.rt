@@ -319,7 +319,7 @@ pub fn run(
                     Next::ReadMarks { merged: m } => {
                         let p = hub.p;
                         let held = hub.marks;
-                        marks::read_all(&mut hub.times, w, p, &held);
+                        mark_times::read_all(&mut hub.times, w, p, &held);
                         let y = hub.workers[w];
                         hub.workers[w] = Worker {
                             doing: Doing::FlushRead {
@@ -372,8 +372,8 @@ pub fn run(
                         while j < 16 {
                             let z = hub.workers[j];
                             let e = z.doing;
-                            if freeing::stands_on(e, f.slot) {
-                                let doing = freeing::off(e, f.slot, f.older);
+                            if standing::stands_on(e, f.slot) {
+                                let doing = standing::off(e, f.slot, f.older);
                                 hub.workers[j] = Worker { doing, ..z };
                                 j += 1;
                             } else {

@@ -1,17 +1,12 @@
--- Flush (4): the slot that is freed, what becomes of the row and of the free slots, and the reads that stood on it.
-use mathlib.Core.Bool.{Bool, false, cond}
+-- Flush (4): the slot that is freed, and what becomes of the row and of the free slots.
+use mathlib.Core.Bool.{cond}
 use mathlib.Core.List.{List}
 use Prim.Native.Nat.{ℕ, _+_, _-_, _*_}
-use lib.Dec.{ltb, eqb}
+use lib.Dec.{ltb}
 use lib.ListN.{getD, set}
 use Rattle.slots.specs.declared.Slot.{Slot}
 use Rattle.arrays.specs.Arrays.{short}
 use Rattle.versions.specs.Versions.{slotAtIn, unlinkedIn}
-use Rattle.worker.specs.declared.Doing.{Doing}
-use Rattle.worker.specs.declared.Doing.the-variants.{ReadStand}
-use Rattle.places.specs.declared.Stance.{Stance}
-use Rattle.places.specs.declared.Stance.the-variants.{Nowhere, StandsOn}
-use Rattle.places.specs.About.{aboutOf}
 use Rattle.freeing.specs.declared.Freed.{Freed}
 
 -- the range that is freed next stands last in worker w's part, of m
@@ -34,19 +29,3 @@ freedRow l merged w m = unlinkedIn l (nextToFree merged w m)
 -- H5.28: the free slots with that slot after the others; it is taken first
 unfoldable pub freedFree : List ℕ → List ℕ → ℕ → ℕ → ℕ → List ℕ
 freedFree free merged w m n = set free n (short (nextToFree merged w m))
-
--- a read stands on slot c
-abbrev pub isOn : ℕ → Stance → Bool
-isOn c Nowhere = false
-isOn c (StandsOn g e) = eqb e c
-
-abbrev pub standsOn : Doing → ℕ → Bool
-standsOn d c = isOn c (aboutOf d .stance)
-
--- H5.27: a read that stands on the freed slot c goes to its older neighbour o
-abbrev pub offTo : ℕ → ℕ → Doing → Stance → Doing
-offTo c o d Nowhere = d
-offTo c o d (StandsOn g e) = cond (eqb e c) (ReadStand g o) d
-
-abbrev pub offDoing : ℕ → ℕ → Doing → Doing
-offDoing c o d = offTo c o d (aboutOf d .stance)

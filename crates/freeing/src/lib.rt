@@ -1,10 +1,8 @@
-// Flush (4): a needless version is unlinked and its slot freed, and the reads that stand on it move off.
+// Flush (4): a needless version is unlinked and its slot freed.
 ghost use mathlib.Core.Path.{_≡_};
 ghost use Prim.Native.Nat.{_<_};
 ghost use Rattle.versions.specs.Versions.{rowOf};
-ghost use Rattle.freeing.specs.Freeing.{nextToFree, oneMore, freedStep, freedRow, freedFree, offDoing, standsOn};
-use places::Stance;
-use worker::Doing;
+ghost use Rattle.freeing.specs.Freeing.{nextToFree, oneMore, freedStep, freedRow, freedFree};
 
 // The slot that is freed, its older neighbour, and how many slots are free then.
 pub struct Freed {
@@ -62,34 +60,5 @@ pub fn flush_free(
         slot: (i % 65536) as u16,
         older: (v.older % 65536) as u16,
         free: one_more(n),
-    }
-}
-
-// Whether a read stands on slot c.
-pub fn stands_on(d: Doing, c: u16) -> bool
-    ensures { λ r. ⌜ r ≡ standsOn d c ⌝ }
-{
-    let y = places::about(d);
-    let on = y.stance;
-    match on {
-        Stance::Nowhere => false,
-        Stance::StandsOn { goal: _, slot } => slot == c,
-    }
-}
-
-// A read that stands on slot c moves to slot o.
-pub fn off(d: Doing, c: u16, o: u16) -> Doing
-    ensures { λ r. ⌜ r ≡ offDoing c o d ⌝ }
-{
-    let y = places::about(d);
-    let on = y.stance;
-    match on {
-        Stance::Nowhere => d,
-        Stance::StandsOn { goal, slot } => {
-            if slot == c {
-                return Doing::ReadStand { goal, slot: o };
-            }
-            d
-        }
     }
 }

@@ -1,8 +1,7 @@
 // The marks (H13): what is asked of one, and which worker reads which.
 ghost use mathlib.Core.Path.{_≡_};
-ghost use Prim.Native.Nat.{_+_, _*_, _≤_, _<_};
+ghost use Prim.Native.Nat.{_+_, _≤_, _<_};
 ghost use lib.ListN.{length, take};
-ghost use Rattle.lists.specs.Over.{overAt};
 ghost use Rattle.marks.specs.Marks.{shownAs, readAs, readBy, readNext, readIn, markIn, heldIn, refusalIn, timeIn};
 use places::Stance;
 use worker::Announced;
@@ -161,20 +160,5 @@ pub fn time_for(x: Purpose, t: Announced, marks: &[u64; 12]) -> u64
             plus: _,
             minus: _,
         } => worker::time_of(t),
-    }
-}
-
-// ---- flush (2)
-
-// The times of all marks go behind those of the p workers, in worker w's part of the times that were read.
-pub fn read_all(times: &mut [u64; 448], w: usize, p: usize, marks: &[u64; 12])
-    requires { ⌜ (w < 16) × (p ≤ 16) ⌝ }
-    ensures { λ _. ⌜ now (times .exit) ≡ overAt (28 * w + p) (now (marks .entry)) (now (times .entry)) ⌝ }
-{
-    let to: &mut [u64] = times;
-    let from: &[u64] = marks;
-    let at = 28 * w + p;
-    for i in 0..from.len() {
-        to[at + i] = from[i];
     }
 }

@@ -20,7 +20,7 @@ use Rattle.worker.specs.declared.Worker.{Worker}
 use Rattle.worker.specs.declared.Doing.the-variants as D
 use Rattle.worker.specs.declared.Goal.{Goal}
 use Rattle.worker.specs.Rep.{timesRead, goalRep, doingRep, workerRep}
-use Rattle.freeing.specs.Freeing.{offTo}
+use Rattle.standing.specs.Standing.{offTo}
 use Rattle.state.specs.State.{atPlace}
 use Rattle.marks.specs.Marks.{readBy}
 use Rattle.simulation.specs.Memory.{readOf, readsOver, handWords, inHandWords}

@@ -30,7 +30,8 @@ use Rattle.step.specs.declared.Next.the-variants.{Taken, HandIn, Take, Read, Re
 use Rattle.step.specs.Step.{Stepped, stepOf}
 use Rattle.flush.specs.Flush.{putHandInStep, partOf, withPart, flushReadStep}
 use Rattle.splitting.specs.Splitting.{splitLeft, splitQueue, splitMerged}
-use Rattle.freeing.specs.Freeing.{freedStep, freedRow, freedFree, offDoing}
+use Rattle.freeing.specs.Freeing.{freedStep, freedRow, freedFree}
+use Rattle.standing.specs.Standing.{offDoing}
 use Rattle.simulation.specs.Memory.{Memory, withHub, Result, answered}
 use Rattle.simulation.specs.Left.{ready}
 

@@ -1,7 +1,7 @@
 -- `stands_on` meets its contract: what the place says of a read decides.
 use borrow.Author.Needs.{needs}
-use Rattle.freeing.proofs.stands_on.Statement.{statement}
-use Rattle.freeing.proofs.stands_on.Tie as tie
+use Rattle.standing.proofs.stands_on.Statement.{statement}
+use Rattle.standing.proofs.stands_on.Tie as tie
 
 about-requires : tie.Need-about-requires
 about-requires c κs = search needs

@@ -6,8 +6,8 @@ use native.Mathlib.Omega.{arith}
 use lib.ListN.{length, getD, length-set}
 use lib.Seq.{paste, paste-zero, paste-suc, take-all}
 use Rattle.lists.specs.Over.{overAt}
-use Rattle.marks.proofs.read_all.Statement.{statement}
-use Rattle.marks.proofs.read_all.Tie as tie
+use Rattle.mark_times.proofs.read_all.Statement.{statement}
+use Rattle.mark_times.proofs.read_all.Tie as tie
 
 abbrev Inv-loop : tie.InvT-loop
 Inv-loop w p marks to₀ from at i₀ i-end to i = (i ≤ i-end) × (to ≡ paste to₀ at from i) × (length to ≡ length to₀)

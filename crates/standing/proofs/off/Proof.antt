@@ -1,8 +1,8 @@
 -- `off` meets its contract: where a read stands the test of the slot decides, and elsewhere nothing moves.
 use borrow.Author.Tests.{eq-eqb, ne-eqb}
 use borrow.Author.Needs.{needs}
-use Rattle.freeing.proofs.off.Statement.{statement}
-use Rattle.freeing.proofs.off.Tie as tie
+use Rattle.standing.proofs.off.Statement.{statement}
+use Rattle.standing.proofs.off.Tie as tie
 
 about-requires : tie.Need-about-requires
 about-requires c κs = search needs
