@@ -230,7 +230,7 @@ fn group_ok(row: Named, rows: &[u32; 1024], n: usize) -> bool
 {
     match row {
         Named::Nothing => true,
-        Named::Is(i) => wide16(i) < total_rows::counted(rows, n),
+        Named::Is(i) => wide16(i) < total_row::counted(rows, n),
     }
 }
 

@@ -104,11 +104,11 @@ fn may_on_group<'a>(
         ⌝ }
 {
     let list: &[u32] = rows;
-    let most = total_rows::counted(list, listed);
+    let most = total_row::counted(list, listed);
     for i in 0..most {
         let row = list[i];
-        if total_rows::group_of(row) == group {
-            let register = total_rows::register_of(row) as u64;
+        if total_row::group_of(row) == group {
+            let register = total_row::register_of(row) as u64;
             if !may(rights, n, w, p, Place::At(register)) {
                 return false;
             }

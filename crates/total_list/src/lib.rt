@@ -12,7 +12,7 @@ ghost use Rattle.model.specs.Record.{rowsOf, listFits};
 fn rows_before(group: u16, last: u16, row: u32) -> u16
     ensures { λ r. ⌜ (r ≡ before group last row) × (r ≤ last) ⌝ }
 {
-    if total_rows::group_of(row) == group {
+    if total_row::group_of(row) == group {
         return last;
     }
     0
@@ -22,8 +22,8 @@ fn rows_before(group: u16, last: u16, row: u32) -> u16
 fn may_follow(v: u16, group: u16, stand: u16, row: u32) -> bool
     ensures { λ r. ⌜ r ≡ rowFits v row && leb group (groupOf row) && ltb stand 32 ⌝ }
 {
-    let own = total_rows::group_of(row);
-    let fits = ((own <= 31) & (row / 256 % 256 <= 1)) & (total_rows::register_of(row) < v);
+    let own = total_row::group_of(row);
+    let fits = ((own <= 31) & (row / 256 % 256 <= 1)) & (total_row::register_of(row) < v);
     (fits & (group <= own)) & (stand < 32)
 }
 
@@ -44,7 +44,7 @@ pub fn list_ok(list: &[u8], v: u16) -> bool
         let row = record::four(list, 4 * i);
         let stand = rows_before(group, last, row);
         if may_follow(v, group, stand, row) {
-            group = total_rows::group_of(row);
+            group = total_row::group_of(row);
             last = stand + 1;
         } else {
             return false;
@@ -58,7 +58,7 @@ pub fn fill_rows(rows: &mut [u32; 1024], list: &[u8])
     ensures { λ _. ⌜ now (rows .exit) ≡ over (take 1024 (rowsOf (now (list .entry)))) (now (rows .entry)) ⌝ }
 {
     let to: &mut [u32] = rows;
-    let room = total_rows::counted(to, list.len() / 4);
+    let room = total_row::counted(to, list.len() / 4);
     for i in 0..room {
         to[i] = record::four(list, 4 * i);
     }

@@ -11,7 +11,7 @@ use lib.ListN.{length, getD, take, drop, drop-of-length-le}
 use lib.Seq.{drop-cons}
 use borrow.Author.Tests.{eq-eqb, ne-eqb}
 use Rattle.model.specs.Totals.{groupOf, firstOf}
-use Rattle.total_rows.proofs.Kept.{row-kept}
+use Rattle.total_row.proofs.Kept.{row-kept}
 
 module _ (n : ℕ) (rows : List ℕ) (g : ℕ) where
   -- no row before i is of group g

@@ -1,45 +1,19 @@
-// The rows of totals that a hub keeps, of which the first n count (H12): the parts of one, and a group's rows.
+// The rows of totals that a hub keeps, of which the first n count (H12.5, H12.7): the first of a group, and the next.
 ghost use mathlib.Core.Path.{_≡_};
 ghost use Prim.Native.Nat.{_≤_};
-ghost use lib.ListN.{length, take};
-ghost use Rattle.model.specs.Totals.{groupOf, registerOf, firstOf, rowAt, goesOn};
+ghost use lib.ListN.{take};
+ghost use Rattle.model.specs.Totals.{firstOf, rowAt, goesOn};
 ghost use Rattle.total_rows.specs.Rows.{goalIn};
 use worker::Goal;
 use worker::Purpose;
 use worker::Sum;
-
-// ---- a row
-
-pub fn group_of(row: u32) -> u16
-    ensures { λ r. ⌜ r ≡ groupOf row ⌝ }
-{
-    (row % 256) as u16
-}
-
-pub fn register_of(row: u32) -> u16
-    ensures { λ r. ⌜ r ≡ registerOf row ⌝ }
-{
-    (row / 65536) as u16
-}
-
-// How many rows there are where n count.
-pub fn counted(rows: &[u32], n: usize) -> usize
-    ensures { λ r. ⌜ (r ≡ length (take n (now (rows .entry)))) × (r ≤ n) × (r ≤ length (now (rows .entry))) ⌝ }
-{
-    if n < rows.len() {
-        return n;
-    }
-    rows.len()
-}
-
-// ---- the rows of a hub
 
 // Row i; 0 where there is none.
 pub fn row_at(rows: &[u32; 1024], n: usize, i: usize) -> u32
     ensures { λ r. ⌜ r ≡ rowAt (take n (now (rows .entry))) i ⌝ }
 {
     let list: &[u32] = rows;
-    if i < counted(list, n) {
+    if i < total_row::counted(list, n) {
         return list[i];
     }
     0
@@ -50,9 +24,9 @@ pub fn first_of(rows: &[u32; 1024], n: usize, group: u16) -> usize
     ensures { λ r. ⌜ (r ≡ firstOf group (take n (now (rows .entry)))) × (r ≤ 1024) ⌝ }
 {
     let list: &[u32] = rows;
-    let most = counted(list, n);
+    let most = total_row::counted(list, n);
     for i in 0..most {
-        if group_of(list[i]) == group {
+        if total_row::group_of(list[i]) == group {
             return i;
         }
     }
@@ -64,14 +38,14 @@ pub fn goes_on(rows: &[u32; 1024], n: usize, group: u16, i: u16) -> bool
     ensures { λ r. ⌜ r ≡ goesOn (take n (now (rows .entry))) group i ⌝ }
 {
     let next = (i as usize) + 1;
-    (next < counted(rows, n)) & (group_of(row_at(rows, n, next)) == group)
+    (next < total_row::counted(rows, n)) & (total_row::group_of(row_at(rows, n, next)) == group)
 }
 
 // A total of the group at row i, with the sums of the rows of its group before it.
 pub fn goal_at(rows: &[u32; 1024], n: usize, group: u16, i: usize, sum: Sum) -> Goal
     ensures { λ r. ⌜ r ≡ goalIn (take n (now (rows .entry))) group i sum ⌝ }
 {
-    let register = register_of(row_at(rows, n, i));
+    let register = total_row::register_of(row_at(rows, n, i));
     let row = (i % 65536) as u16;
     Goal {
         register,

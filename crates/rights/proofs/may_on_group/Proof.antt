@@ -8,7 +8,7 @@ use lib.ListN.{getD, take, drop}
 use borrow.Author.Needs.{needs}
 use borrow.Author.Tests.{not-true, not-false}
 use Rattle.model.specs.Rights.{mayOn}
-use Rattle.total_rows.proofs.Kept.{row-kept}
+use Rattle.total_row.proofs.Kept.{row-kept}
 use Rattle.rights.specs.Needs.{permissionOf}
 use Rattle.rights_table.proofs.Scan.{Passed, turn, passed-all}
 use Rattle.rights.proofs.InGroup.{eachIn, none-in, own-fails, own-behind, other-behind}

@@ -9,7 +9,7 @@ use Rattle.lists.specs.Over.{over}
 use Rattle.lists.proofs.Over.{over-nil}
 use Rattle.model.specs.Record.{rowsOf}
 use Rattle.total_list.proofs.Listed.{length-rows, filled-more}
-use Rattle.total_rows.proofs.Kept.{take-room}
+use Rattle.total_row.proofs.Kept.{take-room}
 use Rattle.total_list.proofs.fill_rows.Statement.{statement}
 use Rattle.total_list.proofs.fill_rows.Tie as tie
 

@@ -3,7 +3,7 @@ use mathlib.Core.Path.{sym}
 use native.Mathlib.Omega.{arith}
 use lib.ListN.{take, List·getD-eq-default}
 use borrow.Author.Needs.{needs}
-use Rattle.total_rows.proofs.Kept.{row-kept}
+use Rattle.total_row.proofs.Kept.{row-kept}
 use Rattle.total_rows.proofs.row_at.Statement.{statement}
 use Rattle.total_rows.proofs.row_at.Tie as tie
 

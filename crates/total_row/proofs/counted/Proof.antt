@@ -1,8 +1,8 @@
 -- `counted` meets its contract: a part of a list is as long as the smaller of the two numbers says.
 use native.Mathlib.Omega.{arith}
 use lib.ListN.{length-take}
-use Rattle.total_rows.proofs.counted.Statement.{statement}
-use Rattle.total_rows.proofs.counted.Tie as tie
+use Rattle.total_row.proofs.counted.Statement.{statement}
+use Rattle.total_row.proofs.counted.Tie as tie
 
 returns : tie.Need-returns
 returns c = let a = c .before .args in (omega (arith, length-take (a .n) (a .rows .now)), omega arith, omega arith)
