@@ -1,0 +1,235 @@
+// Lent memory that is made of thirty numbers, one of each kind that has a range. What is not among them is 0, absent, or a worker's start.
+use slots::Slot;
+use state::Hub;
+use values::Answer;
+use values::Window;
+use worker::Doing;
+use worker::Goal;
+use worker::Purpose;
+use worker::TimeStep;
+use worker::Worker;
+
+// Five workers, so that B is 15, two registers and 2048 slots, and each number in its range.
+// - The hub's sizes and counts: P, V, N, free slots, queued pools, queued ranges, at which length and at which range the queue begins, rows of totals,
+//   rows of rights.
+// - Entries of what is lent: a newest slot, a free slot, an older and a newer neighbour, the slot of a queued range, how many ranges the queue's pool
+//   has besides the queued ones, the slot of a range in hand, the register of a row of totals, the worker of a row of rights; and how many slots are
+//   lent.
+// - In workers' records: the length of a local pool and a slot in it, a register, a slot, how many ranges are in hand and how many times were
+//   read, the row of a total and its two sums, a mark.
+pub fn usual() -> [[u64; 10]; 3] {
+    [
+        [5, 2, 2048, 1, 1, 2, 3, 5, 2, 2],
+        [1, 1, 1, 1, 1, 0, 1, 1, 4, 2048],
+        [1, 1, 1, 1, 60, 5, 1, 0, 0, 0],
+    ]
+}
+
+// The largest that each may be beside the others; of the slots that are lent one too few.
+pub fn limits() -> [[u64; 10]; 3] {
+    [
+        [16, 256, 2048, 2046, 1, 30, 5, 2048, 1024, 64],
+        [2047, 2047, 2047, 2047, 2047, 0, 2047, 1, 15, 2047],
+        [15, 2047, 1, 2047, 60, 5, 1, SUM, SUM, 11],
+    ]
+}
+
+// 31 values of twelve digits.
+const SUM: u64 = 30999999999969;
+
+fn short(x: u64) -> u16 {
+    (x % 65536) as u16
+}
+
+// ---- workers
+
+fn at(doing: Doing) -> Worker {
+    let start = Worker::start();
+    Worker { doing, ..start }
+}
+
+fn flushing(merged: u64, read: u64) -> Worker {
+    at(Doing::FlushRead {
+        merged: short(merged),
+        read: (read % 256) as u8,
+    })
+}
+
+fn totaling(row: u64, plus: u64, minus: u64) -> Worker {
+    let purpose = Purpose::Totaling {
+        group: 7,
+        row: short(row),
+        status: 0,
+        plus,
+        minus,
+    };
+    at(Doing::ReadEnter {
+        goal: Goal {
+            register: 0,
+            purpose,
+        },
+    })
+}
+
+// One that is idle, with a local pool.
+fn pooled(len: u64, slot: u64) -> Worker {
+    let start = Worker::start();
+    let mut pool = start.pool;
+    pool.len = len as usize;
+    pool.slots[0] = short(slot);
+    Worker { pool, ..start }
+}
+
+fn workers_of(w: [u64; 10]) -> [Worker; 16] {
+    let putting = at(Doing::PutStamp {
+        register: short(w[2]),
+        covered: short(w[3]),
+    });
+    let marking = at(Doing::OnTime(TimeStep::MarkKeep(short(w[9]))));
+    let flushes = flushing(w[4], w[5]);
+    let totals = totaling(w[6], w[7], w[8]);
+    let idle = pooled(w[0], w[1]);
+    let s = Worker::start();
+    [
+        putting,
+        flushes,
+        totals,
+        marking,
+        idle,
+        s,
+        s,
+        s,
+        s,
+        s,
+        s,
+        s,
+        s,
+        s,
+        s,
+        s,
+    ]
+}
+
+// ---- the hub by value
+
+// A row of totals that counts has group 7, more than there are registers: a group has no range here.
+fn rows_of(e: [u64; 10]) -> [u32; 1024] {
+    let mut rows = [0u32; 1024];
+    rows[1] = 65536 * ((e[7] % 256) as u32) + 7;
+    rows
+}
+
+// The first row of rights lets worker 4 do all.
+fn rights_of(e: [u64; 10]) -> [u64; 64] {
+    let mut rights = [0u64; 64];
+    rights[0] = 1095216664324;
+    rights[1] = e[8];
+    rights
+}
+
+fn fresh_of(z: [u64; 10], e: [u64; 10]) -> Hub {
+    Hub::fresh(
+        z[0] as usize,
+        z[1] as usize,
+        z[2] as usize,
+        1,
+        z[8] as usize,
+        rows_of(e),
+        z[9] as usize,
+        rights_of(e),
+    )
+}
+
+fn hub_of(x: [[u64; 10]; 3]) -> Hub {
+    let z = x[0];
+    let h = fresh_of(z, x[1]);
+    let window = Window {
+        first: z[6] as usize,
+        pools: z[4] as usize,
+        from: z[7] as usize,
+        queued: z[5] as usize,
+    };
+    let workers = workers_of(x[2]);
+    Hub {
+        free: z[3] as usize,
+        window,
+        workers,
+        ..h
+    }
+}
+
+// ---- what is lent beside it
+
+fn slots_of(e: [u64; 10]) -> [Slot; 2048] {
+    let vacant = slots::vacant();
+    let none = Slot {
+        older: 4294967296,
+        newer: 4294967296,
+        ..vacant
+    };
+    let mut slots = [none; 2048];
+    slots[1] = Slot {
+        older: e[2] as usize,
+        newer: e[3] as usize,
+        ..none
+    };
+    slots
+}
+
+fn newest_of(e: [u64; 10]) -> [u16; 256] {
+    let mut newest = [0u16; 256];
+    newest[1] = short(e[0]);
+    newest
+}
+
+fn free_of(e: [u64; 10]) -> [u16; 2048] {
+    let mut free = [0u16; 2048];
+    free[0] = short(e[1]);
+    free
+}
+
+// The first queued range.
+fn queue_of(z: [u64; 10], e: [u64; 10]) -> [u32; 12288] {
+    let mut queue = [0u32; 12288];
+    queue[3 * (z[7] % 4096) as usize] = (e[4] % 65536) as u32;
+    queue
+}
+
+// The one pool.
+fn lens_of(z: [u64; 10], e: [u64; 10]) -> [u32; 4096] {
+    let mut lens = [0u32; 4096];
+    lens[(z[6] % 4096) as usize] = (z[5] % 65536 + e[5] % 65536) as u32;
+    lens
+}
+
+// The first range of worker 1's list.
+fn merged_of(e: [u64; 10]) -> [u32; 12288] {
+    let mut merged = [0u32; 12288];
+    merged[768] = (e[6] % 65536) as u32;
+    merged
+}
+
+// What a record is answered on this memory.
+pub fn answer_on(x: [[u64; 10]; 3], rec: &[u8]) -> Answer {
+    let z = x[0];
+    let e = x[1];
+    let mut newest = newest_of(e);
+    let mut free = free_of(e);
+    let mut queue = queue_of(z, e);
+    let mut lens = lens_of(z, e);
+    let mut merged = merged_of(e);
+    let done = hub::apply_row(
+        slots_of(e),
+        e[9] as usize,
+        hub_of(x),
+        &[],
+        rec,
+        &mut newest,
+        &mut free,
+        &mut queue,
+        &mut lens,
+        &mut merged,
+    );
+    let applied = done.applied;
+    applied.answer
+}
