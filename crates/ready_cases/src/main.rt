@@ -1,11 +1,10 @@
 // When lent memory counts as set up (H8). The theorem `ready-exact` (crates/simulation) says of every memory that it does exactly where each number in
-// it is in its range. What a run adds is that the program as built does so: one number of each kind is put at the largest value in its range, and
-// at one more, each alone in memory that is in its ranges. A line names the number and the value, and shows by which number a get and a
-// setup are refused then, 0 where they are not: `0 9` where the memory counts as set up, `8 0` where it does not.
+// it is in its range, and the contract of `ready::ready` that the code asks just that. What a run adds is that the code as built does so: one number
+// of each kind is put at the largest value in its range, and at one more, each alone in memory that is in its ranges. A line names the number and
+// the value, and says whether the memory counts as set up then. What records are answered where it does not is in the runs of `hublog` and `eachlog`.
 mod memory;
 
 use libc::STDOUT_FILENO;
-use values::Answer;
 
 // The numbers, in their order, and their largest values.
 const NAMES: [[u8; 32]; 30] = [
@@ -49,36 +48,27 @@ fn name_of(k: usize) -> [u8; 32] {
     NAMES[k % 30]
 }
 
-// The digit of the refusal.
-fn digit_of(answer: Answer) -> u8 {
-    match answer {
-        Answer::Ok => b'0',
-        Answer::No(refusal) => 48 + refusal % 10,
-        _ => b'?',
+fn write_word(yes: bool) {
+    if yes {
+        write(b"yes");
+    } else {
+        write(b"no");
     }
 }
 
-// By which numbers a get of the idle worker 4 and a setup are refused where number k has this value.
-fn tried(k: usize, value: u64) -> [u8; 3] {
+// Whether memory counts as set up where number k has this value.
+fn ready_with(k: usize, value: u64) -> bool {
     let mut x = memory::usual();
     x[k / 10 % 3][k % 10] = value;
-    let get = [5, 4, 0, 0, 0, 0, 0, 0, 0, 0, 0, 0, 0, 0, 0, 0];
-    let setup = [0, 1, 1, 0, 1, 0, 0, 0, 1, 0, 0, 0, 0, 0, 0, 0];
-    [
-        digit_of(memory::answer_on(x, &get)),
-        b' ',
-        digit_of(memory::answer_on(x, &setup)),
-    ]
+    memory::is_ready(x)
 }
 
 // Number k at this value and at one more, under a name.
 fn show(name: &[u8], k: usize, value: u64) {
-    let first = tried(k, value);
-    let second = tried(k, std::num::wrapping_add_u64(value, 1));
     write(name);
-    write(&first);
+    write_word(ready_with(k, value));
     write(b", one more: ");
-    write(&second);
+    write_word(ready_with(k, std::num::wrapping_add_u64(value, 1)));
     write(b"\n");
 }
 

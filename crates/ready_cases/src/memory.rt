@@ -1,7 +1,5 @@
 // Lent memory that is made of thirty numbers, one of each kind that has a range. What is not among them is 0, absent, or a worker's start.
-use slots::Slot;
 use state::Hub;
-use values::Answer;
 use values::Window;
 use worker::Doing;
 use worker::Goal;
@@ -119,10 +117,8 @@ fn rows_of(e: [u64; 10]) -> [u32; 1024] {
     rows
 }
 
-// The first row of rights lets worker 4 do all.
 fn rights_of(e: [u64; 10]) -> [u64; 64] {
     let mut rights = [0u64; 64];
-    rights[0] = 1095216664324;
     rights[1] = e[8];
     rights
 }
@@ -160,20 +156,11 @@ fn hub_of(x: [[u64; 10]; 3]) -> Hub {
 
 // ---- what is lent beside it
 
-fn slots_of(e: [u64; 10]) -> [Slot; 2048] {
-    let vacant = slots::vacant();
-    let none = Slot {
-        older: 4294967296,
-        newer: 4294967296,
-        ..vacant
-    };
-    let mut slots = [none; 2048];
-    slots[1] = Slot {
-        older: e[2] as usize,
-        newer: e[3] as usize,
-        ..none
-    };
-    slots
+// The slots as words: the fourth and the fifth of a slot are its neighbours.
+fn row_of(e: [u64; 10]) -> [[u64; 6]; 2048] {
+    let mut row = [[0u64; 6]; 2048];
+    row[1] = [0, 0, 0, e[2], e[3], 0];
+    row
 }
 
 fn newest_of(e: [u64; 10]) -> [u16; 256] {
@@ -209,27 +196,18 @@ fn merged_of(e: [u64; 10]) -> [u32; 12288] {
     merged
 }
 
-// What a record is answered on this memory.
-pub fn answer_on(x: [[u64; 10]; 3], rec: &[u8]) -> Answer {
+// Whether this memory counts as set up, as the loop over the records asks it before the first.
+pub fn is_ready(x: [[u64; 10]; 3]) -> bool {
     let z = x[0];
     let e = x[1];
-    let mut newest = newest_of(e);
-    let mut free = free_of(e);
-    let mut queue = queue_of(z, e);
-    let mut lens = lens_of(z, e);
-    let mut merged = merged_of(e);
-    let done = hub::apply_row(
-        slots_of(e),
-        e[9] as usize,
-        hub_of(x),
-        &[],
-        rec,
-        &mut newest,
-        &mut free,
-        &mut queue,
-        &mut lens,
-        &mut merged,
-    );
-    let applied = done.applied;
-    applied.answer
+    let hub = hub_of(x);
+    let row = row_of(e);
+    let long = (e[9] % 2049) as usize;
+    let linked = versions::all_linked(&row[0..long], hub.n);
+    let newest = newest_of(e);
+    let free = free_of(e);
+    let queue = queue_of(z, e);
+    let lens = lens_of(z, e);
+    let merged = merged_of(e);
+    ready::ready(hub, &newest, &free, &queue, &lens, &merged, linked, long)
 }
