@@ -46,20 +46,27 @@ fn at(doing: Doing) -> Worker {
     Worker { doing, ..start }
 }
 
-fn flushing(merged: u64, read: u64) -> Worker {
-    at(Doing::FlushRead {
-        merged: short(merged),
-        read: (read % 256) as u8,
+fn putting(w: [u64; 10]) -> Worker {
+    at(Doing::PutStamp {
+        register: short(w[2]),
+        covered: short(w[3]),
     })
 }
 
-fn totaling(row: u64, plus: u64, minus: u64) -> Worker {
+fn flushing(w: [u64; 10]) -> Worker {
+    at(Doing::FlushRead {
+        merged: short(w[4]),
+        read: (w[5] % 256) as u8,
+    })
+}
+
+fn totaling(w: [u64; 10]) -> Worker {
     let purpose = Purpose::Totaling {
         group: 7,
-        row: short(row),
+        row: short(w[6]),
         status: 0,
-        plus,
-        minus,
+        plus: w[7],
+        minus: w[8],
     };
     at(Doing::ReadEnter {
         goal: Goal {
@@ -69,43 +76,28 @@ fn totaling(row: u64, plus: u64, minus: u64) -> Worker {
     })
 }
 
+fn marking(w: [u64; 10]) -> Worker {
+    at(Doing::OnTime(TimeStep::MarkKeep(short(w[9]))))
+}
+
 // One that is idle, with a local pool.
-fn pooled(len: u64, slot: u64) -> Worker {
+fn pooled(w: [u64; 10]) -> Worker {
     let start = Worker::start();
     let mut pool = start.pool;
-    pool.len = len as usize;
-    pool.slots[0] = short(slot);
+    pool.len = w[0] as usize;
+    pool.slots[0] = short(w[1]);
     Worker { pool, ..start }
 }
 
 fn workers_of(w: [u64; 10]) -> [Worker; 16] {
-    let putting = at(Doing::PutStamp {
-        register: short(w[2]),
-        covered: short(w[3]),
-    });
-    let marking = at(Doing::OnTime(TimeStep::MarkKeep(short(w[9]))));
-    let flushes = flushing(w[4], w[5]);
-    let totals = totaling(w[6], w[7], w[8]);
-    let idle = pooled(w[0], w[1]);
     let s = Worker::start();
-    [
-        putting,
-        flushes,
-        totals,
-        marking,
-        idle,
-        s,
-        s,
-        s,
-        s,
-        s,
-        s,
-        s,
-        s,
-        s,
-        s,
-        s,
-    ]
+    let mut workers = [s; 16];
+    workers[0] = putting(w);
+    workers[1] = flushing(w);
+    workers[2] = totaling(w);
+    workers[3] = marking(w);
+    workers[4] = pooled(w);
+    workers
 }
 
 // ---- the hub by value
