@@ -13,6 +13,7 @@ ghost use Rattle.slots.specs.Slots.{madeTo};
 ghost use Rattle.state.specs.State.{freshHub, standingCount};
 ghost use Rattle.arrays.specs.Arrays.{short, fillTo};
 ghost use Rattle.versions.specs.Versions.{rowOf};
+ghost use Rattle.simulation.specs.Memory.{memory};
 ghost use Rattle.simulation.specs.Loop.{Ran};
 ghost use Rattle.simulation.specs.Records.{recordAt};
 use gate::Gate;
@@ -158,25 +159,11 @@ pub fn run(
 ) -> Ended
     ensures { λ r. ⌜
         Ran
-        (record {
-          hub = start;
-          slots = rowOf (now (row .entry));
-          newest = now (newest .entry);
-          free = now (free .entry);
-          queue = now (queue .entry);
-          lens = now (lens .entry);
-          merged = now (merged .entry);
-        })
+        (memory start (rowOf (now (row .entry)))
+        (now (newest .entry)) (now (free .entry)) (now (queue .entry)) (now (lens .entry)) (now (merged .entry)))
         (now (list .entry)) (now (bytes .entry)) (now (kinds .entry)) (now (numbers .entry)) count
-        (record {
-          hub = r .hub;
-          slots = rowOf (now (row .exit));
-          newest = now (newest .exit);
-          free = now (free .exit);
-          queue = now (queue .exit);
-          lens = now (lens .exit);
-          merged = now (merged .exit);
-        })
+        (memory (r .hub) (rowOf (now (row .exit)))
+        (now (newest .exit)) (now (free .exit)) (now (queue .exit)) (now (lens .exit)) (now (merged .exit)))
         (now (kinds .exit)) (now (numbers .exit)) (r .last)
         ⌝ }
 {

@@ -1,9 +1,10 @@
-// The doors to the loop over the records (crate `core`): the slots as one lent row of structs, of any length. The first 2048 of them are read
-// into words, the loop runs on the words, and they are written back.
+// The doors to the loop over the records (crate `core`). For one record the slots are one lent row of structs, of any length: the first 2048 of them
+// are read into words, the loop runs on the words, and they are written back. For a buffer of records and for a table the row is one of words.
 ghost use mathlib.Core.Path.{_≡_};
 ghost use Prim.Native.Nat.{min};
 ghost use lib.ListN.{replicate, take, drop};
 ghost use Rattle.versions.specs.Versions.{rowOf};
+ghost use Rattle.simulation.specs.Memory.{memory};
 ghost use Rattle.simulation.specs.Public.{Does};
 ghost use Rattle.simulation.specs.Buffer.{Applies};
 ghost use Rattle.simulation.specs.Tables.{Gives};
@@ -63,25 +64,11 @@ pub fn apply(
 ) -> Applied
     ensures { λ r. ⌜
         Does
-        (record {
-          hub = hub;
-          slots = now (slots .entry);
-          newest = now (newest .entry);
-          free = now (free .entry);
-          queue = now (queue .entry);
-          lens = now (lens .entry);
-          merged = now (merged .entry);
-        })
+        (memory hub (now (slots .entry))
+        (now (newest .entry)) (now (free .entry)) (now (queue .entry)) (now (lens .entry)) (now (merged .entry)))
         (now (list .entry)) (now (rec .entry)) (r .answer)
-        (record {
-          hub = r .hub;
-          slots = now (slots .exit);
-          newest = now (newest .exit);
-          free = now (free .exit);
-          queue = now (queue .exit);
-          lens = now (lens .exit);
-          merged = now (merged .exit);
-        })
+        (memory (r .hub) (now (slots .exit))
+        (now (newest .exit)) (now (free .exit)) (now (queue .exit)) (now (lens .exit)) (now (merged .exit)))
         ⌝ }
 {
     let mut row = zeros();
@@ -125,25 +112,11 @@ pub fn apply_words(
 ) -> Counted
     ensures { λ r. ⌜
         Applies
-        (record {
-          hub = hub;
-          slots = rowOf (now (row .entry));
-          newest = now (newest .entry);
-          free = now (free .entry);
-          queue = now (queue .entry);
-          lens = now (lens .entry);
-          merged = now (merged .entry);
-        })
+        (memory hub (rowOf (now (row .entry)))
+        (now (newest .entry)) (now (free .entry)) (now (queue .entry)) (now (lens .entry)) (now (merged .entry)))
         (now (list .entry)) (now (bytes .entry)) (now (kinds .entry)) (now (numbers .entry)) (r .count)
-        (record {
-          hub = r .hub;
-          slots = rowOf (now (row .exit));
-          newest = now (newest .exit);
-          free = now (free .exit);
-          queue = now (queue .exit);
-          lens = now (lens .exit);
-          merged = now (merged .exit);
-        })
+        (memory (r .hub) (rowOf (now (row .exit)))
+        (now (newest .exit)) (now (free .exit)) (now (queue .exit)) (now (lens .exit)) (now (merged .exit)))
         (now (kinds .exit)) (now (numbers .exit))
         ⌝ }
 {
@@ -181,25 +154,11 @@ pub fn give_table_words<'a>(
 ) -> Applied
     ensures { λ r. ⌜
         Gives
-        (record {
-          hub = hub;
-          slots = rowOf (now (row .entry));
-          newest = now (newest .entry);
-          free = now (free .entry);
-          queue = now (queue .entry);
-          lens = now (lens .entry);
-          merged = now (merged .entry);
-        })
+        (memory hub (rowOf (now (row .entry)))
+        (now (newest .entry)) (now (free .entry)) (now (queue .entry)) (now (lens .entry)) (now (merged .entry)))
         (now (table .entry)) (r .answer)
-        (record {
-          hub = r .hub;
-          slots = rowOf (now (row .entry));
-          newest = now (newest .entry);
-          free = now (free .entry);
-          queue = now (queue .entry);
-          lens = now (lens .entry);
-          merged = now (merged .entry);
-        })
+        (memory (r .hub) (rowOf (now (row .entry)))
+        (now (newest .entry)) (now (free .entry)) (now (queue .entry)) (now (lens .entry)) (now (merged .entry)))
         ⌝ }
 {
     let n = row.len();
@@ -230,25 +189,11 @@ pub fn apply_row(
     ensures { λ r. ⌜
         (drop (min long 2048) (r .slots) ≡ drop (min long 2048) row)
         × Does
-        (record {
-          hub = hub;
-          slots = take (min long 2048) row;
-          newest = now (newest .entry);
-          free = now (free .entry);
-          queue = now (queue .entry);
-          lens = now (lens .entry);
-          merged = now (merged .entry);
-        })
+        (memory hub (take (min long 2048) row)
+        (now (newest .entry)) (now (free .entry)) (now (queue .entry)) (now (lens .entry)) (now (merged .entry)))
         (now (list .entry)) (now (rec .entry)) (r .applied .answer)
-        (record {
-          hub = r .applied .hub;
-          slots = take (min long 2048) (r .slots);
-          newest = now (newest .exit);
-          free = now (free .exit);
-          queue = now (queue .exit);
-          lens = now (lens .exit);
-          merged = now (merged .exit);
-        })
+        (memory (r .applied .hub) (take (min long 2048) (r .slots))
+        (now (newest .exit)) (now (free .exit)) (now (queue .exit)) (now (lens .exit)) (now (merged .exit)))
         ⌝ }
 {
     let mut slots = row;

@@ -3,6 +3,7 @@ ghost use mathlib.Core.Path.{_≡_};
 ghost use Prim.Native.Nat.{_*_, _/_, _≤_, min};
 ghost use lib.ListN.{length};
 ghost use Rattle.versions.specs.Versions.{rowOf};
+ghost use Rattle.simulation.specs.Memory.{memory};
 ghost use Rattle.logs.specs.Part.{Logs};
 use state::Hub;
 
@@ -44,25 +45,11 @@ pub fn log_part(
 ) -> Logged
     ensures { λ r. ⌜
         Logs
-        (record {
-          hub = hub;
-          slots = rowOf (now (row .entry));
-          newest = now (newest .entry);
-          free = now (free .entry);
-          queue = now (queue .entry);
-          lens = now (lens .entry);
-          merged = now (merged .entry);
-        })
+        (memory hub (rowOf (now (row .entry)))
+        (now (newest .entry)) (now (free .entry)) (now (queue .entry)) (now (lens .entry)) (now (merged .entry)))
         (now (list .entry)) (now (bytes .entry)) first (now (text .entry)) (now (kinds .entry)) (now (numbers .entry)) (r .count) (r .used)
-        (record {
-          hub = r .hub;
-          slots = rowOf (now (row .exit));
-          newest = now (newest .exit);
-          free = now (free .exit);
-          queue = now (queue .exit);
-          lens = now (lens .exit);
-          merged = now (merged .exit);
-        })
+        (memory (r .hub) (rowOf (now (row .exit)))
+        (now (newest .exit)) (now (free .exit)) (now (queue .exit)) (now (lens .exit)) (now (merged .exit)))
         (now (text .exit)) (now (kinds .exit)) (now (numbers .exit))
         ⌝ }
     ensures { λ r. ⌜ r .used ≤ length (now (text .exit)) ⌝ }

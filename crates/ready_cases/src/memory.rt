@@ -195,7 +195,7 @@ pub fn is_ready(x: [[u64; 10]; 3]) -> bool {
     let hub = hub_of(x);
     let row = row_of(e);
     let long = (e[9] % 2049) as usize;
-    let linked = versions::all_linked(&row[0..long], hub.n);
+    let linked = all_versions::all_linked(&row[0..long], hub.n);
     let newest = newest_of(e);
     let free = free_of(e);
     let queue = queue_of(z, e);

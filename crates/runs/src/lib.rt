@@ -4,6 +4,7 @@ ghost use mathlib.Core.Path.{_≡_};
 ghost use Prim.Native.Nat.{_+_, _/_, _≤_};
 ghost use lib.ListN.{length, take, drop};
 ghost use Rattle.versions.specs.Versions.{rowOf};
+ghost use Rattle.simulation.specs.Memory.{memory};
 ghost use Rattle.simulation.specs.Loop.{RanAll};
 ghost use Rattle.simulation.specs.Tables.{Gives};
 ghost use Rattle.runs.specs.Runs.{One};
@@ -45,25 +46,11 @@ pub fn run_one(
     ensures { λ r. ⌜
         (drop n (now (row .exit)) ≡ drop n (now (row .entry)))
         × One
-        (record {
-          hub = hub;
-          slots = take n (rowOf (now (row .entry)));
-          newest = now (newest .entry);
-          free = now (free .entry);
-          queue = now (queue .entry);
-          lens = now (lens .entry);
-          merged = now (merged .entry);
-        })
+        (memory hub (take n (rowOf (now (row .entry))))
+        (now (newest .entry)) (now (free .entry)) (now (queue .entry)) (now (lens .entry)) (now (merged .entry)))
         (now (list .entry)) (now (rec .entry))
-        (record {
-          hub = r .hub;
-          slots = take n (rowOf (now (row .exit)));
-          newest = now (newest .exit);
-          free = now (free .exit);
-          queue = now (queue .exit);
-          lens = now (lens .exit);
-          merged = now (merged .exit);
-        })
+        (memory (r .hub) (take n (rowOf (now (row .exit))))
+        (now (newest .exit)) (now (free .exit)) (now (queue .exit)) (now (lens .exit)) (now (merged .exit)))
         (r .answer)
         ⌝ }
 {
@@ -105,25 +92,11 @@ pub fn give_table<'a>(
     requires { ⌜ n ≤ length (now row) ⌝ }
     ensures { λ r. ⌜
         Gives
-        (record {
-          hub = hub;
-          slots = take n (rowOf (now (row .entry)));
-          newest = now (newest .entry);
-          free = now (free .entry);
-          queue = now (queue .entry);
-          lens = now (lens .entry);
-          merged = now (merged .entry);
-        })
+        (memory hub (take n (rowOf (now (row .entry))))
+        (now (newest .entry)) (now (free .entry)) (now (queue .entry)) (now (lens .entry)) (now (merged .entry)))
         (now (table .entry)) (r .answer)
-        (record {
-          hub = r .hub;
-          slots = take n (rowOf (now (row .entry)));
-          newest = now (newest .entry);
-          free = now (free .entry);
-          queue = now (queue .entry);
-          lens = now (lens .entry);
-          merged = now (merged .entry);
-        })
+        (memory (r .hub) (take n (rowOf (now (row .entry))))
+        (now (newest .entry)) (now (free .entry)) (now (queue .entry)) (now (lens .entry)) (now (merged .entry)))
         ⌝ }
 {
     let first = &row[0..n];
@@ -177,25 +150,11 @@ pub fn run_all(
     ensures { λ r. ⌜
         (drop n (now (row .exit)) ≡ drop n (now (row .entry)))
         × RanAll
-        (record {
-          hub = hub;
-          slots = take n (rowOf (now (row .entry)));
-          newest = now (newest .entry);
-          free = now (free .entry);
-          queue = now (queue .entry);
-          lens = now (lens .entry);
-          merged = now (merged .entry);
-        })
+        (memory hub (take n (rowOf (now (row .entry))))
+        (now (newest .entry)) (now (free .entry)) (now (queue .entry)) (now (lens .entry)) (now (merged .entry)))
         (now (list .entry)) (now (bytes .entry)) (now (kinds .entry)) (now (numbers .entry)) (r .count)
-        (record {
-          hub = r .hub;
-          slots = take n (rowOf (now (row .exit)));
-          newest = now (newest .exit);
-          free = now (free .exit);
-          queue = now (queue .exit);
-          lens = now (lens .exit);
-          merged = now (merged .exit);
-        })
+        (memory (r .hub) (take n (rowOf (now (row .exit))))
+        (now (newest .exit)) (now (free .exit)) (now (queue .exit)) (now (lens .exit)) (now (merged .exit)))
         (now (kinds .exit)) (now (numbers .exit))
         ⌝ }
 {
