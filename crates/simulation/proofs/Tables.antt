@@ -21,14 +21,13 @@ use Rattle.ready.specs.Ready.{sizesFit, scansFit, readyOf}
 use Rattle.slots.specs.Slots.{slotOf}
 use Rattle.state.specs.declared.Hub.{Hub}
 use Rattle.state.specs.State.{standing, tableSound}
-use Rattle.simulation.specs.Memory.{Memory, cut, withHub, Result, answered}
+use Rattle.simulation.specs.Memory.{Memory, withHub, Result, answered}
 use Rattle.simulation.specs.Left.{Sized, Left, ready}
 use Rattle.simulation.specs.Holds.{Holds}
 use Rattle.simulation.specs.Tables.{tabledHub, tableGiven, Gives, emptiedIn}
 use Rattle.simulation.proofs.Laid.{cond-yes}
 use Rattle.simulation.proofs.Fresh.{up-length}
 use Rattle.simulation.proofs.Assembly.{left-ready}
-use Rattle.simulation.proofs.Cut.{ready-cut}
 
 module _ (m : Memory) (bytes : List ℕ) where
   length-table : length (tableOf bytes) ≡ length bytes / 8
@@ -86,28 +85,3 @@ late s m m′ bytes y L Z G =
 pub empty : (m : Memory) → Holds (blank (record { row = map slotOf (m .slots); table = [] })) (emptiedIn m)
 unfolding ready readyOf scansFit sizesFit eachOf
 empty m = (refl, refl)
-
--- ---- only the first 2048 slots matter, and only the hub by value is changed
-module _ (m : Memory) (h : Hub) (bytes : List ℕ) where
-  -- what is left and answered on the memory n, which has m's hub by value: t where it counts as set up, u where the table fits
-  abbrev outcome : Memory → Bool → Bool → Result
-  outcome n t u = cond t (answered n (No 9)) (cond u (answered (withHub n (tabledHub (m .hub) bytes)) Ok) (answered n (No 24)))
-
-  answer-cut : (t u : Bool) → outcome (cut m) t u .answer ≡ outcome m t u .answer
-  answer-cut true u = refl
-  answer-cut false true = refl
-  answer-cut false false = refl
-
-  memory-cut : (t u : Bool) → cut (withHub m h) ≡ outcome (cut m) t u .memory → withHub m h ≡ outcome m t u .memory
-  memory-cut true u e = ap (λ (z : Memory). withHub m (z .hub)) e
-  memory-cut false true e = ap (λ (z : Memory). withHub m (z .hub)) e
-  memory-cut false false e = ap (λ (z : Memory). withHub m (z .hub)) e
-
-pub given-cut : (m : Memory) (h : Hub) (bytes : List ℕ) (y : Answer) → Gives (cut m) bytes y (cut (withHub m h)) → Gives m bytes y (withHub m h)
-unfolding tableGiven
-given-cut m h bytes y G =
-    let a : y ≡ outcome m h bytes (cut m) (ready m) (tableFits bytes) .answer =
-    subst (λ (t : Bool). y ≡ outcome m h bytes (cut m) t (tableFits bytes) .answer) (ready-cut m) (G .answer) in
-    let l : cut (withHub m h) ≡ outcome m h bytes (cut m) (ready m) (tableFits bytes) .memory =
-    subst (λ (t : Bool). cut (withHub m h) ≡ outcome m h bytes (cut m) t (tableFits bytes) .memory) (ready-cut m) (G .memory) in
-    record { memory = memory-cut m h bytes (ready m) (tableFits bytes) l; answer = a ∙ answer-cut m h bytes (ready m) (tableFits bytes) }

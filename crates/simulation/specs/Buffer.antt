@@ -1,4 +1,4 @@
--- The contract of the public functions that apply the records of a buffer.
+-- The contract of the public function that applies the records of a buffer.
 use mathlib.Core.Path.{_≡_}
 use mathlib.Core.Bool.{Bool, false, _||_}
 use mathlib.Core.List.{List, [], _∷_, map}

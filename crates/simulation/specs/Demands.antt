@@ -121,7 +121,7 @@ pub record Demands : Type 0 where
   -- The answers to a file are those of the model's log of it.
   pub log : (h : Hub) (m : Memory) (cs : List CallIn) (list file : List ℕ) → Holds h m → Calls m cs → InParts list cs file
       → map (λ e. e .answer) (exchanges cs) ≡ answersTo h (allUnder (inForce list) (recordsOf file))
-  -- Of a row of more than 2048 slots the contract of a buffer names the first 2048; a call for one record keeps to them too (H8.7).
+  -- Of a row of more than 2048 slots a call for one record keeps to the first 2048 (H8.7).
   pub firstSlots : (m m′ : Memory) (list b : List ℕ) (y : Answer) → Sized m → Does m list b y m′ → Does (cut m) list b y (cut m′)
   -- Memory that records left counts as set up (H8.5).
   pub leftIsReady : (s : Store) (m : Memory) → Left s m → Sized m → ready m ≡ true
