@@ -3,7 +3,7 @@ ghost use mathlib.Core.Path.{_≡_};
 ghost use Rattle.model.specs.Batch.{batchOf};
 
 // H1.24: B for p workers, one line for each number that a hub may have.
-pub fn batch(p: u8) -> u32
+pub fn batch(p: u8) -> u8
     ensures { λ r. ⌜ r ≡ batchOf p ⌝ }
 {
     match p {

@@ -10,7 +10,6 @@ use lib.ListN.{length, getD, set, take, length-set, length-map, replicate}
 use Rattle.lists.specs.Over.{over, overAt}
 use Rattle.lists.proofs.Mapped.{mapped, mapped-all}
 use Rattle.model.specs.Record as Model
-use Rattle.model.specs.Record.{rowsOf}
 use Rattle.values.specs.declared.Answer.{Answer}
 use Rattle.values.specs.declared.Answer.the-variants.{Ok, Going, Freed, Done, No}
 use Rattle.answers.specs.Numbers.{kindOf, numberOf}
@@ -31,8 +30,8 @@ use Rattle.marks.specs.Marks.{readNext}
 use Rattle.record.specs.declared.Decoded.{Decoded}
 use Rattle.record.specs.Meaning.{decodedOf}
 use Rattle.state.specs.declared.Hub.{Hub}
-use Rattle.state.specs.State.{freshHub, nobody, workerIn, atPlace, withWorkersIn, withClockIn, withFreeIn, withWindowIn, withTimesIn}
-use Rattle.state.specs.State.{withMarksIn, withReadingIn, tableKept, standingCount}
+use Rattle.state.specs.State.{freshHub, siteMade, nobody, workerIn, atPlace, withWorkersIn, withClockIn, withFreeIn, withWindowIn, withTimesIn}
+use Rattle.state.specs.State.{withMarksIn, withReadingIn, tableKept}
 use Rattle.arrays.specs.Arrays.{short, fillTo}
 use Rattle.versions.specs.Versions.{slotIn, rowOf}
 use Rattle.gate.specs.declared.Gate.{Gate}
@@ -73,7 +72,7 @@ pub record SoFar (S : State) (list bytes : List ℕ) (count k : ℕ) (T : State)
   pub inside : k ≤ count
   pub state : T ≡ after S list bytes k
   -- memory that counts as set up has at most sixteen workers
-  pub few : T .up ≡ true → T .memory .hub .p ≤ 16
+  pub few : T .up ≡ true → T .memory .hub .site .p ≤ 16
   pub row : length (T .memory .slots) ≡ length (S .memory .slots)
   pub sixteen : length (T .memory .hub .workers) ≡ 16
   pub kinds-long : length (T .kinds) ≡ length (S .kinds)
@@ -105,7 +104,7 @@ pub record Decides (S : State) (list bytes : List ℕ) (count k : ℕ) (T : Stat
   pub reads : decodedOf r ≡ Model.decode (recordAt bytes k)
   pub worker : w ≡ getD (recordAt bytes k) 1 0 % 16
   pub decided : g
-      ≡ gateOf r (T .up) (T .memory .hub .p) (T .memory .hub .v) (length (T .memory .slots)) (workerIn (T .memory .hub) w .doing)
+      ≡ gateOf r (T .up) (T .memory .hub .site .p) (T .memory .hub .site .v) (length (T .memory .slots)) (workerIn (T .memory .hub) w .doing)
       (workerIn (T .memory .hub) w .announced) list (rowsKept (T .memory .hub)) (T .memory .hub .marks) (marksRead (T .memory .hub))
       (tableKept (T .memory .hub))
 
@@ -118,7 +117,7 @@ pub deciding : (row : List (List ℕ)) {S : State} {list bytes : List ℕ} {coun
     {newest free queue lens merged kinds numbers : List ℕ} {last : Answer} {r : Decoded} {w : ℕ} {g : Gate}
     → SoFar S list bytes count k (stateOf up h row newest free queue lens merged kinds numbers last) → k < count
     → decodedOf r ≡ Model.decode (recordAt bytes k) → w ≡ getD (recordAt bytes k) 1 0 % 16
-    → g ≡ gateOf r up (h .p) (h .v) (length row) (getD (h .workers) w nobody .doing) (getD (h .workers) w nobody .announced) list (rowsKept h)
+    → g ≡ gateOf r up (h .site .p) (h .site .v) (length row) (getD (h .workers) w nobody .doing) (getD (h .workers) w nobody .announced) list (rowsKept h)
     (h .marks) (marksRead h) (tableKept h)
     → Decides S list bytes count k (stateOf up h row newest free queue lens merged kinds numbers last) r w g
 deciding row {list = list} {up = up} {h = h} {r = r} {w = w} R more reads worker decided =
@@ -129,7 +128,7 @@ deciding row {list = list} {up = up} {h = h} {r = r} {w = w} R more reads worker
       worker = worker;
       decided =
           decided
-          ∙ ap (λ (n : ℕ). gateOf r up (h .p) (h .v) n (getD (h .workers) w nobody .doing) (getD (h .workers) w nobody .announced) list (rowsKept h)
+          ∙ ap (λ (n : ℕ). gateOf r up (h .site .p) (h .site .v) n (getD (h .workers) w nobody .doing) (getD (h .workers) w nobody .announced) list (rowsKept h)
           (h .marks) (marksRead h) (tableKept h))
           (sym (length-map row _));
     }
@@ -164,7 +163,7 @@ module _ {S : State} {list bytes : List ℕ} {count k : ℕ} {T : State} {r : De
   -- the decision is the definition's
   gate : gateIn (T .up) m list b ≡ g
   gate =
-      let by : Decoded → ℕ → Gate = λ z v. gateOf z (T .up) (h .p) (h .v) (length (m .slots)) (workerIn h v .doing) (workerIn h v .announced) list
+      let by : Decoded → ℕ → Gate = λ z v. gateOf z (T .up) (h .site .p) (h .site .v) (length (m .slots)) (workerIn h v .doing) (workerIn h v .announced) list
       (rowsKept h) (h .marks) (marksRead h) (tableKept h) in
       sym (D .decided
       ∙ ap (by r) (D .worker)
@@ -172,10 +171,10 @@ module _ {S : State} {list bytes : List ℕ} {count k : ℕ} {T : State} {r : De
       ∙ ap (λ (z : Decoded). by z (whoOf z)) read-as)
 
   -- what it says of the worker
-  says : Named (T .up) u (h .p) (length (m .slots)) g
+  says : Named (T .up) u (h .site .p) (length (m .slots)) g
   says =
-      subst (Named (T .up) u (h .p) (length (m .slots))) (sym (D .decided))
-      (named r u names (T .up) (h .p) (h .v) (length (m .slots)) (x .doing) (x .announced) list (rowsKept h) (h .marks) (marksRead h) (tableKept h))
+      subst (Named (T .up) u (h .site .p) (length (m .slots))) (sym (D .decided))
+      (named r u names (T .up) (h .site .p) (h .site .v) (length (m .slots)) (x .doing) (x .announced) list (rowsKept h) (h .marks) (marksRead h) (tableKept h))
 
   -- the answer y is written
   abbrev pub Wrote : Answer → List ℕ → List ℕ → Answer → Type 0
@@ -183,7 +182,7 @@ module _ {S : State} {list bytes : List ℕ} {count k : ℕ} {T : State} {r : De
 
   -- an arm that does what the definition says of the decision
   on-gate : (g′ : Gate) (u : Bool) (q : Result) (kinds numbers : List ℕ) (last : Answer) → g ≡ g′ → u ≡ (T .up || makes g′) → obeyIn m list g′ ≡ q
-      → (u ≡ true → q .memory .hub .p ≤ 16) → length (q .memory .slots) ≡ length (m .slots) → length (q .memory .hub .workers) ≡ 16
+      → (u ≡ true → q .memory .hub .site .p ≤ 16) → length (q .memory .slots) ≡ length (m .slots) → length (q .memory .hub .workers) ≡ 16
       → Wrote (q .answer) kinds numbers last
       → SoFar S list bytes count (k + 1) (record { up = u; memory = q .memory; kinds = kinds; numbers = numbers; last = last })
   unfolding after next doneAs
@@ -218,10 +217,10 @@ module _ {S : State} {list bytes : List ℕ} {count k : ℕ} {T : State} {r : De
   on-refuse n kinds numbers last e z = on-gate (Refuse n) (T .up) _ kinds numbers last e (or-false (T .up)) refl (R .few) refl (R .sixteen) z
 
   pub make-few : (p v n t : ℕ) → g ≡ Make p v n t → (p ≤ 16) × (n ≤ 2048) × (v ≤ n)
-  make-few p v n t e = sizes-few p v n t (length (m .slots)) (subst (Named (T .up) u (h .p) (length (m .slots))) e says .1)
+  make-few p v n t e = sizes-few p v n t (length (m .slots)) (subst (Named (T .up) u (h .site .p) (length (m .slots))) e says .1)
 
   pub on-make : (p v n t : ℕ) (h′ : Hub) (slots newest free : List _) (kinds numbers : List ℕ) (last : Answer) → g ≡ Make p v n t
-      → h′ ≡ freshHub p v n t (length list / 4) (over (take 1024 (rowsOf list)) (replicate 1024 0)) (standingCount h) (h .rights) → slots ≡ madeTo (m .slots) v n → newest ≡ fillTo (m .newest) short v
+      → h′ ≡ freshHub (siteMade h list p v n) t → slots ≡ madeTo (m .slots) v n → newest ≡ fillTo (m .newest) short v
       → free ≡ fillTo (m .free) (λ j. short (n - 1 - j)) (h′ .free) → Wrote Ok kinds numbers last
       → SoFar S list bytes count (k + 1)
       (record { up = true; memory = memory h′ slots newest free (m .queue) (m .lens) (m .merged); kinds = kinds; numbers = numbers; last = last })
@@ -233,11 +232,11 @@ module _ {S : State} {list bytes : List ℕ} {count k : ℕ} {T : State} {r : De
       (record { memory = memory h′ slots newest free (m .queue) (m .lens) (m .merged); answer = Ok })
       kinds numbers last e (or-true (T .up))
       (λ i. record { memory = memory (sym eh i) (sym es i) (sym en i) (sym all i) (m .queue) (m .lens) (m .merged); answer = Ok })
-      (λ u. subst (λ (y : Hub). y .p ≤ 16) (sym eh) (make-few p v n t e .0))
+      (λ u. subst (λ (y : Hub). y .site .p ≤ 16) (sym eh) (make-few p v n t e .0))
       (ap length es ∙ length-madeTo (m .slots) v n) (ap (λ (y : Hub). length (y .workers)) eh) z
 
   -- the worker of a begin or a step
-  named-worker : (v : ℕ) → (T .up ≡ true) × (v ≡ u) × (u < h .p) → (v ≡ w) × (w < 16)
+  named-worker : (v : ℕ) → (T .up ≡ true) × (v ≡ u) × (u < h .site .p) → (v ≡ w) × (w < 16)
   named-worker v n =
       let p = R .few (n .0) in
       let e = D .worker in
@@ -249,7 +248,7 @@ module _ {S : State} {list bytes : List ℕ} {count k : ℕ} {T : State} {r : De
       (record { up = T .up; memory = withHub m (withWorkersIn h (set (h .workers) w (atPlace x d))); kinds = kinds; numbers = numbers; last = last })
   unfolding obeyIn
   on-start v d kinds numbers last e z =
-      let n = named-worker v (subst (Named (T .up) u (h .p) (length (m .slots))) e says) in
+      let n = named-worker v (subst (Named (T .up) u (h .site .p) (length (m .slots))) e says) in
       on-gate (Start w d) (T .up) _ kinds numbers last (e ∙ ap (λ (y : ℕ). Start y d) (n .0)) (or-false (T .up)) refl (R .few) refl
       (length-set (h .workers) w _ ∙ R .sixteen) z
 
@@ -261,22 +260,22 @@ module _ {S : State} {list bytes : List ℕ} {count k : ℕ} {T : State} {r : De
     long : length row ≡ length (m .slots)
     long =
         ap (λ (z : Stepped). length (z .row)) stepped
-        ∙ length-step (x .doing) (x .announced) (h .clock) (h .free) (h .p) (m .slots) (m .newest) (m .free) (rowsKept h) (h .marks) (marksRead h)
+        ∙ length-step (x .doing) (x .announced) (h .clock) (h .free) (h .site .p) (m .slots) (m .newest) (m .free) (rowsKept h) (h .marks) (marksRead h)
 
     of-worker : (v ≡ w) × (w < 16)
-    of-worker = named-worker v (subst (Named (T .up) u (h .p) (length (m .slots))) e says)
+    of-worker = named-worker v (subst (Named (T .up) u (h .site .p) (length (m .slots))) e says)
 
     pub below : w < 16
     below = of-worker .1
 
-    pub workers : h .p ≤ 16
-    workers = R .few (subst (Named (T .up) u (h .p) (length (m .slots))) e says .0)
+    pub workers : h .site .p ≤ 16
+    workers = R .few (subst (Named (T .up) u (h .site .p) (length (m .slots))) e says .0)
 
-    pub told : (s′ : Next) → s ≡ s′ → Said (h .p) s′
+    pub told : (s′ : Next) → s ≡ s′ → Said (h .site .p) s′
     told s′ f =
-        subst (Said (h .p)) f
-        (subst (λ (z : Stepped). Said (h .p) (z .next)) (sym stepped)
-        (said (x .doing) (x .announced) (h .clock) (h .free) (h .p) (m .slots) (m .newest) (m .free) (rowsKept h) (h .marks) (marksRead h)))
+        subst (Said (h .site .p)) f
+        (subst (λ (z : Stepped). Said (h .site .p) (z .next)) (sym stepped)
+        (said (x .doing) (x .announced) (h .clock) (h .free) (h .site .p) (m .slots) (m .newest) (m .free) (rowsKept h) (h .marks) (marksRead h)))
 
     abbrev m′ : Memory
     m′ = withRow m row newest
@@ -285,7 +284,7 @@ module _ {S : State} {list bytes : List ℕ} {count k : ℕ} {T : State} {r : De
     unfolding obeyIn goIn
     goes s′ f = ap (finishIn m w x) (sym stepped) ∙ ap (nextIn m′ w x) f
 
-    on-go : (s′ : Next) (q : Result) (kinds numbers : List ℕ) (last : Answer) → s ≡ s′ → nextIn m′ w x s′ ≡ q → q .memory .hub .p ≡ h .p
+    on-go : (s′ : Next) (q : Result) (kinds numbers : List ℕ) (last : Answer) → s ≡ s′ → nextIn m′ w x s′ ≡ q → q .memory .hub .site .p ≡ h .site .p
         → length (q .memory .slots) ≡ length row → length (q .memory .hub .workers) ≡ 16 → Wrote (q .answer) kinds numbers last
         → SoFar S list bytes count (k + 1) (record { up = T .up; memory = q .memory; kinds = kinds; numbers = numbers; last = last })
     on-go s′ q kinds numbers last f n ep er es z =
@@ -331,7 +330,7 @@ module _ {S : State} {list bytes : List ℕ} {count k : ℕ} {T : State} {r : De
 
     -- put (3)
     pub on-hand-in : (c : ℕ) (a : Handed) (slots lows highs : List ℕ) (kinds numbers : List ℕ) (last : Answer) → s ≡ HandIn c
-        → a ≡ handedOn row (x .pool .len) c (h .p) → slots ≡ placed (x .pool .slots) (x .pool .len) c
+        → a ≡ handedOn row (x .pool .len) c (h .site .batch) → slots ≡ placed (x .pool .slots) (x .pool .len) c
         → lows ≡ placed (x .pool .lows) (x .pool .len) (a .low) → highs ≡ placed (x .pool .highs) (x .pool .len) (a .high)
         → Wrote (a .answer) kinds numbers last
         → SoFar S list bytes count (k + 1)
@@ -438,14 +437,14 @@ module _ {S : State} {list bytes : List ℕ} {count k : ℕ} {T : State} {r : De
 
     -- flush (2), behind the last worker
     pub on-read-marks : (n : ℕ) (times : List ℕ) (kinds numbers : List ℕ) (last : Answer) → s ≡ ReadMarks n
-        → times ≡ overAt (28 * w + h .p) (h .marks) (h .times) → Wrote Going kinds numbers last
+        → times ≡ overAt (28 * w + h .site .p) (h .marks) (h .times) → Wrote Going kinds numbers last
         → SoFar S list bytes count (k + 1)
         (record {
           up = T .up;
           memory =
               withHub m′
               (withTimesIn
-              (withWorkersIn h (set (h .workers) w (record { doing = FlushRead n ((h .p + 12) % 256); announced = x .announced; pool = x .pool })))
+              (withWorkersIn h (set (h .workers) w (record { doing = FlushRead n ((h .site .p + 12) % 256); announced = x .announced; pool = x .pool })))
               times);
           kinds = kinds;
           numbers = numbers;
@@ -457,7 +456,7 @@ module _ {S : State} {list bytes : List ℕ} {count k : ℕ} {T : State} {r : De
           memory =
               withHub m′
               (withTimesIn
-              (withWorkersIn h (set (h .workers) w (record { doing = FlushRead n ((h .p + 12) % 256); announced = x .announced; pool = x .pool })))
+              (withWorkersIn h (set (h .workers) w (record { doing = FlushRead n ((h .site .p + 12) % 256); announced = x .announced; pool = x .pool })))
               y);
           answer = Going;
         } in
@@ -479,7 +478,7 @@ module _ {S : State} {list bytes : List ℕ} {count k : ℕ} {T : State} {r : De
     -- flush (3)
     pub on-split : (n j : ℕ) (a : Parted) (queue lens merged : List ℕ) (kinds numbers : List ℕ) (last : Answer) → s ≡ Split n j
         → a .left ≡ splitLeft (m .merged) w n (h .times) j (x .pool)
-        → poolsIn queue lens (a .window) ≡ splitQueue (queueIn m) (m .merged) w n (h .times) j (h .p) (x .pool)
+        → poolsIn queue lens (a .window) ≡ splitQueue (queueIn m) (m .merged) w n (h .times) j (h .site .batch) (x .pool)
         → merged ≡ splitMerged (m .merged) w n (h .times) j (x .pool) → Wrote Going kinds numbers last
         → SoFar S list bytes count (k + 1)
         (record {
@@ -541,14 +540,14 @@ module _ {S : State} {list bytes : List ℕ} {count k : ℕ} {T : State} {r : De
         last f
         ((λ i. left (sym ea i) (sym es i) (sym ef i))
         ∙ (λ i. record { memory = memory (sym hub i) slots newest free (m .queue) (m .lens) (m .merged); answer = Freed (a .slot) }))
-        (ap (λ (y : Hub). y .p) hub) (ap length es ∙ length-freed row (m .merged) w n)
+        (ap (λ (y : Hub). y .site .p) hub) (ap length es ∙ length-freed row (m .merged) w n)
         (ap (λ (y : Hub). length (y .workers)) hub ∙ length-map ws _ ∙ replaced _) z
 
 ------------------------------------------------------------------------
 -- The test before the first record, and the end
 
 pub ready-is : (h : Hub) (row : List (List ℕ)) (newest free queue lens merged : List ℕ) (up linked : Bool)
-    → linked ≡ linkedTo (rowOf row) (h .n) (h .n) → up ≡ readyOf h newest free queue lens merged linked (length row)
+    → linked ≡ linkedTo (rowOf row) (h .site .n) (h .site .n) → up ≡ readyOf h newest free queue lens merged linked (length row)
     → up ≡ ready (memory h (rowOf row) newest free queue lens merged)
 unfolding ready
 ready-is h row newest free queue lens merged up linked ek eu =

@@ -17,13 +17,13 @@ use Rattle.simulation.specs.Shell.{rowsKept, marksRead}
 worker-at : (h : Hub) (w : ℕ) → w < 16 → getD (h .workers) (w % 16) nobody ≡ workerIn h w
 worker-at h w l = let e : w % 16 ≡ w = omega arith in rw e
 
-pub gate-at : (h : Hub) (r : Decoded) (u : ℕ) → Names r u → (up : Bool) (long : ℕ) (list : List ℕ) → (up ≡ true → h .p ≤ 16)
-    → gateOf r up (h .p) (h .v) long (getD (h .workers) (u % 16) nobody .doing) (getD (h .workers) (u % 16) nobody .announced) list (rowsKept h)
+pub gate-at : (h : Hub) (r : Decoded) (u : ℕ) → Names r u → (up : Bool) (long : ℕ) (list : List ℕ) → (up ≡ true → h .site .p ≤ 16)
+    → gateOf r up (h .site .p) (h .site .v) long (getD (h .workers) (u % 16) nobody .doing) (getD (h .workers) (u % 16) nobody .announced) list (rowsKept h)
     (h .marks) (marksRead h) (tableKept h)
-    ≡ gateOf r up (h .p) (h .v) long (workerIn h (whoOf r) .doing) (workerIn h (whoOf r) .announced) list (rowsKept h) (h .marks) (marksRead h)
+    ≡ gateOf r up (h .site .p) (h .site .v) long (workerIn h (whoOf r) .doing) (workerIn h (whoOf r) .announced) list (rowsKept h) (h .marks) (marksRead h)
     (tableKept h)
 gate-at h r u n up long list few =
-    same-gate r u n up (h .p) (h .v) long _ _ _ _ list (rowsKept h) (h .marks) (marksRead h) (tableKept h)
+    same-gate r u n up (h .site .p) (h .site .v) long _ _ _ _ list (rowsKept h) (h .marks) (marksRead h) (tableKept h)
     (λ t l e. let p = few t in
     let s = worker-at h u (omega arith) ∙ ap (workerIn h) (sym e) in
     (ap (λ (x : Worker). x .doing) s, ap (λ (x : Worker). x .announced) s))

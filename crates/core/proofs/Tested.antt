@@ -22,7 +22,7 @@ passed true y e = refl
 passed false y e = e
 
 pub ready-few : (h : Hub) (newest free queue lens merged : List ℕ) (linked : Bool) (long : ℕ)
-    → readyOf h newest free queue lens merged linked long ≡ true → h .p ≤ 16
+    → readyOf h newest free queue lens merged linked long ≡ true → h .site .p ≤ 16
 unfolding readyOf scansFit
 ready-few h newest free queue lens merged linked long e =
     let scans = both (scansFit h newest free queue lens merged linked long) (tableSound h) e .0 in

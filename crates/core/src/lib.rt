@@ -1,17 +1,9 @@
 // The loop over the records. It owns the hub while it runs, so that a record moves only what its step names; everything else is lent. The
 // slots are a lent row of words. Every public call goes through it.
 ghost use mathlib.Core.Path.{_≡_};
-ghost use mathlib.Core.Bool.{cond, _&&_};
-ghost use Prim.Native.Nat.{_≤_, _-_, _/_};
-ghost use lib.Dec.{leb};
-ghost use lib.ListN.{length, getD, set, take, replicate};
-ghost use Rattle.lists.specs.Over.{over};
-ghost use Rattle.model.specs.Record.{rowsOf};
-ghost use Rattle.model.specs.Rights.{eachOf, rightFits};
+ghost use Prim.Native.Nat.{_≤_};
+ghost use lib.ListN.{getD, set};
 ghost use Rattle.answers.specs.Numbers.{kindOf, numberOf};
-ghost use Rattle.slots.specs.Slots.{madeTo};
-ghost use Rattle.state.specs.State.{freshHub, standingCount};
-ghost use Rattle.arrays.specs.Arrays.{short, fillTo};
 ghost use Rattle.versions.specs.Versions.{rowOf};
 ghost use Rattle.simulation.specs.Memory.{memory};
 ghost use Rattle.simulation.specs.Loop.{Ran};
@@ -84,58 +76,6 @@ fn put_answer(kinds: &mut [u16], numbers: &mut [u64], k: usize, y: Answer) -> An
     y
 }
 
-// H15.9: how many rows of rights a setup keeps: those that count, where they are a table.
-fn kept_rows(rights: &[u64; 64], granted: usize) -> usize
-    ensures { λ r. ⌜ r ≡ cond (leb granted 64 && eachOf rightFits (take granted (now (rights .entry)))) granted 0 ⌝ }
-{
-    if rights_table::stands(rights, granted) {
-        return granted;
-    }
-    0
-}
-
-// A setup that is accepted: the hub with the rows of the list of totals and the table of rights that stands in the old one, its newest versions, free
-// slots and slots.
-fn make(
-    old: Hub,
-    row: &mut [[u64; 6]],
-    newest: &mut [u16; 256],
-    free: &mut [u16; 2048],
-    list: &[u8],
-    p: u8,
-    v: u16,
-    n: u16,
-    clock: u32,
-) -> Hub
-    ensures { λ r. ⌜
-        r
-        ≡ freshHub p v n clock (length (now (list .entry)) / 4) (over (take 1024 (rowsOf (now (list .entry)))) (replicate 1024 0))
-        (standingCount old) (old .rights)
-        ⌝ }
-    ensures { λ _. ⌜ rowOf (now (row .exit)) ≡ madeTo (rowOf (now (row .entry))) v n ⌝ }
-    ensures { λ _. ⌜ now (newest .exit) ≡ fillTo (now (newest .entry)) short v ⌝ }
-    ensures { λ r. ⌜ now (free .exit) ≡ fillTo (now (free .entry)) (λ j. short (n - 1 - j)) (r .free) ⌝ }
-{
-    let mut rows = [0u32; 1024];
-    total_list::fill_rows(&mut rows, list);
-    let listed = list.len() / 4;
-    let granted = kept_rows(&old.rights, old.granted);
-    let hub = Hub::fresh(
-        p as usize,
-        v as usize,
-        n as usize,
-        clock,
-        listed,
-        rows,
-        granted,
-        old.rights,
-    );
-    arrays::fill_newest(newest, v as usize);
-    arrays::fill_free(free, n as usize, hub.free);
-    all_versions::set_up(row, v as usize, n as usize);
-    hub
-}
-
 // What is left of the hub by value, and the answer to the last record; `Ok` where there was none.
 pub struct Ended {
     pub hub: Hub,
@@ -167,7 +107,7 @@ pub fn run(
         (now (kinds .exit)) (now (numbers .exit)) (r .last)
         ⌝ }
 {
-    let linked = all_versions::all_linked(row, start.n);
+    let linked = all_versions::all_linked(row, start.site.n);
     let mut up = ready::ready(start, newest, free, queue, lens, merged, linked, row.len());
     let mut hub = start;
     // The hub's window, by itself while the loop runs.
@@ -189,18 +129,18 @@ pub fn run(
         let g = gate::gate_for(
             r,
             up,
-            hub.p,
-            hub.v,
+            hub.site.p,
+            hub.site.v,
             row.len(),
             d,
             t,
             list,
-            &hub.rows,
-            hub.listed,
+            &hub.site.rows,
+            hub.site.listed,
             &hub.marks,
             &hub.reading,
-            &hub.rights,
-            hub.granted,
+            &hub.site.rights,
+            hub.site.granted,
         );
         match g {
             Gate::Refuse(refusal) => {
@@ -208,7 +148,7 @@ pub fn run(
                 k += 1;
             }
             Gate::Make { p, v, n, clock } => {
-                hub = make(hub, row, newest, free, list, p, v, n, clock);
+                hub = setup::set_up(hub, row, newest, free, list, p, v, n, clock);
                 window = hub.window;
                 up = true;
                 last = put_answer(kinds, numbers, k, Answer::Ok);
@@ -230,9 +170,9 @@ pub fn run(
                     t,
                     hub.clock,
                     hub.free,
-                    hub.p,
-                    &hub.rows,
-                    hub.listed,
+                    hub.site.p,
+                    &hub.site.rows,
+                    hub.site.listed,
                     &hub.marks,
                     &hub.reading,
                 );
@@ -259,7 +199,7 @@ pub fn run(
                         let y = hub.workers[w];
                         let mut pool = y.pool;
                         let at = pool.len;
-                        let h = flush::put_hand_in(row, at, covered, hub.p);
+                        let h = flush::put_hand_in(row, at, covered, hub.site.batch);
                         pools::put_slot(&mut pool.slots, at, covered);
                         pools::put_time(&mut pool.lows, at, h.low);
                         pools::put_time(&mut pool.highs, at, h.high);
@@ -304,7 +244,7 @@ pub fn run(
                     }
                     // Flush (2), behind the last worker.
                     Next::ReadMarks { merged: m } => {
-                        let p = hub.p;
+                        let p = hub.site.p;
                         let held = hub.marks;
                         mark_times::read_all(&mut hub.times, w, p, &held);
                         let y = hub.workers[w];
@@ -331,7 +271,7 @@ pub fn run(
                             m,
                             &hub.times,
                             read as usize,
-                            hub.p,
+                            hub.site.batch,
                             q,
                             &mut needed,
                             &mut local,

@@ -4,7 +4,6 @@ use mathlib.Core.List.{List, _++_}
 use Prim.Native.Nat.{ℕ, _+_, _*_, _%_}
 use lib.Dec.{eqb}
 use lib.ListN.{set, take, drop}
-use Rattle.model.specs.Batch.{batchOf}
 use Rattle.values.specs.declared.Answer.{Answer}
 use Rattle.values.specs.declared.Answer.the-variants.{Going, Done}
 use Rattle.slots.specs.declared.Slot.{Slot}
@@ -39,9 +38,9 @@ abbrev pub handed : Pool → Bool → HandedIn
 handed q full = record { pool = q; doing = cond full FlushTake Idle; answer = cond full Going Done }
 
 unfoldable pub putHandInStep : List Slot → Pool → ℕ → ℕ → HandedIn
-putHandInStep l q c p =
+putHandInStep l q c b =
     let pool = handedPool q c (slotAtIn l c) in
-    handed pool (eqb (pool .len) (batchOf (p % 256)))
+    handed pool (eqb (pool .len) b)
 
 -- the same without the arrays of the pool, which has n ranges
 abbrev pub handedOf : ℕ → Slot → Bool → Handed
@@ -49,7 +48,7 @@ handedOf len v full =
     record { low = word (v .low); high = word (v .high); len = len; doing = cond full FlushTake Idle; answer = cond full Going Done }
 
 unfoldable pub handedOn : List Slot → ℕ → ℕ → ℕ → Handed
-handedOn l n c p = handedOf (oneMore n) (slotAtIn l c) (eqb (oneMore n) (batchOf (p % 256)))
+handedOn l n c b = handedOf (oneMore n) (slotAtIn l c) (eqb (oneMore n) b)
 
 ------------------------------------------------------------------------
 -- The merged lists: 768 words for each worker

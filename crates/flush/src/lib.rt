@@ -23,15 +23,14 @@ pub struct Handed {
     pub answer: Answer,
 }
 
-// Put (3), of p workers: the covered version's range joins the n ranges of the local pool.
-pub fn put_hand_in(row: &[[u64; 6]], n: usize, covered: u16, p: usize) -> Handed
-    ensures { λ r. ⌜ r ≡ handedOn (rowOf (now (row .entry))) n covered p ⌝ }
+// Put (3), with the batch size: the covered version's range joins the n ranges of the local pool.
+pub fn put_hand_in(row: &[[u64; 6]], n: usize, covered: u16, size: u8) -> Handed
+    ensures { λ r. ⌜ r ≡ handedOn (rowOf (now (row .entry))) n covered size ⌝ }
 {
     let v = versions::load(row, covered as usize);
     let low = (v.low % 4294967296) as u32;
     let high = (v.high % 4294967296) as u32;
     let len = pools::one_more(n);
-    let size = batch::batch((p % 256) as u8);
     if len == size as usize {
         return Handed {
             low,

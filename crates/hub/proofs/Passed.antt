@@ -113,8 +113,8 @@ arrays-long 𝓤 H A W ks qs a =
 -- each worker
 abbrev pub HubLong : Hub → Type 0
 HubLong h =
-    (length (h .workers) ≡ 16) × (length (h .times) ≡ 448) × (length (h .rows) ≡ 1024) × (length (h .marks) ≡ 12) × (length (h .reading) ≡ 16)
-    × (length (h .rights) ≡ 64)
+    (length (h .workers) ≡ 16) × (length (h .times) ≡ 448) × (length (h .site .rows) ≡ 1024) × (length (h .marks) ≡ 12) × (length (h .reading) ≡ 16)
+    × (length (h .site .rights) ≡ 64)
 
 sized : (h : Hub) (s : List Slot) (a : Arrays) → HubLong h → Long a → Sized (found h s a)
 sized h s a w long =

@@ -13,6 +13,8 @@ use denote.Steps.{only}
 use denote.Struct.Laws as LL
 use Rattle.state.specs.declared.Hub.{Hub}
 use Rattle.hub.proofs.Passed.{HubLong}
+use Rattle.state.proofs.Site as S
+use Rattle.state.proofs.Site.Laws as S′
 use Rattle.state.proofs.Hub as B
 use Rattle.state.proofs.Hub.Laws as B′
 use Rattle.runs.specs.declared.Applied.{Applied}
@@ -43,11 +45,13 @@ module _ {M : Type 1} (𝓤 : URA M) (H : Heap 𝓤) (A : Atoms 𝓤) (W : Given
 
 pub hub-sizes : (h : Hub) → Is B.the-row h (hub-vals h) → HubLong h
 hub-sizes h is =
-    let o = LL.owed B.the-type B′.the-laws h _ is .1 .1 .1 .1 .1 .1 .1 in (
-      sym (length-map (h .workers) _) ∙ o .1 .1 .1 .1 .1 .1 .0 .1 .0 .1,
-      sym (length-map (h .times) _) ∙ o .1 .0 .1 .0 .1,
-      sym (length-map (h .rows) _) ∙ o .0 .1 .0 .1,
-      sym (length-map (h .marks) _) ∙ o .1 .1 .0 .1 .0 .1,
-      sym (length-map (h .reading) _) ∙ o .1 .1 .1 .0 .1 .0 .1,
-      sym (length-map (h .rights) _) ∙ o .1 .1 .1 .1 .1 .0 .1 .0 .1,
+    let owed = LL.owed B.the-type B′.the-laws h _ is in
+    let s = LL.owed S.the-type S′.the-laws (h .site) _ (owed .0) .1 .1 .1 .1 .1 in
+    let o = owed .1 .1 .1 .1 in (
+      sym (length-map (h .workers) _) ∙ o .1 .1 .1 .0 .1 .0 .1,
+      sym (length-map (h .times) _) ∙ o .0 .1 .0 .1,
+      sym (length-map (h .site .rows) _) ∙ s .0 .1 .0 .1,
+      sym (length-map (h .marks) _) ∙ o .1 .0 .1 .0 .1,
+      sym (length-map (h .reading) _) ∙ o .1 .1 .0 .1 .0 .1,
+      sym (length-map (h .site .rights) _) ∙ s .1 .1 .0 .1 .0 .1,
     )

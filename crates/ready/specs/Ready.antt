@@ -6,7 +6,6 @@ use Prim.Native.Nat.{ℕ, zero, suc, _+_, _*_, _-_, min}
 use lib.Dec.{ltb, leb, eqb}
 use lib.ListN.{getD}
 use Rattle.model.specs.Store.{markCount}
-use Rattle.model.specs.Batch.{batchOf}
 use Rattle.model.specs.Rules.{twelveDigits}
 use Rattle.model.specs.Totals.{registerOf, rowAt}
 use Rattle.values.specs.declared.Window.{Window}
@@ -86,7 +85,7 @@ workerFits x w merged local list p v n k =
 unfoldable pub workersFit : Hub → List ℕ → ℕ → ℕ → ℕ → Bool
 workersFit h merged local list zero = true
 workersFit h merged local list (suc k) =
-    workersFit h merged local list k && workerFits (workerIn h k) k merged local list (h .p) (h .v) (h .n) (h .listed)
+    workersFit h merged local list k && workerFits (workerIn h k) k merged local list (h .site .p) (h .site .v) (h .site .n) (h .site .listed)
 
 -- each of the k pools whose lengths stand from place i on has 1 to so many ranges
 unfoldable pub lensFit : List ℕ → ℕ → ℕ → ℕ → Bool
@@ -100,7 +99,7 @@ lensSum lens i (suc k) = lensSum lens i k + getD lens (i + k) 0
 
 -- how many slots hold no register's newest version
 abbrev pub besides : Hub → ℕ
-besides h = h .n - h .v
+besides h = h .site .n - h .site .v
 
 -- the queue's window, with at most so many ranges
 unfoldable pub windowFits : Window → ℕ → Bool
@@ -109,23 +108,23 @@ windowFits w most = leb (w .pools) (w .queued) && leb (w .queued) most && (leb (
 -- the sizes and counts, with a row of so many slots
 unfoldable pub sizesFit : Hub → ℕ → Bool
 sizesFit h long =
-    (leb 1 (h .p) && leb (h .p) 16 && (leb 1 (h .v) && leb (h .v) 256))
-    && (leb (h .v) (h .n) && leb (h .n) 2048 && leb (h .n) long)
+    (leb 1 (h .site .p) && leb (h .site .p) 16 && (leb 1 (h .site .v) && leb (h .site .v) 256))
+    && (leb (h .site .v) (h .site .n) && leb (h .site .n) 2048 && leb (h .site .n) long)
     && (leb (h .free) (besides h) && windowFits (h .window) (besides h))
-    && leb (h .listed) 1024
+    && (leb (h .site .listed) 1024 && (leb 1 (h .site .batch) && leb (h .site .batch) 64))
 
 -- All but the table of rights is in range: the hub, newest, free, queue, lens, merged; `linked` says that every neighbour in the row of slots is.
 -- A local pool has at most B ranges, a queued one 2B, a list in hand 4B, and none has more than there are slots besides the newest.
 -- The registers of the rows of totals are below V.
 unfoldable pub scansFit : Hub → List ℕ → List ℕ → List ℕ → List ℕ → List ℕ → Bool → ℕ → Bool
 scansFit h newest free queue lens merged linked long =
-    let b = batchOf (h .p) in
+    let b = h .site .batch in
     let w = h .window in
     cond (sizesFit h long)
-    (belowTo newest (h .n) (h .v) && belowTo free (h .n) (h .free)
-    && (slotsBelow queue (w .from) (h .n) (w .queued) && lensFit lens (w .first) (2 * b) (w .pools))
-    && (eqb (lensSum lens (w .first) (w .pools)) (w .queued) && workersFit h merged (min b (besides h)) (min (4 * b) (besides h)) (h .p))
-    && (rowsBelow (h .rows) (h .v) (h .listed) && linked))
+    (belowTo newest (h .site .n) (h .site .v) && belowTo free (h .site .n) (h .free)
+    && (slotsBelow queue (w .from) (h .site .n) (w .queued) && lensFit lens (w .first) (2 * b) (w .pools))
+    && (eqb (lensSum lens (w .first) (w .pools)) (w .queued) && workersFit h merged (min b (besides h)) (min (4 * b) (besides h)) (h .site .p))
+    && (rowsBelow (h .site .rows) (h .site .v) (h .site .listed) && linked))
     false
 
 -- Lent memory counts as set up: and the rows of rights that count are a table.

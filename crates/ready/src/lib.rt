@@ -2,7 +2,6 @@
 ghost use mathlib.Core.Path.{_≡_};
 ghost use Prim.Native.Nat.{_+_, _*_, _-_, _<_, _≤_};
 ghost use lib.ListN.{length};
-ghost use Rattle.model.specs.Batch.{batchOf};
 ghost use Rattle.ready.specs.Ready.{belowTo, slotsBelow, poolFits, listFits, handFits, namedBelow, rowsBelow, purposeFits, readFits};
 ghost use Rattle.ready.specs.Ready.{placeFits, workerFits, workersFit, lensFit, lensSum, windowFits, sizesFit, readyOf, scansFit};
 use places::Facts;
@@ -39,15 +38,6 @@ fn besides(v: usize, n: usize) -> usize
         return n - v;
     }
     0
-}
-
-// B for p workers, which is at most 64.
-fn batch_of(p: usize) -> usize
-    requires { ⌜ (1 ≤ p) × (p ≤ 16) ⌝ }
-    ensures { λ r. ⌜ (r ≡ batchOf p) × (r ≤ 64) ⌝ }
-{
-    let b = batch::batch(p as u8);
-    b as usize
 }
 
 // Whether the first k numbers are below n.
@@ -198,14 +188,14 @@ fn worker_fits(
 
 // Whether the first p workers' records are in range.
 fn workers_fit(hub: Hub, merged: &[u32; 12288], local: usize, list: usize) -> bool
-    requires { ⌜ (hub .p ≤ 16) × (hub .v ≤ 256) × (hub .n ≤ 2048) × (hub .listed ≤ 1024) × (local ≤ 64) × (list ≤ 256) ⌝ }
-    ensures { λ r. ⌜ r ≡ workersFit hub (now (merged .entry)) local list (hub .p) ⌝ }
+    requires { ⌜ (hub .site .p ≤ 16) × (hub .site .v ≤ 256) × (hub .site .n ≤ 2048) × (hub .site .listed ≤ 1024) × (local ≤ 64) × (list ≤ 256) ⌝ }
+    ensures { λ r. ⌜ r ≡ workersFit hub (now (merged .entry)) local list (hub .site .p) ⌝ }
 {
-    let all = hub.p;
+    let all = hub.site.p;
     let p = all as u8;
-    let v = hub.v as u16;
-    let n = hub.n as u16;
-    let k = hub.listed as u16;
+    let v = hub.site.v as u16;
+    let n = hub.site.n as u16;
+    let k = hub.site.listed as u16;
     let mut ok = true;
     for w in 0..all {
         let x = hub.workers[w];
@@ -250,15 +240,16 @@ fn window_fits(w: Window, most: usize) -> bool
 fn sizes_fit(hub: Hub, long: usize) -> bool
     ensures { λ r. ⌜ r ≡ sizesFit hub long ⌝ }
 {
-    let p = hub.p;
-    let v = hub.v;
-    let n = hub.n;
+    let p = hub.site.p;
+    let v = hub.site.v;
+    let n = hub.site.n;
+    let size = hub.site.batch;
     let window = hub.window;
     let most = besides(v, n);
     (((1 <= p) & (p <= 16)) & ((1 <= v) & (v <= 256)))
         & (((v <= n) & (n <= 2048)) & (n <= long))
         & ((hub.free <= most) & window_fits(window, most))
-        & (hub.listed <= 1024)
+        & ((hub.site.listed <= 1024) & ((1 <= size) & (size <= 64)))
 }
 
 // Whether all but the table of rights is in range. `linked` says it of the neighbours in the row of slots, which has so many.
@@ -278,10 +269,10 @@ fn scans_fit<'a>(
         ⌝ }
 {
     if sizes_fit(hub, long) {
-        let n = hub.n as u16;
-        let size = batch_of(hub.p);
-        let most = besides(hub.v, hub.n);
-        let a = all_below(newest, hub.v, n);
+        let n = hub.site.n as u16;
+        let size = wide8(hub.site.batch);
+        let most = besides(hub.site.v, hub.site.n);
+        let a = all_below(newest, hub.site.v, n);
         let b = all_below(free, hub.free, n);
         let w = hub.window;
         let c = slots_below(queue, w.from, w.queued, n as u32);
@@ -293,7 +284,7 @@ fn scans_fit<'a>(
             bounds::at_most(size, most),
             bounds::at_most(4 * size, most),
         );
-        let g = rows_below(&hub.rows, hub.listed, hub.v as u32);
+        let g = rows_below(&hub.site.rows, hub.site.listed, hub.site.v as u32);
         return (((a & b) & (c & d)) & (e & f)) & (g & linked);
     }
     false
@@ -316,5 +307,5 @@ pub fn ready<'a>(
         ⌝ }
 {
     let fit = scans_fit(hub, newest, free, queue, lens, merged, linked, long);
-    fit & rights_table::stands(&hub.rights, hub.granted)
+    fit & rights_table::stands(&hub.site.rights, hub.site.granted)
 }

@@ -94,7 +94,7 @@ decode-first b = by-length b (ltb (length b) 16) refl
 abbrev gateBy : Bool → Memory → List ℕ → Decoded → Gate
 gateBy up m list d =
     let x = workerIn (m .hub) (whoOf (decodedRep d)) in
-    gateOf (decodedRep d) up (m .hub .p) (m .hub .v) (length (m .slots)) (x .doing) (x .announced) list (rowsKept (m .hub))
+    gateOf (decodedRep d) up (m .hub .site .p) (m .hub .site .v) (length (m .slots)) (x .doing) (x .announced) list (rowsKept (m .hub))
     (m .hub .marks) (marksRead (m .hub)) (tableKept (m .hub))
 
 done-first : (up : Bool) (m : Memory) (list b : List ℕ) → doneAs up m list (take 16 b) ≡ doneAs up m list b

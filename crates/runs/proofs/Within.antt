@@ -52,11 +52,11 @@ module _ {h h′ : Hub} {newest free queue lens merged newest′ free′ queue�
 
 -- ---- the test of the first n slots
 pub tested : (n : ℕ) (h : Hub) (row : List (List ℕ)) (newest free queue lens merged : List ℕ) (up linked : Bool) → n ≤ length row
-    → linked ≡ linkedTo (rowOf (take (n - 0) row)) (h .n) (h .n) → up ≡ readyOf h newest free queue lens merged linked n
+    → linked ≡ linkedTo (rowOf (take (n - 0) row)) (h .site .n) (h .site .n) → up ≡ readyOf h newest free queue lens merged linked n
     → up ≡ ready (memory h (take n (rowOf row)) newest free queue lens merged)
 unfolding ready
 tested n h row newest free queue lens merged up linked within ek eu =
     let is : rowOf (take (n - 0) row) ≡ take n (rowOf row) = ap (λ (k : ℕ). rowOf (take k row)) (sub-zero n) ∙ row-take n row in
     let long : n ≡ length (take n (rowOf row)) = sym (length-take-le n (rowOf row) (omega (arith, within, length-map row slotIn))) in
-    let near : linked ≡ linkedTo (take n (rowOf row)) (h .n) (h .n) = ek ∙ ap (λ (l : List Slot). linkedTo l (h .n) (h .n)) is in
+    let near : linked ≡ linkedTo (take n (rowOf row)) (h .site .n) (h .site .n) = ek ∙ ap (λ (l : List Slot). linkedTo l (h .site .n) (h .site .n)) is in
     eu ∙ (λ i. readyOf h newest free queue lens merged (near i) (long i))

@@ -100,17 +100,17 @@ pub fn give_table<'a>(
         ⌝ }
 {
     let first = &row[0..n];
-    let linked = all_versions::all_linked(first, hub.n);
+    let linked = all_versions::all_linked(first, hub.site.n);
     if ready::ready(hub, newest, free, queue, lens, merged, linked, n) {
         return Applied {
             hub,
             answer: Answer::No(9),
         };
     }
-    let mut rights = hub.rights;
+    let mut rights = hub.site.rights;
     if rights_table::take_table(&mut rights, table) {
         let granted = table.len() / 8;
-        let left = Hub::fresh(0, 0, 0, 0, 0, [0u32; 1024], granted, rights);
+        let left = Hub::tabled(granted, rights);
         return Applied {
             hub: left,
             answer: Answer::Ok,

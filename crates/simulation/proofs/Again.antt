@@ -22,6 +22,7 @@ use Rattle.model.specs.Record.{SetUp, Begin, Step, Decoded, Asks, Refuses, deco
 use Rattle.model.specs.Apply.{inRanges, fresh, setUp, obey, applyDecoded, apply, hubAfter}
 use Rattle.model.specs.Demand.{All, events, Exchange}
 use Rattle.model.proofs.Basic.{cond-both, All-from, All-map}
+use Rattle.model.proofs.Batch.{allowed}
 use Rattle.theorem.proofs.Setup.{accepts}
 use Rattle.values.specs.declared.Answer.{Answer}
 use Rattle.values.specs.Meaning.{answerOf}
@@ -41,7 +42,7 @@ use Rattle.simulation.specs.Holds.{Holds, memoryAfter, AsModel}
 use Rattle.simulation.specs.Public.{exchangeOf}
 use Rattle.simulation.proofs.Sound.{Sound, sound, left-next}
 use Rattle.simulation.proofs.Ready.{hand-short, times-short, length-joined}
-use Rattle.simulation.proofs.Laid.{memory-path, hub-path}
+use Rattle.simulation.proofs.Laid.{memory-path, site-path, hub-path}
 use Rattle.simulation.proofs.Laws.{next-size}
 use Rattle.simulation.proofs.Rights.{few-rights, standing-stands}
 
@@ -111,8 +112,10 @@ module _ (s : Store) (S : Sound s) (m : Memory) (Z : Sized m) (B : Begins (m .hu
   written-lies : write s m ≡ write s (write s m)
   written-lies =
       memory-path
-      (hub-path refl refl refl refl refl refl refl (sym (over-again (s .site .rows) (m .hub .rows)))
-      (parts-again 28 (λ x. timesRead (x .doing)) (s .workers) (m .hub .times) times-room reads) refl refl refl (sym (over-again (s .site .table) (m .hub .rights))) refl)
+      (hub-path
+      (site-path refl refl refl refl refl (sym (over-again (s .site .rows) (m .hub .site .rows))) refl
+      (sym (over-again (s .site .table) (m .hub .site .rights)))) refl refl refl
+      (parts-again 28 (λ x. timesRead (x .doing)) (s .workers) (m .hub .times) times-room reads) refl refl refl)
       (sym (over-again (map slotRep (s .slots)) (m .slots)))
       (sym (over-again (s .newest) (m .newest)))
       (sym (over-again (reverse (s .free)) (m .free)))
@@ -140,8 +143,8 @@ module _ (s : Store) (S : Sound s) (m : Memory) (Z : Sized m) (B : Begins (m .hu
             length-over (map readOf (s .workers)) (replicate 16 0)
             (omega (arith, length-map (s .workers) readOf, length-replicate {A = ℕ} 16 0, S .bounds .workers .1, S .bounds .workers .2))
             ∙ length-replicate {A = ℕ} 16 0;
-        rows = length-over (s .site .rows) (m .hub .rows) (omega (arith, Z .rows, S .bounds .rows .1)) ∙ Z .rows;
-        rights = length-over (s .site .table) (m .hub .rights) (omega (arith, Z .rights, few-rights (s .site .table) (S .table))) ∙ Z .rights;
+        rows = length-over (s .site .rows) (m .hub .site .rows) (omega (arith, Z .rows, S .bounds .rows .1)) ∙ Z .rows;
+        rights = length-over (s .site .table) (m .hub .site .rights) (omega (arith, Z .rights, few-rights (s .site .table) (S .table))) ∙ Z .rights;
         newest = length-over (s .newest) (m .newest) (omega (arith, Z .newest, S .bounds .registers .1, S .bounds .registers .2)) ∙ Z .newest;
         free =
             length-over (reverse (s .free)) (m .free)
@@ -177,7 +180,7 @@ setup-left list row b fits ok =
     let A = accepts (inForce list) row b ok in (
       fresh (batchOf (A .sizes .P)) (A .sizes) (rowsOf list) (row .table) (row .row),
       A .is,
-      record { row = row; setup = under (inForce list) b; batch = refl; table = fits; accepted = ok; records = []; left = A .is },
+      record { row = row; setup = under (inForce list) b; batch = allowed (inForce list) refl; table = fits; accepted = ok; records = []; left = A .is },
     )
 
 -- every other record leaves the hub as it was
@@ -209,8 +212,8 @@ hub-next list row h b fits (inr (s, e, L)) =
 module _ (m m′ : Memory) (Z : Sized m) (list : List ℕ) where
   -- the hub by value that is written over has its lengths
   hub-sized : (h₀ : Model.Hub) (t : Store)
-      → (length (nextHub h₀ t (m .hub) .workers) ≡ 16) × (length (nextHub h₀ t (m .hub) .times) ≡ 448) × (length (nextHub h₀ t (m .hub) .rows) ≡ 1024)
-      × (length (nextHub h₀ t (m .hub) .marks) ≡ 12) × (length (nextHub h₀ t (m .hub) .reading) ≡ 16) × (length (nextHub h₀ t (m .hub) .rights) ≡ 64)
+      → (length (nextHub h₀ t (m .hub) .workers) ≡ 16) × (length (nextHub h₀ t (m .hub) .times) ≡ 448) × (length (nextHub h₀ t (m .hub) .site .rows) ≡ 1024)
+      × (length (nextHub h₀ t (m .hub) .marks) ≡ 12) × (length (nextHub h₀ t (m .hub) .reading) ≡ 16) × (length (nextHub h₀ t (m .hub) .site .rights) ≡ 64)
   hub-sized (blank row) t = (refl, length-replicate {A = ℕ} 448 0, length-replicate {A = ℕ} 1024 0, refl, refl, Z .rights)
   hub-sized (up s) t = (Z .workers, Z .times, Z .rows, Z .marks, Z .reading, Z .rights)
 

@@ -106,7 +106,7 @@ module _ (m : Memory) (list bytes : List ℕ) where
       let x : Memory = s .memory in
       let w : Worker = workerIn (x .hub) (whoOf (decodedIn (recordAt bytes k))) in
       ap (λ (t : Bool). s .up || t)
-      (gate-sets-up x list (decode (recordAt bytes k)) (s .up) (x .hub .p) (x .hub .v) (length (x .slots)) (w .doing) (w .announced)
+      (gate-sets-up x list (decode (recordAt bytes k)) (s .up) (x .hub .site .p) (x .hub .site .v) (length (x .slots)) (w .doing) (w .announced)
       (rowsKept (x .hub)) (x .hub .marks) (marksRead (x .hub)) (tableKept (x .hub)))
 
   any-at : (k : ℕ)

@@ -65,17 +65,17 @@ linked-cut l n (suc k) h =
     λ i. linkedAnd (linked-cut l n k (omega arith) i) (getD-take 2048 l k vacantSlot (omega arith) i) n
 
 -- a hub by value with more slots does not fit
-too-many : (h : Hub) (long : ℕ) → 2048 < h .n → sizesFit h long ≡ false
+too-many : (h : Hub) (long : ℕ) → 2048 < h .site .n → sizesFit h long ≡ false
 unfolding sizesFit
-too-many h long u = simp (lt-leb (h .n) 2048 u, and-false)
+too-many h long u = simp (lt-leb (h .site .n) 2048 u, and-false)
 
 pub ready-cut : (m : Memory) → ready (cut m) ≡ ready m
 unfolding ready readyOf scansFit sizesFit
 ready-cut m =
     ⊎-elim
-    (λ u. rw (long-cut (m .hub .n) (m .slots) (u .0), linked-cut (m .slots) (m .hub .n) (m .hub .n) (u .0)))
+    (λ u. rw (long-cut (m .hub .site .n) (m .slots) (u .0), linked-cut (m .slots) (m .hub .site .n) (m .hub .site .n) (u .0)))
     (λ u. rw (too-many (m .hub) (length (take 2048 (m .slots))) (u .0), too-many (m .hub) (length (m .slots)) (u .0)))
-    (le-cases (m .hub .n) 2048)
+    (le-cases (m .hub .site .n) 2048)
 
 ------------------------------------------------------------------------
 -- A store of at most 2048 slots in memory

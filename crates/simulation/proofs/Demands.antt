@@ -17,6 +17,7 @@ use Rattle.model.specs.Rules.{document01, inForce, under, allUnder}
 use Rattle.model.specs.Apply.{apply, hubAfter, answersTo}
 use Rattle.model.specs.Demand.{Event, events, Exchange, exchange, history, rowsIn}
 use Rattle.model.specs.MonthEnd.{SameFigures}
+use Rattle.model.proofs.Batch.{allowed}
 use Rattle.theorem.proofs.MonthEnd.{month-end}
 use Rattle.theorem.proofs.Main.{answers-of-events}
 use Rattle.values.specs.Meaning.{answerOf}
@@ -178,7 +179,7 @@ on-earlier list s m E cs begins laid C =
           record {
             row = record { row = E .row; table = [] };
             setup = under (document01 list) (E .setup);
-            batch = refl;
+            batch = allowed (document01 list) refl;
             table = refl;
             accepted = E .accepted;
             records = allUnder (document01 list) (E .records);

@@ -9,7 +9,6 @@ use lib.Dec.{ltb, leb, eqb}
 use lib.ListN.{length, getD, set}
 use lib.Seq.{set-getD}
 use Rattle.model.specs.Store.{absent, lastClock, countOf}
-use Rattle.model.specs.Batch.{batchOf}
 use Rattle.model.specs.Record as Record
 use Rattle.model.specs.Record.{Sizes, SetUp, Asks, commandOf, unusedZero, decode}
 use Rattle.model.specs.Demand.{occurrences}
@@ -138,7 +137,7 @@ module _ (up : Bool) (m : Memory) (r : Record.Decoded) where
   abbrev Ends : Result → Type 0
   Ends z = EndsWell (z .answer) (z .memory)
 
-  module _ (w : ℕ) (s : r ≡ Asks (Record.Step w)) (set-up : up ≡ true) (below : ltb w (m .hub .p) ≡ true) where
+  module _ (w : ℕ) (s : r ≡ Asks (Record.Step w)) (set-up : up ≡ true) (below : ltb w (m .hub .site .p) ≡ true) where
     abbrev x : Worker
     x = workerIn (m .hub) w
 
@@ -197,13 +196,13 @@ module _ (up : Bool) (m : Memory) (r : Record.Decoded) where
     unfolding handedIn putHandInStep
     hand-in-ends c =
         let q : Pool = handedPool (x .pool) c (slotAtIn (m .slots) c) in
-        cond-both (λ (y : Answer). EndsWell y (handedIn m w x c .memory)) (eqb (q .len) (batchOf (m .hub .p % 256))) Going Done (λ f. tt)
+        cond-both (λ (y : Answer). EndsWell y (handedIn m w x c .memory)) (eqb (q .len) (m .hub .site .batch)) Going Done (λ f. tt)
         (λ f. tt)
 
     -- flush (2) and (3)
-    read-ends : (n k : ℕ) → NextEnds (readOrSplit n k (m .hub .p))
+    read-ends : (n k : ℕ) → NextEnds (readOrSplit n k (m .hub .site .p))
     unfolding nextIn readIn allReadIn splitIn
-    read-ends n k = cond-both NextEnds (ltb k (m .hub .p)) _ _ (λ f. tt) (λ f. cond-both NextEnds (eqb k (m .hub .p)) _ _ (λ g. tt) (λ g. tt))
+    read-ends n k = cond-both NextEnds (ltb k (m .hub .site .p)) _ _ (λ f. tt) (λ f. cond-both NextEnds (eqb k (m .hub .site .p)) _ _ (λ g. tt) (λ g. tt))
 
     -- flush (4) and (5)
     free-ends : (n : ℕ) → NextEnds (freeOrDone n (x .announced) (m .hub .clock) (m .hub .free))
@@ -278,8 +277,8 @@ module _ (up : Bool) (m : Memory) (r : Record.Decoded) where
 
 module _ (up : Bool) (m : Memory) (list : List ℕ) where
   -- by the decision
-  gate-ends : (r : Record.Decoded) (d : Doing) → Steps r up (m .hub .p) d ≡ takesStepIn up m r
-      → (g : Gate) → GateNumbered r up (m .hub .p) d g → Ends up m r (obeyIn m list g)
+  gate-ends : (r : Record.Decoded) (d : Doing) → Steps r up (m .hub .site .p) d ≡ takesStepIn up m r
+      → (g : Gate) → GateNumbered r up (m .hub .site .p) d g → Ends up m r (obeyIn m list g)
   unfolding obeyIn
   gate-ends r d e (Refuse k) n = record { number = rw (sym e ∙ n .1) (n .0); leaves = rw (sym e ∙ n .1) }
   gate-ends r d e (Make p v k t) n = tt
@@ -287,7 +286,7 @@ module _ (up : Bool) (m : Memory) (list : List ℕ) where
   gate-ends r d e (Go w) n = step-ends up m r w (n .0) (n .1) (n .2) (workerIn (m .hub) w .doing) refl
 
   -- the worker whose place the decision looks at is the one that the record names
-  looks-at : (r : Record.Decoded) → Steps r up (m .hub .p) (workerIn (m .hub) (whoOf (decodedRep r)) .doing) ≡ takesStepIn up m r
+  looks-at : (r : Record.Decoded) → Steps r up (m .hub .site .p) (workerIn (m .hub) (whoOf (decodedRep r)) .doing) ≡ takesStepIn up m r
   unfolding takesStepIn whoOf
   looks-at (Asks (SetUp z)) = refl
   looks-at (Asks (Record.Begin w o)) = refl
@@ -300,7 +299,7 @@ module _ (up : Bool) (m : Memory) (list : List ℕ) where
     ends-well =
         let x : Worker = workerIn (m .hub) (whoOf (decodedIn b)) in
         gate-ends (decode b) (x .doing) (looks-at (decode b)) (gateIn up m list b)
-        (gate-numbered (decode b) (read-numbered b) up (m .hub .p) (m .hub .v) (length (m .slots)) (x .doing) (x .announced) list (rowsKept (m .hub))
+        (gate-numbered (decode b) (read-numbered b) up (m .hub .site .p) (m .hub .site .v) (length (m .slots)) (x .doing) (x .announced) list (rowsKept (m .hub))
         (m .hub .marks) (marksRead (m .hub)) (tableKept (m .hub)))
 
     -- a record that is refused before it is a command

@@ -43,10 +43,10 @@ module _ (s : Store) (m : Memory) (w : ℕ) (l : List Range) (ts : List ℕ) (S 
   abbrev after : Model.Worker
   after = withDoing (workerAt s w) (Model.FlushRead l (ts ++ s .marks))
 
-  workers-is : m .hub .p ≡ k
-  workers-is = ap (λ (h : Hub). h .p) (hub-is s m laid) ∙ sym all
+  workers-is : m .hub .site .p ≡ k
+  workers-is = ap (λ (h : Hub). h .site .p) (hub-is s m laid) ∙ sym all
 
-  times-are : overAt (28 * w + m .hub .p) (m .hub .marks) (m .hub .times) ≡ timesOver (set (s .workers) w after) (m .hub .times)
+  times-are : overAt (28 * w + m .hub .site .p) (m .hub .marks) (m .hub .times) ≡ timesOver (set (s .workers) w after) (m .hub .times)
   times-are =
       let few = S .bounds .workers .1 in
       let own : timesRead (workerAt s w .doing) ≡ ts = ap timesRead e in
@@ -58,11 +58,11 @@ module _ (s : Store) (m : Memory) (w : ℕ) (l : List Range) (ts : List ℕ) (S 
   abbrev recordOf : ℕ → Worker
   recordOf j = record { doing = D.FlushRead (length l) j; announced = announcedRep (workerAt s w .announced); pool = poolRep (workerAt s w .pool) }
 
-  read-is : (m .hub .p + 12) % 256 ≡ length (ts ++ s .marks)
+  read-is : (m .hub .site .p + 12) % 256 ≡ length (ts ++ s .marks)
   read-is =
       let few = S .bounds .workers .1 in
       let n : length (ts ++ s .marks) ≡ k + 12 = length-append ts (s .marks) ∙ ap (λ (j : ℕ). k + j) (S .marks) in
-      let small : (m .hub .p + 12) % 256 ≡ m .hub .p + 12 = mod-eq-of-lt (omega (arith, workers-is, all)) in
+      let small : (m .hub .site .p + 12) % 256 ≡ m .hub .site .p + 12 = mod-eq-of-lt (omega (arith, workers-is, all)) in
       small ∙ omega (arith, workers-is, n)
 
   stepped : stepAt s w d ≡ record { store = withWorker s w after; answer = Model·Answer.Going }
@@ -85,10 +85,10 @@ module _ (s : Store) (m : Memory) (w : ℕ) (l : List Range) (ts : List ℕ) (S 
   pub read-marks-sim : Simulates s m w d
   unfolding goIn stepOf nextIn allReadIn
   read-marks-sim =
-      let less : ltb k (m .hub .p) ≡ false = le-ltb k (m .hub .p) (omega (arith, workers-is)) in
-      let same : eqb k (m .hub .p) ≡ true = eq-eqb k (m .hub .p) (sym workers-is) in
+      let less : ltb k (m .hub .site .p) ≡ false = le-ltb k (m .hub .site .p) (omega (arith, workers-is)) in
+      let same : eqb k (m .hub .site .p) ≡ true = eq-eqb k (m .hub .site .p) (sym workers-is) in
       moved-sim s m w S laid wb d e after (s .queue) Going _ (queueIn m) _ (m .merged) stepped
       (ap (nextIn m w (recordAt s w d))
-      (cond-no (ltb k (m .hub .p)) (Read (length l) k) _ less ∙ cond-yes (eqb k (m .hub .p)) (ReadMarks (length l)) (Split (length l) k) same))
+      (cond-no (ltb k (m .hub .site .p)) (Read (length l) k) _ less ∙ cond-yes (eqb k (m .hub .site .p)) (ReadMarks (length l)) (Split (length l) k) same))
       (ap recordOf read-is)
       (queue-kept s m (s .queue) (queueIn m) (omega arith) (queue-held s m laid)) times-are kept refl

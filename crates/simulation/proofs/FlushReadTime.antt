@@ -92,7 +92,7 @@ module _ (s : Store) (m : Memory) (w : ℕ) (l : List Range) (ts : List ℕ) (S 
   pub read-time-sim : Simulates s m w d
   unfolding goIn stepOf nextIn readIn
   read-time-sim =
-      let test : ltb k (m .hub .p) ≡ true = ap (λ (h : Hub). ltb k (h .p)) (hub-is s m laid) ∙ lt-ltb k (s .site .P) more in
+      let test : ltb k (m .hub .site .p) ≡ true = ap (λ (h : Hub). ltb k (h .site .p)) (hub-is s m laid) ∙ lt-ltb k (s .site .P) more in
       moved-sim s m w S laid wb d e after (s .queue) Going _ (queueIn m) _ (m .merged) stepped
-      (ap (nextIn m w (recordAt s w d)) (cond-yes (ltb k (m .hub .p)) (Read (length l) k) _ test))
+      (ap (nextIn m w (recordAt s w d)) (cond-yes (ltb k (m .hub .site .p)) (Read (length l) k) _ test))
       (ap recordOf (sym (length-append ts (time ∷ [])))) (queue-kept s m (s .queue) (queueIn m) (omega arith) (queue-held s m laid)) times-are kept refl

@@ -14,7 +14,6 @@ use Rattle.lists.proofs.Over.{take-over}
 use Rattle.model.specs.Store as Model
 use Rattle.model.specs.Store.{Store, Range, markCount, startWorker, workerAt, withWorker, withQueue}
 use Rattle.model.specs.Answer as Model·Answer
-use Rattle.model.specs.Batch.{batchOf}
 use Rattle.model.specs.Ranges.{merge, filter, needed, neededOf, needlessOf, neededPools, joining, queuedPool}
 use Rattle.model.specs.About.{about}
 use Rattle.model.specs.Reached.{sumBy, inHand, versionsHeld}
@@ -42,11 +41,11 @@ use Rattle.simulation.specs.Left.{Sized}
 use Rattle.simulation.specs.Shell.{queueIn, splitIn, nextIn, goIn}
 use Rattle.simulation.proofs.Sound.{Sound, PlaceIn}
 use Rattle.simulation.proofs.Simulates.{Simulates, recordAt}
-use Rattle.simulation.proofs.Laid.{cond-yes, cond-no, hub-is, times-is, times-kept, place-at, among, pool-short, list-is, list-put}
+use Rattle.simulation.proofs.Laid.{cond-yes, cond-no, hub-is, batch-is, times-is, times-kept, place-at, among, pool-short, list-is, list-put}
 use Rattle.simulation.proofs.Laws.{part-of}
 use Rattle.simulation.proofs.FlushQueue.{length-joined, queue-sized, queue-held, queue-kept, ranges-few}
 use Rattle.simulation.proofs.FlushRequeue.{requeued-is}
-use Rattle.simulation.proofs.Moved.{workers-byte, moved-sim}
+use Rattle.simulation.proofs.Moved.{moved-sim}
 
 -- a list is as long as what passes a test and what does not
 length-parts : (p : Range → Bool) (l : List Range) → length (filter p l) + length (filter (λ ρ. not (p ρ)) l) ≡ length l
@@ -102,7 +101,7 @@ module _ (s : Store) (m : Memory) (w : ℕ) (l : List Range) (ts : List ℕ) (S 
   -- What is read from memory
 
   abbrev p : ℕ
-  p = m .hub .p
+  p = m .hub .site .p
 
   abbrev times : List ℕ
   times = m .hub .times
@@ -114,7 +113,7 @@ module _ (s : Store) (m : Memory) (w : ℕ) (l : List Range) (ts : List ℕ) (S 
   listed = rangesAt (partOf (m .merged) w) 0 (length l)
 
   workers-is : p ≡ s .site .P
-  workers-is = ap (λ (h : Hub). h .p) (hub-is s m laid)
+  workers-is = ap (λ (h : Hub). h .site .p) (hub-is s m laid)
 
   abbrev t : ℕ
   t = length ts
@@ -162,7 +161,7 @@ module _ (s : Store) (m : Memory) (w : ℕ) (l : List Range) (ts : List ℕ) (S 
       let n = S .bounds .slots .1 in
       omega (arith, ranges-few s S, length-parts (needed ts) l)
 
-  queue-split : splitQueue (queueIn m) (m .merged) w (length l) times t p local ≡ queueRep pools (queueIn m)
+  queue-split : splitQueue (queueIn m) (m .merged) w (length l) times t (m .hub .site .batch) local ≡ queueRep pools (queueIn m)
   unfolding splitQueue
   queue-split =
       let q : Queue = queueIn m in
@@ -173,7 +172,7 @@ module _ (s : Store) (m : Memory) (w : ℕ) (l : List Range) (ts : List ℕ) (S 
       omega (arith, length-joined (s .queue), pools-ranges (2 * b) (s .queue) (S .bounds .queued)) in
       let c = S .bounds .batch in
       cond-yes (maySplit w (length l) t local) _ q may
-      ∙ (λ i. requeued q local (over (flat (stay-is i)) (replicate 768 0)) (stays i) ((ap batchOf (workers-byte s m S laid) ∙ sym (S .batch)) i))
+      ∙ (λ i. requeued q local (over (flat (stay-is i)) (replicate 768 0)) (stays i) (batch-is s m laid i))
       ∙ requeued-is (s .queue) q (own .pool) stay b (queue-sized m Z) B (queue-held s m laid) some (c .0) (omega (arith, pool-short s S w wb)) room
 
   ----------------------------------------------------------------------

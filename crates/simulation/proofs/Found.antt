@@ -39,7 +39,7 @@ short-is x h = omega arith
 module _ (s : Store) (m : Memory) (S : Sound s) (laid : m ≡ write s m) where
   pub step-is : (w : ℕ) (d : Model.Doing) → stepAtIn m (recordAt s w d) (doingRep d) ≡ stepFound s m w d
   step-is w d =
-      ap (λ (h : Hub). stepOf (doingRep d) (announcedRep (workerAt s w .announced)) (h .clock) (h .free) (h .p) (m .slots) (m .newest) (m .free)
+      ap (λ (h : Hub). stepOf (doingRep d) (announcedRep (workerAt s w .announced)) (h .clock) (h .free) (h .site .p) (m .slots) (m .newest) (m .free)
       (rowsKept (m .hub)) (m .hub .marks) (marksRead (m .hub)))
       (hub-is s m laid)
       ∙ (λ i. stepOf (doingRep d) (announcedRep (workerAt s w .announced)) (s .clock) (length (s .free)) (s .site .P) (m .slots) (m .newest) (m .free)

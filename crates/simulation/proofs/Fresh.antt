@@ -14,6 +14,7 @@ use Rattle.lists.specs.Over.{over}
 use Rattle.lists.proofs.Over.{over-nil, over-push, getD-over-past}
 use Rattle.model.specs.Store as Model
 use Rattle.model.specs.Store.{absent, slot₀, startWorker, upFrom}
+use Rattle.model.specs.Batch.{batchOf}
 use Rattle.model.specs.Record.{Sizes, rowsOf, listFits}
 use Rattle.model.specs.Apply.{firstSlots, fresh}
 use Rattle.model.specs.Versions.{alone}
@@ -26,11 +27,11 @@ use Rattle.values.specs.declared.Content.the-variants.{NoReading}
 use Rattle.slots.specs.declared.Slot.{Slot}
 use Rattle.slots.specs.Slots.{slotRep, slotOf, vacantSlot, madeSlot, madeTo}
 use Rattle.state.specs.declared.Hub.{Hub}
-use Rattle.state.specs.State.{bareHub, freshHub, standing, standingCount}
+use Rattle.state.specs.State.{tabledSite, bareHub, freshHub, siteMade, standing}
 use Rattle.arrays.specs.Arrays.{short, fillTo}
-use Rattle.simulation.specs.Memory.{partsOver, readOf, hubRep, handWords, inHandWords, mergedOver}
+use Rattle.simulation.specs.Memory.{partsOver, readOf, siteRep, hubRep, handWords, inHandWords, mergedOver}
 use Rattle.simulation.proofs.Contents.{content-back}
-use Rattle.simulation.proofs.Laid.{hub-path}
+use Rattle.simulation.proofs.Laid.{site-path, hub-path}
 use Rattle.simulation.proofs.Rights.{standing-length, standing-over}
 
 ------------------------------------------------------------------------
@@ -170,18 +171,24 @@ rows-few v list e =
     omega (arith, few-rows v 0 0 (rowsOf list) (a .1) (omega arith) (omega arith))
 
 -- with the table that stands in the hub by value before it
-pub hub-made : (b : ℕ) (z : Sizes) (list : List ℕ) (row : List Model.Slot) (k : Hub) → z .P ≤ 16 → length (rowsOf list) ≤ 1024
-    → length (k .rights) ≡ 64
-    → freshHub (z .P) (z .V') (z .N) (z .clock) (length list / 4) (over (take 1024 (rowsOf list)) (replicate 1024 0)) (standingCount k) (k .rights)
-    ≡ hubRep (fresh b z (rowsOf list) (standing k) row) (bareHub (k .rights))
+pub site-made : (z : Sizes) (list : List ℕ) (k : Hub) → length (rowsOf list) ≤ 1024 → length (k .site .rights) ≡ 64
+    → siteMade k list (z .P) (z .V') (z .N)
+    ≡ siteRep (record { P = z .P; V' = z .V'; N = z .N; B = batchOf (z .P); rows = rowsOf list; table = standing k }) (tabledSite 0 (k .site .rights))
+site-made z list k few long =
+    site-path refl refl refl refl (sym (rows-length list)) (ap (λ (l : List ℕ). over l (replicate 1024 0)) (take-all 1024 (rowsOf list) few))
+    (sym (standing-length k long)) (sym (standing-over k))
+
+pub hub-made : (z : Sizes) (list : List ℕ) (row : List Model.Slot) (k : Hub) → z .P ≤ 16 → length (rowsOf list) ≤ 1024
+    → length (k .site .rights) ≡ 64
+    → freshHub (siteMade k list (z .P) (z .V') (z .N)) (z .clock)
+    ≡ hubRep (fresh (batchOf (z .P)) z (rowsOf list) (standing k) row) (bareHub (k .site .rights))
 unfolding fresh
-hub-made b z list row k h few long =
-    hub-path refl refl refl refl (sym (up-length (z .V') (z .N - z .V'))) refl (sym (rows-length list))
-    (ap (λ (l : List ℕ). over l (replicate 1024 0)) (take-all 1024 (rowsOf list) few)) (parts-made 28 (λ x. timesRead (x .doing)) refl (z .P) (replicate 448 0)) refl
+hub-made z list row k h few long =
+    hub-path (site-made z list k few long) refl (sym (up-length (z .V') (z .N - z .V'))) refl
+    (parts-made 28 (λ x. timesRead (x .doing)) refl (z .P) (replicate 448 0)) refl
     (sym
     (ap (λ (l : List ℕ). over l (replicate 16 0)) (map-replicate readOf (z .P) startWorker)
     ∙ over-replicate 0 (z .P) 16 h))
-    (sym (standing-length k long)) (sym (standing-over k))
     (sym
     (ap (λ (l : List Worker). over l (replicate 16 (workerRep startWorker))) (map-replicate workerRep (z .P) startWorker)
     ∙ over-replicate (workerRep startWorker) (z .P) 16 h))

@@ -45,7 +45,7 @@ use Rattle.simulation.proofs.Marks.{numberOf, UnreadIn, refusal-same, N
 -- the gate of a record that was read as r, by whether the memory is ready, the length of the row, the list that is lent, and the hub by value
 abbrev pub gateBy : Decoded → Bool → ℕ → List ℕ → Hub → Gate
 gateBy r ready long list h =
-    gateOf r ready (h .p) (h .v) long (workerIn h (whoOf r) .doing) (workerIn h (whoOf r) .announced) list (rowsKept h)
+    gateOf r ready (h .site .p) (h .site .v) long (workerIn h (whoOf r) .doing) (workerIn h (whoOf r) .announced) list (rowsKept h)
     (h .marks) (marksRead h) (tableKept h)
 
 -- a begin of operation o by worker w in the store s is accepted
@@ -87,14 +87,14 @@ module _ (s : Store) (S : Sound s) (k : Hub) (list : List ℕ) where
 
   -- the rows that count are the store's
   kept-rows : rowsKept (hubRep s k) ≡ rows
-  kept-rows = take-over rows (k .rows) (length rows) refl
+  kept-rows = take-over rows (k .site .rows) (length rows) refl
 
   abbrev table : List ℕ
   table = s .site .table
 
   -- so are those of rights
   kept-table : tableKept (hubRep s k) ≡ table
-  kept-table = take-over table (k .rights) (length table) refl
+  kept-table = take-over table (k .site .rights) (length table) refl
 
   -- what the workers read of marks
   abbrev reading : List ℕ

@@ -9,7 +9,6 @@ use lib.Dec.{eqb}
 use lib.ListN.{length, replicate, length-append}
 use Rattle.model.specs.Store as Model
 use Rattle.model.specs.Store.{Store, Range, workerAt, slotAt, rangeOf, withWorker}
-use Rattle.model.specs.Batch.{batchOf}
 use Rattle.model.specs.Answer as Model·Answer
 use Rattle.model.specs.Steps.{stepAt, putHandIn}
 use Rattle.values.specs.Meaning.{answerOf}
@@ -29,9 +28,9 @@ use Rattle.simulation.specs.Left.{Sized}
 use Rattle.simulation.specs.Shell.{withRecord, queueIn, handedIn, nextIn, goIn}
 use Rattle.simulation.proofs.Sound.{Sound, PlaceIn}
 use Rattle.simulation.proofs.Simulates.{Simulates}
-use Rattle.simulation.proofs.Laid.{times-kept, all-set, slot-is, place-at, among, list-kept}
+use Rattle.simulation.proofs.Laid.{batch-is, times-kept, all-set, slot-is, place-at, among, list-kept}
 use Rattle.simulation.proofs.FlushQueue.{queue-held, queue-kept}
-use Rattle.simulation.proofs.Moved.{workers-byte, moved-sim}
+use Rattle.simulation.proofs.Moved.{moved-sim}
 
 -- the worker after it, by whether the pool is full
 abbrev after : Bool → Model.Worker → List Range → Model.Worker
@@ -100,9 +99,9 @@ module _ (s : Store) (m : Memory) (w r c : ℕ) (S : Sound s) (Z : Sized m) (lai
       ∙ ap₂ (appended (poolRep (own .pool)) c) low high
       ∙ append-rep (own .pool) (rangeOf s c) room
 
-  handed-is : putHandInStep (m .slots) (poolRep (own .pool)) c (m .hub .p) ≡ handed (poolRep pool) full
+  handed-is : putHandInStep (m .slots) (poolRep (own .pool)) c (m .hub .site .batch) ≡ handed (poolRep pool) full
   unfolding putHandInStep
-  handed-is = ap₂ (λ (q : Pool) (p : ℕ). handed q (eqb (q .len) p)) pool-is (ap batchOf (workers-byte s m S laid) ∙ sym (S .batch))
+  handed-is = ap₂ (λ (q : Pool) (p : ℕ). handed q (eqb (q .len) p)) pool-is (batch-is s m laid)
 
   pub put-hand-in-sim : Simulates s m w d
   unfolding stepAt putHandIn goIn stepOf nextIn handedIn

@@ -20,6 +20,7 @@ use Rattle.slots.specs.declared.Slot.{Slot}
 use Rattle.slots.specs.Slots.{slotRep, vacantSlot}
 use Rattle.ranges.specs.Words.{flat}
 use Rattle.queue.specs.Rep.{joinedRanges}
+use Rattle.state.specs.declared.Site.{Site}
 use Rattle.state.specs.declared.Hub.{Hub}
 use Rattle.state.specs.State.{emptyHub, workerIn, withWorkerIn, withWindowIn, withTimesIn, withReadingIn}
 use Rattle.flush.specs.Flush.{partOf, withPart}
@@ -50,26 +51,15 @@ pub memory-path : {m m′ : Memory} → m .hub ≡ m′ .hub → m .slots ≡ m�
 memory-path h s n f q l g =
     λ i. record { hub = h i; slots = s i; newest = n i; free = f i; queue = q i; lens = l i; merged = g i }
 
-pub hub-path : {h h′ : Hub} → h .p ≡ h′ .p → h .v ≡ h′ .v → h .n ≡ h′ .n → h .clock ≡ h′ .clock → h .free ≡ h′ .free
-    → h .window ≡ h′ .window → h .listed ≡ h′ .listed → h .rows ≡ h′ .rows → h .times ≡ h′ .times → h .marks ≡ h′ .marks → h .reading ≡ h′ .reading
-    → h .granted ≡ h′ .granted → h .rights ≡ h′ .rights → h .workers ≡ h′ .workers → h ≡ h′
-hub-path p v n c f q k r t g b e x w =
-    λ i. record {
-      p = p i;
-      v = v i;
-      n = n i;
-      clock = c i;
-      free = f i;
-      window = q i;
-      listed = k i;
-      rows = r i;
-      times = t i;
-      marks = g i;
-      reading = b i;
-      granted = e i;
-      rights = x i;
-      workers = w i;
-    }
+pub site-path : {x y : Site} → x .p ≡ y .p → x .v ≡ y .v → x .n ≡ y .n → x .batch ≡ y .batch → x .listed ≡ y .listed → x .rows ≡ y .rows
+    → x .granted ≡ y .granted → x .rights ≡ y .rights → x ≡ y
+site-path p v n b k r g t =
+    λ i. record { p = p i; v = v i; n = n i; batch = b i; listed = k i; rows = r i; granted = g i; rights = t i }
+
+pub hub-path : {h h′ : Hub} → h .site ≡ h′ .site → h .clock ≡ h′ .clock → h .free ≡ h′ .free → h .window ≡ h′ .window → h .times ≡ h′ .times
+    → h .marks ≡ h′ .marks → h .reading ≡ h′ .reading → h .workers ≡ h′ .workers → h ≡ h′
+hub-path x c f q t g b w =
+    λ i. record { site = x i; clock = c i; free = f i; window = q i; times = t i; marks = g i; reading = b i; workers = w i }
 
 ------------------------------------------------------------------------
 -- The member of a list that was replaced
@@ -107,13 +97,17 @@ module _ (s : Store) (m : Memory) (laid : m ≡ write s m) where
   -- the rows of totals that count
   pub rows-is : rowsKept (m .hub) ≡ s .site .rows
   rows-is =
-      ap (λ (x : Memory). rowsKept (x .hub)) laid ∙ take-over (s .site .rows) (m .hub .rows) (length (s .site .rows)) refl
+      ap (λ (x : Memory). rowsKept (x .hub)) laid ∙ take-over (s .site .rows) (m .hub .site .rows) (length (s .site .rows)) refl
 
   -- which mark each worker reads
   pub reads-is : length (s .workers) ≡ s .site .P → marksRead (m .hub) ≡ map readOf (s .workers)
   reads-is e =
       ap (λ (x : Memory). marksRead (x .hub)) laid
       ∙ take-over (map readOf (s .workers)) (replicate 16 0) (s .site .P) (length-map (s .workers) readOf ∙ e)
+
+  -- the batch size
+  pub batch-is : m .hub .site .batch ≡ s .site .B
+  batch-is = ap (λ (x : Memory). x .hub .site .batch) laid
 
   pub marks-is : m .hub .marks ≡ s .marks
   marks-is = ap (λ (x : Memory). x .hub .marks) laid

@@ -2,8 +2,7 @@
 -- w's record, the queue and the merged lists of the model's next store, the step is the model's.
 use mathlib.Core.Path.{_≡_, refl, sym, ap, _∙_}
 use mathlib.Core.List.{List}
-use Prim.Native.Nat.{ℕ, _<_, _%_}
-use native.Mathlib.Omega.{arith}
+use Prim.Native.Nat.{ℕ, _<_}
 use lib.ListN.{set}
 use Rattle.model.specs.Store as Model
 use Rattle.model.specs.Store.{Store, Range, workerAt, withWorker, withQueue}
@@ -40,10 +39,6 @@ movedIn m w x q ts merged =
       lens = q .lens;
       merged = merged;
     }
-
--- how many workers there are fits a byte
-pub workers-byte : (s : Store) (m : Memory) → Sound s → m ≡ write s m → m .hub .p % 256 ≡ s .site .P
-workers-byte s m S laid = let few = S .bounds .workers .1 in ap (λ (h : Hub). h .p % 256) (hub-is s m laid) ∙ omega arith
 
 module _ (s : Store) (m : Memory) (w : ℕ) (S : Sound s) (laid : m ≡ write s m) (wb : w < s .site .P) where
   -- the code leaves the record X, the queue q, the times ts and the merged lists g, the model the worker x and the pools ps

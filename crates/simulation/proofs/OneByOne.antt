@@ -103,7 +103,7 @@ module _ (steps : StepsSimulate) (m : Memory) (list b : List ℕ) (Z : Sized m) 
   flagged (blank row) H =
       let x : Worker = workerIn (m .hub) (whoOf (decodedIn b)) in
       blank-gate (λ (g : Gate). gateIn (ready m) m list b ≡ g → Flagged) (flag-refused row H) (flag-made row H)
-      (Record.decode b) (m .hub .p) (m .hub .v) (length (m .slots)) (x .doing) (x .announced) list (rowsKept (m .hub))
+      (Record.decode b) (m .hub .site .p) (m .hub .site .v) (length (m .slots)) (x .doing) (x .announced) list (rowsKept (m .hub))
       (m .hub .marks) (marksRead (m .hub)) (tableKept (m .hub))
       (ap (λ (t : Bool). gateIn t m list b) (H .0))
 

@@ -15,7 +15,6 @@ use Rattle.lists.proofs.Over.{getD-over-in}
 use Rattle.model.specs.Store as Model
 use Rattle.model.specs.Store.{Store, Range, absent, markCount, startWorker, workerAt, newestOf}
 use Rattle.model.specs.About.{about}
-use Rattle.model.specs.Batch.{batchOf}
 use Rattle.model.specs.Demand.{All}
 use Rattle.model.specs.Rules.{twelveDigits}
 use Rattle.model.specs.Totals.{groupOf, signOf, registerOf, rowAt}
@@ -222,11 +221,11 @@ module _ {s : Store} (m : Memory) (S : Sound s) (Z : Sized m) (B : Begins (m .hu
       → inHand (about (workerAt s w .doing) .hand) + length (workerAt s w .pool) ≤ s .site .N - s .site .V'
   held w b = omega (arith, S .bounds .total, sumBy-one versionsHeld (s .workers) w startWorker (among s S w b))
 
-  hand-few : (w : ℕ) → w < s .site .P → inHand (about (workerAt s w .doing) .hand) ≤ 4 * batchOf (s .site .P)
+  hand-few : (w : ℕ) → w < s .site .P → inHand (about (workerAt s w .doing) .hand) ≤ 4 * s .site .B
   hand-few w b =
       let a = All-at (λ (x : Model.Worker). inHand (about (x .doing) .hand) ≤ 4 * s .site .B) (s .workers) w startWorker (among s S w b)
       (S .bounds .merged) in
-      omega (arith, a, S .batch)
+      omega (arith, a)
 
   worker-yes : (w : ℕ) → w < s .site .P
       → workerFits (workerIn (hubRep s emptyHub) w) w (m .merged) (local same) (list same) (s .site .P) (s .site .V') (s .site .N)
@@ -236,7 +235,7 @@ module _ {s : Store} (m : Memory) (S : Sound s) (Z : Sized m) (B : Begins (m .hu
   worker-yes w b =
       let t : ℕ = workerAt s w .announced in
       let d : Model.Doing = workerAt s w .doing in
-      let pool : length (workerAt s w .pool) ≤ local same = omega (arith, pool-short s S w b, S .batch, held w b) in
+      let pool : length (workerAt s w .pool) ≤ local same = omega (arith, pool-short s S w b, held w b) in
       let hand : inHand (about d .hand) ≤ list same = omega (arith, hand-few w b, held w b) in
       rw (
         worker-at s S w b d refl,
@@ -255,9 +254,9 @@ module _ {s : Store} (m : Memory) (S : Sound s) (Z : Sized m) (B : Begins (m .hu
       ap (λ (l : List ℕ). getD l r 0) (newest-is s m laid) ∙ getD-over-in (s .newest) (m .newest) r 0 h ∙ getD-inside (s .newest) r 0 absent h in
       omega (arith, e, S .newest r b)
 
-  rows-below : (i : ℕ) → i < length (s .site .rows) → registerOf (rowAt (over (s .site .rows) (m .hub .rows)) i) < s .site .V'
+  rows-below : (i : ℕ) → i < length (s .site .rows) → registerOf (rowAt (over (s .site .rows) (m .hub .site .rows)) i) < s .site .V'
   rows-below i b =
-      let e : rowAt (over (s .site .rows) (m .hub .rows)) i ≡ rowAt (s .site .rows) i = getD-over-in (s .site .rows) (m .hub .rows) i 0 b in
+      let e : rowAt (over (s .site .rows) (m .hub .site .rows)) i ≡ rowAt (s .site .rows) i = getD-over-in (s .site .rows) (m .hub .site .rows) i 0 b in
       let row : ℕ = rowAt (s .site .rows) i in
       rw e (ltb-true (registerOf row) (s .site .V')
       (and-both (leb (groupOf row) 31 && leb (signOf row) 1) _ (row-fits (s .site .V') 0 0 (s .site .rows) (S .bounds .rows .0) i b) .1))
@@ -288,7 +287,7 @@ module _ {s : Store} (m : Memory) (S : Sound s) (Z : Sized m) (B : Begins (m .hu
   lens-behind : drop (w .first) (m .lens) ≡ over (map length (s .queue)) (drop (w .first) (m .lens))
   lens-behind = lens-held (s .queue) (queueIn m) (queue-sized m Z) B (queue-held s m laid)
 
-  lens-in : (i : ℕ) → i < length (s .queue) → (1 ≤ lengthIn m i) × (lengthIn m i ≤ 2 * batchOf (s .site .P))
+  lens-in : (i : ℕ) → i < length (s .queue) → (1 ≤ lengthIn m i) × (lengthIn m i ≤ 2 * s .site .B)
   lens-in i b =
       let h : i < length (map length (s .queue)) = omega (arith, b, length-map (s .queue) length) in
       let e : lengthIn m i ≡ length (getD (s .queue) i []) =
@@ -297,7 +296,7 @@ module _ {s : Store} (m : Memory) (S : Sound s) (Z : Sized m) (B : Begins (m .hu
       ∙ getD-over-in (map length (s .queue)) (drop (w .first) (m .lens)) i 0 h
       ∙ getD-map length (s .queue) i [] 0 b in
       let a = All-at (λ (l : List Range). (1 ≤ length l) × (length l ≤ 2 * s .site .B)) (s .queue) i [] b (S .bounds .queued) in
-      (omega (arith, e, a .0), omega (arith, e, a .1, S .batch))
+      (omega (arith, e, a .0), omega (arith, e, a .1))
 
   lens-added : lensSum (m .lens) (w .first) (length (s .queue)) ≡ length (joinedRanges (s .queue))
   unfolding over
@@ -320,6 +319,7 @@ module _ {s : Store} (m : Memory) (S : Sound s) (Z : Sized m) (B : Begins (m .hu
             p = (S .bounds .workers .0, S .bounds .workers .1);
             v = (S .bounds .registers .0, S .bounds .registers .1);
             n = (S .bounds .slots .0, S .bounds .slots .1, omega (arith, S .bounds .slots .2));
+            batch = S .bounds .batch;
             free = omega (arith, S .bounds .total);
             queued = omega (arith, S .bounds .total, length-joined (s .queue));
             pools = pools-few;
@@ -332,7 +332,7 @@ module _ {s : Store} (m : Memory) (S : Sound s) (Z : Sized m) (B : Begins (m .hu
             listed = S .bounds .rows .1;
             rows = rows-below;
             granted = few-rights (s .site .table) (S .table);
-            rights = rights-in (s .site .table) (S .table) (m .hub .rights);
+            rights = rights-in (s .site .table) (S .table) (m .hub .site .rights);
             neighbours = near-in;
             workers = λ w b. worker-tells same w (omega (arith, b, S .bounds .workers .1)) (workerIn (hubRep s emptyHub) w) (worker-yes w b);
           }

@@ -91,10 +91,10 @@ module _ (t : List ℕ) (e : tableStands t ≡ true) where
 -- The table that stands in a hub by value
 
 module _ (h : Hub) where
-  pub sound-tells : tableSound h ≡ true → (h .granted ≤ 64) × (eachOf rightFits (tableKept h) ≡ true)
+  pub sound-tells : tableSound h ≡ true → (h .site .granted ≤ 64) × (eachOf rightFits (tableKept h) ≡ true)
   sound-tells e =
-      let a = and-both (leb (h .granted) 64) (eachOf rightFits (tableKept h)) e in
-      (leb-true (h .granted) 64 (a .0), a .1)
+      let a = and-both (leb (h .site .granted) 64) (eachOf rightFits (tableKept h)) e in
+      (leb-true (h .site .granted) 64 (a .0), a .1)
 
   pub standing-stands : tableStands (standing h) ≡ true
   unfolding tableStands eachOf
@@ -103,18 +103,18 @@ module _ (h : Hub) where
       go : (t : Bool) → tableSound h ≡ t → tableStands (cond t (tableKept h) []) ≡ true
       go true e =
           let a = sound-tells e in
-          rw (le-leb (length (tableKept h)) 64 (omega (arith, length-take (h .granted) (h .rights), a .0))) (a .1)
+          rw (le-leb (length (tableKept h)) 64 (omega (arith, length-take (h .site .granted) (h .site .rights), a .0))) (a .1)
       go false e = refl
 
-  pub standing-length : length (h .rights) ≡ 64 → length (standing h) ≡ standingCount h
+  pub standing-length : length (h .site .rights) ≡ 64 → length (standing h) ≡ standingCount h
   standing-length long = go (tableSound h) refl
     where
-      go : (t : Bool) → tableSound h ≡ t → length (cond t (tableKept h) []) ≡ cond t (h .granted) 0
-      go true e = length-take-le (h .granted) (h .rights) (omega (arith, long, sound-tells e .0))
+      go : (t : Bool) → tableSound h ≡ t → length (cond t (tableKept h) []) ≡ cond t (h .site .granted) 0
+      go true e = length-take-le (h .site .granted) (h .site .rights) (omega (arith, long, sound-tells e .0))
       go false e = refl
 
   -- it stands at the front of its array
-  pub standing-over : over (standing h) (h .rights) ≡ h .rights
+  pub standing-over : over (standing h) (h .site .rights) ≡ h .site .rights
   unfolding over
   standing-over = go (tableSound h)
     where
@@ -123,6 +123,6 @@ module _ (h : Hub) where
       front (suc n) [] = refl
       front (suc n) (x ∷ l) = ap (λ (q : List ℕ). x ∷ q) (front n l)
 
-      go : (t : Bool) → over (cond t (tableKept h) []) (h .rights) ≡ h .rights
-      go true = front (h .granted) (h .rights)
-      go false = over-nil (h .rights)
+      go : (t : Bool) → over (cond t (tableKept h) []) (h .site .rights) ≡ h .site .rights
+      go true = front (h .site .granted) (h .site .rights)
+      go false = over-nil (h .site .rights)

@@ -222,15 +222,15 @@ lens-sum (l ∷ q) lens d i e =
 
 module _ (h : Hub) (merged : List ℕ) (local list k : ℕ) where
   test-worker : ℕ → Bool
-  test-worker w = workerFits (workerIn h w) w merged local list (h .p) (h .v) (h .n) (h .listed)
+  test-worker w = workerFits (workerIn h w) w merged local list (h .site .p) (h .site .v) (h .site .n) (h .site .listed)
 
-  pub workers-yes : ((w : ℕ) → w < k → workerFits (workerIn h w) w merged local list (h .p) (h .v) (h .n) (h .listed) ≡ true)
+  pub workers-yes : ((w : ℕ) → w < k → workerFits (workerIn h w) w merged local list (h .site .p) (h .site .v) (h .site .n) (h .site .listed) ≡ true)
       → workersFit h merged local list k ≡ true
   unfolding workersFit test-worker
   workers-yes g = all-yes (workersFit h merged local list) test-worker (λ j. refl) refl k g
 
   pub workers-tell : workersFit h merged local list k ≡ true
-      → (w : ℕ) → w < k → workerFits (workerIn h w) w merged local list (h .p) (h .v) (h .n) (h .listed) ≡ true
+      → (w : ℕ) → w < k → workerFits (workerIn h w) w merged local list (h .site .p) (h .site .v) (h .site .n) (h .site .listed) ≡ true
   unfolding workersFit test-worker
   workers-tell e w b = all-tell (workersFit h merged local list) test-worker (λ j. refl) k e w b
 

@@ -98,7 +98,7 @@ module _ (m : Memory) (Z : Sized m) (list : List ℕ) where
   made z I long lf =
       record {
         memory =
-            memory-path (hub-made (batchOf (z .P)) z list row (m .hub) (I .P≤16) (rows-few (z .V') list lf) (Z .rights)) (slots-made (m .slots) (z .V') (z .N) long)
+            memory-path (hub-made z list row (m .hub) (I .P≤16) (rows-few (z .V') list lf) (Z .rights)) (slots-made (m .slots) (z .V') (z .N) long)
             (newest-made (m .newest) (z .V') (omega (arith, I .V≤256, Z .newest)) (omega (arith, I .V≤256)))
             (free-made (m .free) (z .N) (z .N - z .V') (z .V') (omega (arith, I .V≤N)) (omega (arith, I .N≤2048, Z .free)) (omega (arith, I .N≤2048)))
             (overAt-none (m .queue) 0 []) (overAt-none (m .lens) 0 []) (merged-made (z .P) (m .merged));

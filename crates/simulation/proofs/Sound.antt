@@ -10,7 +10,6 @@ use native.Mathlib.Omega.{arith}
 use lib.ListN.{length}
 use Rattle.model.specs.Store as Model
 use Rattle.model.specs.Store.{markCount, Store, Range, up, absent, lastClock, startWorker, workerAt, slotAt, newestOf}
-use Rattle.model.specs.Batch.{batchOf}
 use Rattle.model.specs.Rights.{tableStands}
 use Rattle.model.specs.Rules.{Rules, Ruled}
 use Rattle.model.specs.Record.{rowsOf}
@@ -27,7 +26,6 @@ use Rattle.theorem.proofs.Full.{near}
 use Rattle.theorem.proofs.Setup.{accepts}
 use Rattle.theorem.proofs.Reached.{Reached, reached-apply, reached-start, bounds}
 use Rattle.simulation.specs.Left.{LeftByRecords}
-use Rattle.model.proofs.Batch.{allowed}
 use Rattle.simulation.proofs.Chains.{three, next-older, head-older, old-low, stands-in}
 
 -- a range names a slot, and its low and high are times
@@ -72,9 +70,8 @@ PlaceIn s t (Model.ReadStand g c) = (g .register < s .site .V') × (c < s .site 
 PlaceIn s t (Model.GetShow r) = r < s .site .V'
 
 pub record Sound (s : Store) : Type 0 where
-  -- the sizes, the lengths and how long the lists are, for the batch size of H1.24
+  -- the sizes, the lengths and how long the lists are
   pub bounds : Bounds s
-  pub batch : s .site .B ≡ batchOf (s .site .P)
   -- the table of rights is one that may be given
   pub table : tableStands (s .site .table) ≡ true
   pub newest : (r : ℕ) → r < s .site .V' → newestOf s r < s .site .N
@@ -108,7 +105,7 @@ reached {s} L =
     let rules : Rules = L .setup .rules in
     let A = accepts rules (L .row) (L .setup .bytes) (L .accepted) in
     reached-from rules (L .row .table) (L .records)
-    (fresh (rules .batch (A .sizes .P)) (A .sizes) (rowsOf (rules .list)) (L .row .table) (L .row .row)) s (reached-start rules (allowed rules (L .batch)) A)
+    (fresh (rules .batch (A .sizes .P)) (A .sizes) (rowsOf (rules .list)) (L .row .table) (L .row .row)) s (reached-start rules (L .batch) A)
     (subst (λ (h : Model.Hub). hubAfter h (L .records) ≡ up s) (A .is) (L .left))
 
 ------------------------------------------------------------------------
@@ -232,11 +229,10 @@ module _ {now : ℕ} {s : Store} {olds : List (List ℕ)} {h : List Call} {o : L
 ------------------------------------------------------------------------
 -- The statements
 
-reached-sound : (first : Rules) (table : List ℕ) → first .batch ≡ batchOf → tableStands table ≡ true → (s : Store) → Reached first table s → Sound s
-reached-sound first table same fits s R =
+reached-sound : (first : Rules) (table : List ℕ) → tableStands table ≡ true → (s : Store) → Reached first table s → Sound s
+reached-sound first table fits s R =
     record {
       bounds = B;
-      batch = R .fits .batch ∙ ap (λ (f : ℕ → ℕ). f (s .site .P)) same;
       table = ap tableStands (R .fits .own) ∙ fits;
       newest = newest-in I;
       unstamped = unstamped-apart I;
@@ -267,7 +263,7 @@ reached-sound first table same fits s R =
 
 -- every store that records left is sound
 pub sound : {s : Store} → LeftByRecords s → Sound s
-sound {s} L = reached-sound (L .setup .rules) (L .row .table) (L .batch) (L .table) s (reached L)
+sound {s} L = reached-sound (L .setup .rules) (L .row .table) (L .table) s (reached L)
 
 after-more : (h : Model.Hub) (bs : List Ruled) (b : Ruled) → hubAfter h (bs ++ (b ∷ [])) ≡ applyRuled (hubAfter h bs) b .hub
 unfolding hubAfter

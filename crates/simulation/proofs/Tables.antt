@@ -24,7 +24,7 @@ use Rattle.state.specs.State.{standing, tableSound}
 use Rattle.simulation.specs.Memory.{Memory, withHub, Result, answered}
 use Rattle.simulation.specs.Left.{Sized, Left, ready}
 use Rattle.simulation.specs.Holds.{Holds}
-use Rattle.simulation.specs.Tables.{tabledHub, tableGiven, Gives, emptiedIn}
+use Rattle.simulation.specs.Tables.{withTable, tableGiven, Gives, emptiedIn}
 use Rattle.simulation.proofs.Laid.{cond-yes}
 use Rattle.simulation.proofs.Fresh.{up-length}
 use Rattle.simulation.proofs.Assembly.{left-ready}
@@ -35,15 +35,15 @@ module _ (m : Memory) (bytes : List ℕ) where
   length-table = length-map (upFrom 0 (length bytes / 8)) _ ∙ up-length 0 (length bytes / 8)
 
   -- the rows of an accepted table stand
-  stands : tableFits bytes ≡ true → standing (tabledHub (m .hub) bytes) ≡ tableOf bytes
+  stands : tableFits bytes ≡ true → standing (withTable (m .hub) bytes) ≡ tableOf bytes
   unfolding tableFits tableStands
   stands e =
       let a = and-both (eqb (length bytes % 8) 0) (leb (length (tableOf bytes)) 64 && eachOf rightFits (tableOf bytes)) e .1 in
       let b = and-both (leb (length (tableOf bytes)) 64) (eachOf rightFits (tableOf bytes)) a in
-      let kept : take (length bytes / 8) (over (tableOf bytes) (m .hub .rights)) ≡ tableOf bytes =
-      take-over (tableOf bytes) (m .hub .rights) (length bytes / 8) length-table in
-      let sound : tableSound (tabledHub (m .hub) bytes) ≡ true = rw (kept, ← length-table, b .0) (b .1) in
-      cond-yes (tableSound (tabledHub (m .hub) bytes)) _ _ sound ∙ kept
+      let kept : take (length bytes / 8) (over (tableOf bytes) (m .hub .site .rights)) ≡ tableOf bytes =
+      take-over (tableOf bytes) (m .hub .site .rights) (length bytes / 8) length-table in
+      let sound : tableSound (withTable (m .hub) bytes) ≡ true = rw (kept, ← length-table, b .0) (b .1) in
+      cond-yes (tableSound (withTable (m .hub) bytes)) _ _ sound ∙ kept
 
   -- what the model makes of it
   AsModel : Model.Hub → Result → Type 0
@@ -51,14 +51,14 @@ module _ (m : Memory) (bytes : List ℕ) where
 
   -- what is left and answered where the memory does not count as set up
   abbrev unless-up : Result
-  unless-up = cond (tableFits bytes) (answered (withHub m (tabledHub (m .hub) bytes)) Ok) (answered m (No 24))
+  unless-up = cond (tableFits bytes) (answered (withHub m (withTable (m .hub) bytes)) Ok) (answered m (No 24))
 
   fresh-given : (x : Model.Lent) → Holds (blank x) m → AsModel (blank x) unless-up
   unfolding giveTable AsModel ready readyOf scansFit sizesFit
   fresh-given x H = by (tableFits bytes) refl
     where
       by : (t : Bool) → tableFits bytes ≡ t
-          → AsModel (blank x) (cond t (answered (withHub m (tabledHub (m .hub) bytes)) Ok) (answered m (No 24)))
+          → AsModel (blank x) (cond t (answered (withHub m (withTable (m .hub) bytes)) Ok) (answered m (No 24)))
       by true e = rw e (refl, (refl, λ i. record { row = H .1 i .row; table = sym (stands e) i }))
       by false e = rw e (refl, H)
 

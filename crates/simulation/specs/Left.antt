@@ -7,9 +7,8 @@ use lib.ListN.{length}
 use Rattle.model.specs.Store as Model
 use Rattle.model.specs.Store.{Store, blank, up}
 use Rattle.model.specs.Answer.{Ok}
-use Rattle.model.specs.Batch.{batchOf}
 use Rattle.model.specs.Rights.{tableStands}
-use Rattle.model.specs.Rules.{Rules, Ruled, allUnder}
+use Rattle.model.specs.Rules.{Rules, Allowed, Ruled, allUnder}
 use Rattle.model.specs.Apply.{emptied, apply, applyRuled, hubAfter}
 use Rattle.slots.specs.Slots.{linkedTo}
 use Rattle.queue.specs.State.{Begins}
@@ -20,8 +19,8 @@ use Rattle.simulation.specs.Memory.{Memory, write}
 pub record LeftByRecords (s : Store) : Type 0 where
   pub row : Model.Lent
   pub setup : Ruled
-  -- the setup took the batch size of H1.24, which the code computes from P
-  pub batch : setup .rules .batch ≡ batchOf
+  -- the setup took a batch size from 1 to 64
+  pub batch : Allowed (setup .rules)
   -- and the table that stood was one that may be given
   pub table : tableStands (row .table) ≡ true
   pub accepted : applyRuled (blank row) setup .answer ≡ Ok
@@ -48,8 +47,8 @@ pub record Sized (m : Memory) : Type 0 where
   pub times : length (m .hub .times) ≡ 448
   pub marks : length (m .hub .marks) ≡ 12
   pub reading : length (m .hub .reading) ≡ 16
-  pub rows : length (m .hub .rows) ≡ 1024
-  pub rights : length (m .hub .rights) ≡ 64
+  pub rows : length (m .hub .site .rows) ≡ 1024
+  pub rights : length (m .hub .site .rights) ≡ 64
   pub newest : length (m .newest) ≡ 256
   pub free : length (m .free) ≡ 2048
   pub queue : length (m .queue) ≡ 12288
@@ -59,4 +58,4 @@ pub record Sized (m : Memory) : Type 0 where
 -- lent memory counts as set up
 unfoldable pub ready : Memory → Bool
 ready m =
-    readyOf (m .hub) (m .newest) (m .free) (m .queue) (m .lens) (m .merged) (linkedTo (m .slots) (m .hub .n) (m .hub .n)) (length (m .slots))
+    readyOf (m .hub) (m .newest) (m .free) (m .queue) (m .lens) (m .merged) (linkedTo (m .slots) (m .hub .site .n) (m .hub .site .n)) (length (m .slots))

@@ -13,6 +13,7 @@ use Rattle.ranges.specs.Words.{flat}
 use Rattle.queue.specs.Rep.{joinedRanges, windowAt, windowAfter}
 use Rattle.slots.specs.declared.Slot.{Slot}
 use Rattle.slots.specs.Slots.{slotRep, slotOf}
+use Rattle.state.specs.declared.Site.{Site}
 use Rattle.state.specs.declared.Hub.{Hub}
 use Rattle.state.specs.State.{bareHub, withWindowIn, standing}
 
@@ -92,23 +93,31 @@ readOf x = readBy (doingRep (x .doing))
 abbrev pub readsOver : List Model.Worker → List ℕ
 readsOver ws = over (map readOf ws) (replicate 16 0)
 
+-- what a setup fixed, written over what is there
+abbrev pub siteRep : Model.Site → Site → Site
+siteRep x d =
+    record {
+      p = x .P;
+      v = x .V';
+      n = x .N;
+      batch = x .B;
+      listed = length (x .rows);
+      rows = over (x .rows) (d .rows);
+      granted = length (x .table);
+      rights = over (x .table) (d .rights);
+    }
+
 -- the hub by value with a store written over it: the queue's window begins where it did
 abbrev pub hubRep : Store → Hub → Hub
 hubRep s h =
     record {
-      p = s .site .P;
-      v = s .site .V';
-      n = s .site .N;
+      site = siteRep (s .site) (h .site);
       clock = s .clock;
       free = length (s .free);
       window = windowAt (s .queue) (h .window .first) (h .window .from);
-      listed = length (s .site .rows);
-      rows = over (s .site .rows) (h .rows);
       times = timesOver (s .workers) (h .times);
       marks = s .marks;
       reading = readsOver (s .workers);
-      granted = length (s .site .table);
-      rights = over (s .site .table) (h .rights);
       workers = over (map workerRep (s .workers)) (replicate 16 (workerRep startWorker));
     }
 
@@ -144,7 +153,7 @@ write s m =
 -- What the store s is written over after the hub k, whose hub by value was h: a setup starts with an empty one that keeps the array of rights, any
 -- other record with h, its window moved on where pools were taken.
 abbrev pub nextHub : Model.Hub → Store → Hub → Hub
-nextHub (Model.blank x) s h = bareHub (h .rights)
+nextHub (Model.blank x) s h = bareHub (h .site .rights)
 nextHub (Model.up s₀) s h = withWindowIn h (windowAfter (s₀ .queue) (s .queue) (h .window))
 
 -- the memory of the hub k with the next hub written over it; where that is not set up, the memory is as it was

@@ -27,7 +27,7 @@ idleIn m w = withHub m (withWorkerIn (m .hub) w (atPlace (workerIn (m .hub) w) I
 unfoldable pub takesStepIn : Bool → Memory → Decoded → Bool
 takesStepIn up m (Asks (SetUp z)) = false
 takesStepIn up m (Asks (Begin w o)) = false
-takesStepIn up m (Asks (Step w)) = up && (ltb w (m .hub .p) && not (aboutOf (workerIn (m .hub) w .doing) .idle))
+takesStepIn up m (Asks (Step w)) = up && (ltb w (m .hub .site .p) && not (aboutOf (workerIn (m .hub) w .doing) .idle))
 takesStepIn up m (Refuses k) = false
 
 -- the memory with that worker idle of which the record is a step

@@ -5,7 +5,6 @@ use mathlib.Core.List.{List, [], map}
 use Prim.Native.Nat.{ℕ, _+_, _*_, _-_, _/_, _%_}
 use lib.ListN.{length, getD, set, take, replicate}
 use Rattle.lists.specs.Over.{over, overAt}
-use Rattle.model.specs.Record.{rowsOf}
 use Rattle.values.specs.declared.Answer.{Answer}
 use Rattle.values.specs.declared.Answer.the-variants.{Ok, Going, Freed, Done, No}
 use Rattle.slots.specs.declared.Slot.{Slot}
@@ -18,8 +17,8 @@ use Rattle.worker.specs.declared.Worker.{Worker}
 use Rattle.worker.specs.Rep.{poolRep}
 use Rattle.marks.specs.Marks.{readNext}
 use Rattle.state.specs.declared.Hub.{Hub}
-use Rattle.state.specs.State.{freshHub, workerIn, atPlace, withWorkersIn, withWorkerIn, withClockIn, withFreeIn, withWindowIn, withTimesIn}
-use Rattle.state.specs.State.{withMarksIn, withReadingIn, tableKept, standingCount}
+use Rattle.state.specs.State.{siteMade, freshHub, workerIn, atPlace, withWorkersIn, withWorkerIn, withClockIn, withFreeIn, withWindowIn, withTimesIn}
+use Rattle.state.specs.State.{withMarksIn, withReadingIn, tableKept}
 use Rattle.arrays.specs.Arrays.{short, fillTo}
 use Rattle.gate.specs.declared.Gate.{Gate}
 use Rattle.gate.specs.declared.Gate.the-variants.{Refuse, Make, Start, Go}
@@ -54,11 +53,11 @@ withRecord m w x = withHub m (withWorkerIn (m .hub) w x)
 
 -- the rows of totals that count
 abbrev pub rowsKept : Hub → List ℕ
-rowsKept h = take (h .listed) (h .rows)
+rowsKept h = take (h .site .listed) (h .site .rows)
 
 -- which mark each of the P workers reads, plus one
 abbrev pub marksRead : Hub → List ℕ
-marksRead h = take (h .p) (h .reading)
+marksRead h = take (h .site .p) (h .reading)
 
 abbrev pub queueIn : Memory → Queue
 queueIn m = record { queue = m .queue; lens = m .lens; window = m .hub .window }
@@ -80,7 +79,7 @@ takenIn m w x o =
 -- put (3), of the covered version in slot c
 unfoldable pub handedIn : Memory → ℕ → Worker → ℕ → Result
 handedIn m w x c =
-    let s = putHandInStep (m .slots) (x .pool) c (m .hub .p) in
+    let s = putHandInStep (m .slots) (x .pool) c (m .hub .site .batch) in
     answered (withRecord m w (record { doing = s .doing; announced = x .announced; pool = s .pool })) (s .answer)
 
 -- flush (1)
@@ -113,8 +112,8 @@ readIn m w x n j =
 -- flush (2), behind the last worker: all marks are read
 unfoldable pub allReadIn : Memory → ℕ → Worker → ℕ → Result
 allReadIn m w x n =
-    let y : Worker = record { doing = FlushRead n ((m .hub .p + 12) % 256); announced = x .announced; pool = x .pool } in
-    let times = overAt (28 * w + m .hub .p) (m .hub .marks) (m .hub .times) in
+    let y : Worker = record { doing = FlushRead n ((m .hub .site .p + 12) % 256); announced = x .announced; pool = x .pool } in
+    let times = overAt (28 * w + m .hub .site .p) (m .hub .marks) (m .hub .times) in
     answered (withHub m (withTimesIn (withWorkerIn (m .hub) w y) times)) Going
 
 -- mark and release: mark i holds the time t, or none
@@ -124,7 +123,7 @@ markedIn m w x i t = answered (withHub m (withMarksIn (withWorkerIn (m .hub) w (
 -- flush (3), of a merged list of n ranges with j times read
 unfoldable pub splitIn : Memory → ℕ → Worker → ℕ → ℕ → Result
 splitIn m w x n j =
-    let q = splitQueue (queueIn m) (m .merged) w n (m .hub .times) j (m .hub .p) (x .pool) in
+    let q = splitQueue (queueIn m) (m .merged) w n (m .hub .times) j (m .hub .site .batch) (x .pool) in
     let y : Worker =
     record {
       doing = FlushFree (splitLeft (m .merged) w n (m .hub .times) j (x .pool));
@@ -187,7 +186,7 @@ finishIn m w x s = nextIn (withRow m (s .row) (s .newest)) w x (s .next)
 -- the step at the place d of a worker with the record x
 abbrev pub stepAtIn : Memory → Worker → Doing → Stepped
 stepAtIn m x d =
-    stepOf d (x .announced) (m .hub .clock) (m .hub .free) (m .hub .p) (m .slots) (m .newest) (m .free) (rowsKept (m .hub)) (m .hub .marks)
+    stepOf d (x .announced) (m .hub .clock) (m .hub .free) (m .hub .site .p) (m .slots) (m .newest) (m .free) (rowsKept (m .hub)) (m .hub .marks)
     (marksRead (m .hub))
 
 unfoldable pub goIn : Memory → ℕ → Worker → Doing → Result
@@ -200,8 +199,7 @@ goIn m w x d = finishIn m w x (stepAtIn m x d)
 unfoldable pub setUpIn : Memory → List ℕ → ℕ → ℕ → ℕ → ℕ → Memory
 setUpIn m list p v n k =
     record {
-      hub =
-          freshHub p v n k (length list / 4) (over (take 1024 (rowsOf list)) (replicate 1024 0)) (standingCount (m .hub)) (m .hub .rights);
+      hub = freshHub (siteMade (m .hub) list p v n) k;
       slots = madeTo (m .slots) v n;
       newest = fillTo (m .newest) short v;
       free = fillTo (m .free) (λ j. short (n - 1 - j)) (n - v);
@@ -221,7 +219,7 @@ obeyIn m list (Go w) = goIn m w (workerIn (m .hub) w) (workerIn (m .hub) w .doin
 abbrev pub gateIn : Bool → Memory → List ℕ → List ℕ → Gate
 gateIn up m list b =
     let x = workerIn (m .hub) (whoOf (decodedIn b)) in
-    gateOf (decodedIn b) up (m .hub .p) (m .hub .v) (length (m .slots)) (x .doing) (x .announced) list (rowsKept (m .hub))
+    gateOf (decodedIn b) up (m .hub .site .p) (m .hub .site .v) (length (m .slots)) (x .doing) (x .announced) list (rowsKept (m .hub))
     (m .hub .marks) (marksRead (m .hub)) (tableKept (m .hub))
 
 unfoldable pub doneAs : Bool → Memory → List ℕ → List ℕ → Result

@@ -3,24 +3,24 @@ use mathlib.Core.Path.{_≡_}
 use mathlib.Core.Bool.{cond}
 use mathlib.Core.List.{List}
 use Prim.Native.Nat.{ℕ, _/_}
-use lib.ListN.{length, replicate}
+use lib.ListN.{length}
 use Rattle.lists.specs.Over.{over}
 use Rattle.model.specs.Rights.{tableOf, tableFits}
 use Rattle.values.specs.declared.Answer.{Answer}
 use Rattle.values.specs.declared.Answer.the-variants.{Ok, No}
 use Rattle.state.specs.declared.Hub.{Hub}
-use Rattle.state.specs.State.{freshHub, emptyHub}
+use Rattle.state.specs.State.{tabledHub, emptyHub}
 use Rattle.simulation.specs.Memory.{Memory, withHub, Result, answered}
 use Rattle.simulation.specs.Left.{ready}
 
 -- the hub by value of memory that is not set up, in which a table of these bytes stands; entries behind its rows keep their contents
-abbrev pub tabledHub : Hub → List ℕ → Hub
-tabledHub h bytes = freshHub 0 0 0 0 0 (replicate 1024 0) (length bytes / 8) (over (tableOf bytes) (h .rights))
+abbrev pub withTable : Hub → List ℕ → Hub
+withTable h bytes = tabledHub (length bytes / 8) (over (tableOf bytes) (h .site .rights))
 
 -- H15.8: 9 where the memory counts as set up, then 24; a refusal changes nothing
 unfoldable pub tableGiven : Memory → List ℕ → Result
 tableGiven m bytes =
-    cond (ready m) (answered m (No 9)) (cond (tableFits bytes) (answered (withHub m (tabledHub (m .hub) bytes)) Ok) (answered m (No 24)))
+    cond (ready m) (answered m (No 9)) (cond (tableFits bytes) (answered (withHub m (withTable (m .hub) bytes)) Ok) (answered m (No 24)))
 
 -- A table of any bytes was given on the memory m, any memory, was answered y and left the memory m′.
 pub record Gives (m : Memory) (bytes : List ℕ) (y : Answer) (m′ : Memory) : Type 0 where

@@ -3,13 +3,12 @@
 use mathlib.Core.Path.{_≡_, refl, ap, _∙_}
 use mathlib.Core.Bool.{Bool, true, false, cond, not, _&&_}
 use mathlib.Core.List.{List, [], _∷_, reverse}
-use Prim.Native.Nat.{ℕ, suc, _+_, _-_, _*_, _%_, _<_, _≤_}
+use Prim.Native.Nat.{ℕ, suc, _+_, _-_, _*_, _<_, _≤_}
 use native.Mathlib.Omega.{arith}
 use lib.Dec.{ltb, leb}
 use lib.ListN.{length, take, replicate}
 use borrow.Author.Tests.{ltb-true, leb-true}
 use Rattle.lists.specs.Over.{over}
-use Rattle.model.specs.Batch.{batchOf}
 use Rattle.model.specs.Store.{Range}
 use Rattle.model.specs.Ranges.{needed, filter, neededOf, needlessOf}
 use Rattle.model.proofs.Basic.{and-both}
@@ -55,38 +54,37 @@ needed-long ts s n k e =
 ------------------------------------------------------------------------
 -- What it answers and leaves
 
-module _ (q : Queue) (merged times needed₀ local₀ joined₀ : List ℕ) (w m t p : ℕ) (pool : Pool) where
+module _ (q : Queue) (merged times needed₀ local₀ joined₀ : List ℕ) (w m t b : ℕ) (pool : Pool) where
   -- how many ranges are left to free, the queue, the merged lists, and the space for the needed ranges, the local pool and the joined list
   abbrev pub Split : ℕ → Queue → List ℕ → List ℕ → List ℕ → List ℕ → Type 0
   Split left q′ merged′ needed′ local′ joined′ =
       (left ≡ splitLeft merged w m times t pool)
-      × ((q′ ≡ splitQueue q merged w m times t p pool)
+      × ((q′ ≡ splitQueue q merged w m times t b pool)
       × ((merged′ ≡ splitMerged merged w m times t pool)
       × ((needed′ ≡ splitNeeded merged w m times t pool needed₀)
       × ((local′ ≡ splitLocal w m t pool local₀)
-      × (joined′ ≡ splitJoined merged w m times t p pool joined₀)))))
+      × (joined′ ≡ splitJoined merged w m times t b pool joined₀)))))
 
   -- the counts allow none
   pub split-none : mayCut w m t (pool .len) ≡ false → Split 0 q merged needed₀ local₀ joined₀
   unfolding splitLeft splitQueue splitMerged splitNeeded splitLocal splitJoined
   split-none n = rw n (refl, (refl, (refl, (refl, (refl, refl)))))
 
-  pub split-some : (k size : ℕ) (q′ : Queue) (merged′ needed′ local′ joined′ : List ℕ) → mayCut w m t (pool .len) ≡ true
+  pub split-some : (k : ℕ) (q′ : Queue) (merged′ needed′ local′ joined′ : List ℕ) → mayCut w m t (pool .len) ≡ true
       → k ≡ length (needlessBy merged w m times t)
       → merged′ ≡ withPart merged w (over (flat (reverse (needlessBy merged w m times t))) (partOf merged w))
       → needed′ ≡ over (flat (neededBy merged w m times t)) needed₀
-      → size ≡ batchOf (p % 256)
-      → q′ ≡ requeued q pool needed′ (m - k) size
+      → q′ ≡ requeued q pool needed′ (m - k) b
       → local′ ≡ over (flat (rangesIn pool)) local₀
-      → joined′ ≡ joinedAfter pool needed′ (m - k) size joined₀
+      → joined′ ≡ joinedAfter pool needed′ (m - k) b joined₀
       → Split (short k) q′ merged′ needed′ local′ joined′
   unfolding splitLeft splitQueue splitMerged splitNeeded splitLocal splitJoined
-  split-some k size q′ merged′ needed′ local′ joined′ y ek em en es eq el ej =
+  split-some k q′ merged′ needed′ local′ joined′ y ek em en eq el ej =
       let words : List ℕ = flat (neededBy merged w m times t) in
       let zeros : List ℕ = replicate 768 0 in
       let h : 3 * (m - k) ≤ length words = needed-long (take t (timesOf times w)) (partOf merged w) m k ek in
-      let queued : q′ ≡ requeued q pool (over words zeros) (m - k) size =
-      eq ∙ ap (λ (l : List ℕ). requeued q pool l (m - k) size) en ∙ requeued-pad q pool words needed₀ zeros (m - k) size h in
-      let joined : joined′ ≡ joinedAfter pool (over words zeros) (m - k) size joined₀ =
-      ej ∙ ap (λ (l : List ℕ). joinedAfter pool l (m - k) size joined₀) en ∙ joined-pad pool words needed₀ zeros (m - k) size joined₀ h in
-      rw (y, ← es, ← ek) (refl, (queued, (em, (en, (el, joined)))))
+      let queued : q′ ≡ requeued q pool (over words zeros) (m - k) b =
+      eq ∙ ap (λ (l : List ℕ). requeued q pool l (m - k) b) en ∙ requeued-pad q pool words needed₀ zeros (m - k) b h in
+      let joined : joined′ ≡ joinedAfter pool (over words zeros) (m - k) b joined₀ =
+      ej ∙ ap (λ (l : List ℕ). joinedAfter pool l (m - k) b joined₀) en ∙ joined-pad pool words needed₀ zeros (m - k) b joined₀ h in
+      rw (y, ← ek) (refl, (queued, (em, (en, (el, joined)))))

@@ -1,11 +1,10 @@
 -- Flush (3): what it makes of the queue, of the merged lists and of the space that it works in.
 use mathlib.Core.Bool.{Bool, cond, _&&_}
 use mathlib.Core.List.{List, reverse}
-use Prim.Native.Nat.{ℕ, _+_, _-_, _*_, _/_, _%_}
+use Prim.Native.Nat.{ℕ, _+_, _-_, _*_, _/_}
 use lib.Dec.{ltb, leb}
 use lib.ListN.{length, take, drop, replicate}
 use Rattle.lists.specs.Over.{over}
-use Rattle.model.specs.Batch.{batchOf}
 use Rattle.model.specs.Store.{Range}
 use Rattle.model.specs.Ranges.{merge, neededOf, needlessOf}
 use Rattle.arrays.specs.Arrays.{short}
@@ -58,14 +57,14 @@ abbrev pub neededWords : List ℕ → ℕ → ℕ → List ℕ → ℕ → List 
 neededWords merged w m times t = over (flat (neededBy merged w m times t)) (replicate 768 0)
 
 -- how many are left to free, the queue and the merged lists after it: the needless ranges stay in the worker's part, the one that is freed
--- first last. The batch size is that of p workers.
+-- first last. The batch size is b.
 unfoldable pub splitLeft : List ℕ → ℕ → ℕ → List ℕ → ℕ → Pool → ℕ
 splitLeft merged w m times t pool = cond (maySplit w m t pool) (short (needlessCount merged w m times t)) 0
 
 unfoldable pub splitQueue : Queue → List ℕ → ℕ → ℕ → List ℕ → ℕ → ℕ → Pool → Queue
-splitQueue q merged w m times t p pool =
+splitQueue q merged w m times t b pool =
     cond (maySplit w m t pool)
-    (requeued q pool (neededWords merged w m times t) (m - needlessCount merged w m times t) (batchOf (p % 256))) q
+    (requeued q pool (neededWords merged w m times t) (m - needlessCount merged w m times t) b) q
 
 unfoldable pub splitMerged : List ℕ → ℕ → ℕ → List ℕ → ℕ → Pool → List ℕ
 splitMerged merged w m times t pool =
@@ -80,6 +79,6 @@ unfoldable pub splitLocal : ℕ → ℕ → ℕ → Pool → List ℕ → List �
 splitLocal w m t pool d = cond (maySplit w m t pool) (over (flat (rangesIn pool)) d) d
 
 unfoldable pub splitJoined : List ℕ → ℕ → ℕ → List ℕ → ℕ → ℕ → Pool → List ℕ → List ℕ
-splitJoined merged w m times t p pool d =
+splitJoined merged w m times t b pool d =
     cond (maySplit w m t pool)
-    (joinedAfter pool (neededWords merged w m times t) (m - needlessCount merged w m times t) (batchOf (p % 256)) d) d
+    (joinedAfter pool (neededWords merged w m times t) (m - needlessCount merged w m times t) b d) d

@@ -118,7 +118,7 @@ pub struct Parted {
 }
 
 // Flush (3), of worker w's first m ranges by the first `read` of its times: the needless ranges stay in its part, the needed ones and the local
-// pool go to the queue, in batches for p workers. The last three arrays are space to work in; what they hold at entry does not matter.
+// pool go to the queue, in batches of this size. The last three arrays are space to work in; what they hold at entry does not matter.
 pub fn flush_split(
     queue: &mut [u32; 12288],
     lens: &mut [u32; 4096],
@@ -128,7 +128,7 @@ pub fn flush_split(
     m: u16,
     times: &[u64; 448],
     read: usize,
-    p: usize,
+    size: u8,
     q: Pool,
     needed: &mut [u32; 768],
     local: &mut [u32; 192],
@@ -137,17 +137,16 @@ pub fn flush_split(
     ensures { λ r. ⌜ r .left ≡ splitLeft (now (merged .entry)) w m (now (times .entry)) read q ⌝ }
     ensures { λ r. ⌜
         poolsIn (now (queue .exit)) (now (lens .exit)) (r .window)
-        ≡ splitQueue (poolsIn (now (queue .entry)) (now (lens .entry)) window) (now (merged .entry)) w m (now (times .entry)) read p q
+        ≡ splitQueue (poolsIn (now (queue .entry)) (now (lens .entry)) window) (now (merged .entry)) w m (now (times .entry)) read size q
         ⌝ }
     ensures { λ _. ⌜ now (merged .exit) ≡ splitMerged (now (merged .entry)) w m (now (times .entry)) read q ⌝ }
     ensures { λ _. ⌜ now (needed .exit) ≡ splitNeeded (now (merged .entry)) w m (now (times .entry)) read q (now (needed .entry)) ⌝ }
     ensures { λ _. ⌜ now (local .exit) ≡ splitLocal w m read q (now (local .entry)) ⌝ }
-    ensures { λ _. ⌜ now (joined .exit) ≡ splitJoined (now (merged .entry)) w m (now (times .entry)) read p q (now (joined .entry)) ⌝ }
+    ensures { λ _. ⌜ now (joined .exit) ≡ splitJoined (now (merged .entry)) w m (now (times .entry)) read size q (now (joined .entry)) ⌝ }
 {
     let n = m as usize;
     if may_split(w, n, read, q.len) {
         let k = split_part(merged, w, n, times, read, needed);
-        let size = batch::batch((p % 256) as u8);
         let after = requeue(
             queue,
             lens,

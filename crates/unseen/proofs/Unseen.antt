@@ -151,7 +151,7 @@ unfolding tableStands
 stands-left s m L =
     let t : List ℕ = s .site .table in
     let laid : m .hub ≡ hubRep s (m .hub) = hub-is s m (L .laid) in
-    let kept : take (length t) (over t (m .hub .rights)) ≡ t = take-over t (m .hub .rights) (length t) refl in
+    let kept : take (length t) (over t (m .hub .site .rights)) ≡ t = take-over t (m .hub .site .rights) (length t) refl in
     let good : tableSound (hubRep s (m .hub)) ≡ true = rw kept (sound (L .store) .table) in
     ap standing laid ∙ cond-yes (tableSound (hubRep s (m .hub))) _ _ good ∙ kept
 

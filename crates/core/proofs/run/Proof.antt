@@ -115,8 +115,8 @@ loop-again c =
 enum-known-g-2 : tie.Need-enum-known-g-2 Inv-loop2 μ-loop2 Inv-loop μ-loop
 enum-known-g-2 c = search needs
 
-make-requires : tie.Need-make-requires Inv-loop2 μ-loop2 Inv-loop μ-loop
-make-requires c κs = tt
+set-up-requires : tie.Need-set-up-requires Inv-loop2 μ-loop2 Inv-loop μ-loop
+set-up-requires c κs = tt
 
 put-answer-requires-2 : tie.Need-put-answer-requires-2 Inv-loop2 μ-loop2 Inv-loop μ-loop
 put-answer-requires-2 c κs = tt
@@ -146,7 +146,7 @@ loop-again-2 c =
     (G₂ .before .loop-test .taken)
     (G₁ .decode .ensures ∙ ap Model.decode (G₂ .record-at .ensures))
     (named-by (G₁ .before .before .worker-byte .ensures .0) (G₂ .record-at .ensures)) (G .gate-for .ensures))
-    _ _ _ _ _ _ _ _ _ _ _ (K .g2 .given .1) (M .make .ensures .0) (M .make .ensures .1 .0) (M .make .ensures .1 .1 .0) (M .make .ensures .1 .1 .1)
+    _ _ _ _ _ _ _ _ _ _ _ (K .g2 .given .1) (M .set-up .ensures .0) (M .set-up .ensures .1 .0) (M .set-up .ensures .1 .1 .0) (M .set-up .ensures .1 .1 .1)
     (P .put-answer2 .ensures)
 
 enum-known-g-3 : tie.Need-enum-known-g-3 Inv-loop2 μ-loop2 Inv-loop μ-loop
@@ -347,11 +347,11 @@ mul-y-4 c = omega arith
 element-copy-out-y-4 : tie.Need-element-copy-out-y-4 Inv-loop2 μ-loop2 Inv-loop μ-loop
 element-copy-out-y-4 c = omega arith
 
-cast-t181 : tie.Need-cast-t181 Inv-loop2 μ-loop2 Inv-loop μ-loop
-cast-t181 c = omega arith
+cast-t182 : tie.Need-cast-t182 Inv-loop2 μ-loop2 Inv-loop μ-loop
+cast-t182 c = omega arith
 
-mul-t185 : tie.Need-mul-t185 Inv-loop2 μ-loop2 Inv-loop μ-loop
-mul-t185 c = omega arith
+mul-t186 : tie.Need-mul-t186 Inv-loop2 μ-loop2 Inv-loop μ-loop
+mul-t186 c = omega arith
 
 element-set-from-hub-4 : tie.Need-element-set-from-hub-4 Inv-loop2 μ-loop2 Inv-loop μ-loop
 element-set-from-hub-4 c = omega arith
@@ -424,8 +424,8 @@ mul-y-5 c = omega arith
 element-copy-out-y-5 : tie.Need-element-copy-out-y-5 Inv-loop2 μ-loop2 Inv-loop μ-loop
 element-copy-out-y-5 c = omega arith
 
-add-t193 : tie.Need-add-t193 Inv-loop2 μ-loop2 Inv-loop μ-loop
-add-t193 c =
+add-t194 : tie.Need-add-t194 Inv-loop2 μ-loop2 Inv-loop μ-loop
+add-t194 c =
     let K = c .before .before .before .before in
     let T = K .before .before .before in
     let E = T .before .before .before .before .before .before .before .before in
@@ -440,8 +440,8 @@ add-t193 c =
     let p = workers D _ (E .enum-told .given .1) _ _ _ (T .step .ensures) in
     omega (arith, l, p)
 
-mul-t194 : tie.Need-mul-t194 Inv-loop2 μ-loop2 Inv-loop μ-loop
-mul-t194 c = omega arith
+mul-t195 : tie.Need-mul-t195 Inv-loop2 μ-loop2 Inv-loop μ-loop
+mul-t195 c = omega arith
 
 element-set-from-hub-5 : tie.Need-element-set-from-hub-5 Inv-loop2 μ-loop2 Inv-loop μ-loop
 element-set-from-hub-5 c = omega arith
@@ -503,8 +503,8 @@ mul-y-6 c = omega arith
 element-copy-out-y-6 : tie.Need-element-copy-out-y-6 Inv-loop2 μ-loop2 Inv-loop μ-loop
 element-copy-out-y-6 c = omega arith
 
-add-t219 : tie.Need-add-t219 Inv-loop2 μ-loop2 Inv-loop μ-loop
-add-t219 c =
+add-t220 : tie.Need-add-t220 Inv-loop2 μ-loop2 Inv-loop μ-loop
+add-t220 c =
     let T = c .before .before .before .before .before .before .before .before .before in
     let E = T .before .before .before .before .before .before .before .before in
     let G = E .before .before in
@@ -516,11 +516,11 @@ add-t219 c =
     (named-by (G₁ .before .before .worker-byte .ensures .0) (G₂ .record-at .ensures)) (G .gate-for .ensures)) in
     omega (arith, workers D _ (E .enum-told .given .1) _ _ _ (T .step .ensures))
 
-cast-t224 : tie.Need-cast-t224 Inv-loop2 μ-loop2 Inv-loop μ-loop
-cast-t224 c = omega arith
+cast-t225 : tie.Need-cast-t225 Inv-loop2 μ-loop2 Inv-loop μ-loop
+cast-t225 c = omega arith
 
-mul-t228 : tie.Need-mul-t228 Inv-loop2 μ-loop2 Inv-loop μ-loop
-mul-t228 c = omega arith
+mul-t229 : tie.Need-mul-t229 Inv-loop2 μ-loop2 Inv-loop μ-loop
+mul-t229 c = omega arith
 
 element-set-from-hub-6 : tie.Need-element-set-from-hub-6 Inv-loop2 μ-loop2 Inv-loop μ-loop
 element-set-from-hub-6 c = omega arith
@@ -575,8 +575,8 @@ cast-flush-split c = omega arith
 flush-split-requires : tie.Need-flush-split-requires Inv-loop2 μ-loop2 Inv-loop μ-loop
 flush-split-requires c κs = tt
 
-mul-t244 : tie.Need-mul-t244 Inv-loop2 μ-loop2 Inv-loop μ-loop
-mul-t244 c = omega arith
+mul-t237 : tie.Need-mul-t237 Inv-loop2 μ-loop2 Inv-loop μ-loop
+mul-t237 c = omega arith
 
 element-set-from-hub-7 : tie.Need-element-set-from-hub-7 Inv-loop2 μ-loop2 Inv-loop μ-loop
 element-set-from-hub-7 c = omega arith
@@ -642,8 +642,8 @@ mul-y-8 c = omega arith
 element-copy-out-y-8 : tie.Need-element-copy-out-y-8 Inv-loop2 μ-loop2 Inv-loop μ-loop
 element-copy-out-y-8 c = omega arith
 
-sub-t269 : tie.Need-sub-t269 Inv-loop2 μ-loop2 Inv-loop μ-loop
-sub-t269 c =
+sub-t270 : tie.Need-sub-t270 Inv-loop2 μ-loop2 Inv-loop μ-loop
+sub-t270 c =
     let K = c .before .before .before .before .before .before .before in
     let T = K .before .before .before in
     let E = T .before .before .before .before .before .before .before .before in
@@ -658,8 +658,8 @@ sub-t269 c =
     _ (E .enum-told .given .1) _ _ _ (T .step .ensures) _ (K .s6 .given .1) in
     omega (arith, l)
 
-mul-t265 : tie.Need-mul-t265 Inv-loop2 μ-loop2 Inv-loop μ-loop
-mul-t265 c = omega arith
+mul-t266 : tie.Need-mul-t266 Inv-loop2 μ-loop2 Inv-loop μ-loop
+mul-t266 c = omega arith
 
 element-set-from-hub-8 : tie.Need-element-set-from-hub-8 Inv-loop2 μ-loop2 Inv-loop μ-loop
 element-set-from-hub-8 c = omega arith
@@ -684,8 +684,8 @@ stands-on-requires c κs = tt
 off-requires : tie.Need-off-requires Inv-loop2 μ-loop2 Inv-loop μ-loop
 off-requires c κs = tt
 
-mul-t284 : tie.Need-mul-t284 Inv-loop2 μ-loop2 Inv-loop μ-loop
-mul-t284 c = omega arith
+mul-t285 : tie.Need-mul-t285 Inv-loop2 μ-loop2 Inv-loop μ-loop
+mul-t285 c = omega arith
 
 element-set-from-hub-9 : tie.Need-element-set-from-hub-9 Inv-loop2 μ-loop2 Inv-loop μ-loop
 element-set-from-hub-9 c = omega arith
@@ -785,8 +785,8 @@ mul-hub-3 c = omega arith
 element-write-hub-3 : tie.Need-element-write-hub-3 Inv-loop2 μ-loop2 Inv-loop μ-loop
 element-write-hub-3 c = omega arith
 
-mul-t293 : tie.Need-mul-t293 Inv-loop2 μ-loop2 Inv-loop μ-loop
-mul-t293 c = omega arith
+mul-t294 : tie.Need-mul-t294 Inv-loop2 μ-loop2 Inv-loop μ-loop
+mul-t294 c = omega arith
 
 element-set-from-hub-10 : tie.Need-element-set-from-hub-10 Inv-loop2 μ-loop2 Inv-loop μ-loop
 element-set-from-hub-10 c = omega arith
@@ -827,23 +827,23 @@ loop-again-11 c =
 
 same-length : tie.Need-same-length Inv-loop2 μ-loop2 Inv-loop μ-loop
 same-length c =
-    let L = c .before .before .before .before .before .before .before in
+    let L = c .before .before .before .before .before .before in
     let A = L .before .before .before .before .before .before .before .before .before .before .before .before .before .before in
     words-long (L .loop .row) (A .args .row .now) (L .loop .inv .row)
 
 same-length-2 : tie.Need-same-length-2 Inv-loop2 μ-loop2 Inv-loop μ-loop
-same-length-2 c = c .before .before .before .before .before .before .before .loop .inv .kinds-long
+same-length-2 c = c .before .before .before .before .before .before .loop .inv .kinds-long
 
 same-length-3 : tie.Need-same-length-3 Inv-loop2 μ-loop2 Inv-loop μ-loop
-same-length-3 c = c .before .before .before .before .before .before .before .loop .inv .numbers-long
+same-length-3 c = c .before .before .before .before .before .before .loop .inv .numbers-long
 
 returns : tie.Need-returns Inv-loop2 μ-loop2 Inv-loop μ-loop
 returns c =
-    let L = c .before .before .before .before .before .before .before in
+    let L = c .before .before .before .before .before .before in
     let Q = L .before .before in
     let B = Q .before .before .before .before .before .before in
     let A = B .before .before .before .before .before .before in
-    finished _ _ _ _ _ _ _ _ _ (L .loop .inv) (c .before .before .before .before .before .before .loop-test .left)
+    finished _ _ _ _ _ _ _ _ _ (L .loop .inv) (c .before .before .before .before .before .loop-test .left)
     (ready-is _ (A .args .row .now) _ _ _ _ _ _ _ (B .all-linked .ensures) (Q .ready .ensures))
 
 pub run-spec : {M : Type 1} → statement M
@@ -869,7 +869,7 @@ run-spec =
     loop-less
     loop-again
     enum-known-g-2
-    make-requires
+    set-up-requires
     put-answer-requires-2
     add-k-2
     loop-less-2
@@ -914,8 +914,8 @@ run-spec =
     flush-take-requires
     mul-y-4
     element-copy-out-y-4
-    cast-t181
-    mul-t185
+    cast-t182
+    mul-t186
     element-set-from-hub-4
     put-answer-requires-6
     add-k-6
@@ -932,8 +932,8 @@ run-spec =
     element-write-hub-2
     mul-y-5
     element-copy-out-y-5
-    add-t193
-    mul-t194
+    add-t194
+    mul-t195
     element-set-from-hub-5
     put-answer-requires-7
     add-k-7
@@ -943,9 +943,9 @@ run-spec =
     read-all-requires
     mul-y-6
     element-copy-out-y-6
-    add-t219
-    cast-t224
-    mul-t228
+    add-t220
+    cast-t225
+    mul-t229
     element-set-from-hub-6
     put-answer-requires-8
     add-k-8
@@ -956,7 +956,7 @@ run-spec =
     element-copy-out-y-7
     cast-flush-split
     flush-split-requires
-    mul-t244
+    mul-t237
     element-set-from-hub-7
     put-answer-requires-9
     add-k-9
@@ -966,15 +966,15 @@ run-spec =
     flush-free-requires
     mul-y-8
     element-copy-out-y-8
-    sub-t269
-    mul-t265
+    sub-t270
+    mul-t266
     element-set-from-hub-8
     loop2-holds
     mul-z-2
     element-copy-out-z-2
     stands-on-requires
     off-requires
-    mul-t284
+    mul-t285
     element-set-from-hub-9
     add-j
     loop2-less
@@ -992,7 +992,7 @@ run-spec =
     element-copy-out-y-9
     mul-hub-3
     element-write-hub-3
-    mul-t293
+    mul-t294
     element-set-from-hub-10
     put-answer-requires-11
     add-k-11

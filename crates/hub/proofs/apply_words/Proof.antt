@@ -25,7 +25,7 @@ same-length-3 c = search needs
 workers-long : (c : tie.Start) → length (c .args .hub .workers) ≡ 16
 workers-long c = search (needs, length-mapped)
 
-rows-long : (c : tie.Start) → length (c .args .hub .rows) ≡ 1024
+rows-long : (c : tie.Start) → length (c .args .hub .site .rows) ≡ 1024
 rows-long c = search needs
 
 times-long : (c : tie.Start) → length (c .args .hub .times) ≡ 448
@@ -37,7 +37,7 @@ marks-long c = search needs
 reading-long : (c : tie.Start) → length (c .args .hub .reading) ≡ 16
 reading-long c = search needs
 
-rights-long : (c : tie.Start) → length (c .args .hub .rights) ≡ 64
+rights-long : (c : tie.Start) → length (c .args .hub .site .rights) ≡ 64
 rights-long c = search needs
 
 returns : tie.Need-returns

@@ -18,8 +18,8 @@ sizes-fit-requires c κs = search needs
 cast-n : tie.Need-cast-n
 cast-n c = omega (arith, told c)
 
-batch-of-requires : tie.Need-batch-of-requires
-batch-of-requires c κs = let z = told c .p in (omega (arith, z .0), omega (arith, z .1))
+wide8-requires : tie.Need-wide8-requires
+wide8-requires c κs = search needs
 
 besides-requires : tie.Need-besides-requires
 besides-requires c κs = search needs
@@ -60,7 +60,7 @@ at-most-requires-2 c κs = search needs
 workers-fit-requires : tie.Need-workers-fit-requires
 workers-fit-requires c κs =
     let z = told (c .before .before .before .before .before .before .before .before .before .before .before .before .before .before) in
-    let size = (c .before .before .before .before .before .before .before .before .before .before .before .before .before) .batch-of .ensures in (
+    let size = (c .before .before .before .before .before .before .before .before .before .before .before .before .before) .wide8 .ensures in (
       omega (arith, z .p .1),
       omega (arith, z .v .1),
       omega (arith, z .n .1),
@@ -96,12 +96,12 @@ returns c =
       scanned .before .before .slots-below .ensures,
       scanned .before .lens-fit .ensures,
       scanned .lens-sum .ensures,
-      ← size .batch-of .ensures .0,
-      ← newest .before .before .besides .ensures,
-      ← workers .before .before .at-most .ensures .0,
-      ← workers .before .at-most2 .ensures .0,
       workers .workers-fit .ensures,
       c .rows-below .ensures,
+      workers .before .before .at-most .ensures .0,
+      workers .before .at-most2 .ensures .0,
+      newest .before .before .besides .ensures,
+      size .wide8 .ensures .0,
     )
 
 returns-2 : tie.Need-returns-2
@@ -114,7 +114,7 @@ scans-fit-spec =
     (tie.spec
     sizes-fit-requires
     cast-n
-    batch-of-requires
+    wide8-requires
     besides-requires
     all-below-requires
     all-below-requires-2

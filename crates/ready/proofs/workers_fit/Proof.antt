@@ -51,7 +51,7 @@ unfolding workersFit
 loop-again c = (omega arith, rw (add-one, ← c .before .before .before .loop .inv .1, ← c .worker-fits .ensures))
 
 returns : tie.Need-returns Inv-loop μ-loop
-returns c = let e : c .before .loop .w ≡ c .before .before .args .t1 .p = omega arith in rw e at (c .before .loop .inv .1)
+returns c = let e : c .before .loop .w ≡ c .before .before .args .t1 .site .p = omega arith in rw e at (c .before .loop .inv .1)
 
 pub workers-fit-spec : {M : Type 1} → statement M
 workers-fit-spec =

@@ -37,41 +37,31 @@ split-part-requires c κs =
     let h = allowed (c .before .before) in
     omega arith
 
-cast-batch : tie.Need-cast-batch
-cast-batch c = search needs
-
-batch-requires : tie.Need-batch-requires
-batch-requires c κs = search needs
-
 sub-requeue : tie.Need-sub-requeue
-sub-requeue c = few (c .before .before .before .before)
-
-cast-requeue : tie.Need-cast-requeue
-cast-requeue c = search needs
+sub-requeue c = few (c .before .before .before)
 
 requeue-requires : tie.Need-requeue-requires
 requeue-requires c κs =
-    let h = allowed (c .before .before .before .before .before .before .before .before .before) in
-    omega (arith, c .before .before .before .before .before .batch .ok)
+    let h = allowed (c .before .before .before .before .before .before .before .before) in
+    omega arith
 
-cast-t30 : tie.Need-cast-t30
-cast-t30 c = search needs
+cast-t28 : tie.Need-cast-t28
+cast-t28 c = search needs
 
 returns : tie.Need-returns
 returns c =
-    let d = c .before .before .before .before .before .before .before in
+    let d = c .before .before .before .before .before .before in
     let a = d .before .before .before .before .before .args in
     split-some (poolsIn (a .queue .now) (a .lens .now) (a .window)) (a .merged .now) (a .times .now) (a .needed .now) (a .local .now) (a .joined .now)
-    (a .w) (a .m) (a .read) (a .p) (a .q) (d .split-part .result) (c .before .before .before .before .before .before .batch .result) _ _ _ _ _
+    (a .w) (a .m) (a .read) (a .size) (a .q) (d .split-part .result) _ _ _ _ _
     (told (d .before .before .before)) (d .split-part .ensures .0) (d .split-part .ensures .1 .0) (d .split-part .ensures .1 .1)
-    (c .before .before .before .before .before .before .batch .ensures)
     (c .requeue .ensures .0) (c .requeue .ensures .1 .0) (c .requeue .ensures .1 .1)
 
 returns-2 : tie.Need-returns-2
 returns-2 c =
     let a = c .before .before .args in
     split-none (poolsIn (a .queue .now) (a .lens .now) (a .window)) (a .merged .now) (a .times .now) (a .needed .now) (a .local .now) (a .joined .now)
-    (a .w) (a .m) (a .read) (a .p) (a .q) (sym (c .before .may-split .ensures) ∙ c .if1 .left)
+    (a .w) (a .m) (a .read) (a .size) (a .q) (sym (c .before .may-split .ensures) ∙ c .if1 .left)
 
 pub flush-split-spec : {M : Type 1} → statement M
 flush-split-spec =
@@ -79,11 +69,8 @@ flush-split-spec =
     (tie.spec
     may-split-requires
     split-part-requires
-    cast-batch
-    batch-requires
     sub-requeue
-    cast-requeue
     requeue-requires
-    cast-t30
+    cast-t28
     returns
     returns-2)

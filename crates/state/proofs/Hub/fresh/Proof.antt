@@ -16,7 +16,7 @@ returns c = rw (c .before .start .ensures)
 returns-2 : tie.Need-returns-2
 returns-2 c =
     let a = c .before .before .args in
-    let none : a .n - a .v ≡ 0 = omega arith in
+    let none : a .site .n - a .site .v ≡ 0 = omega arith in
     rw (c .before .start .ensures, none)
 
 pub fresh-spec : {M : Type 1} → statement M

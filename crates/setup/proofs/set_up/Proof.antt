@@ -1,4 +1,4 @@
--- `make` meets its contract: each part is what the function that writes it ensures.
+-- `set_up` meets its contract: each part is what the function that writes it ensures.
 use mathlib.Core.Path.{ap, _∙_}
 use Prim.Native.Nat.{_/_}
 use lib.ListN.{length}
@@ -6,14 +6,17 @@ use native.Mathlib.Omega.{arith}
 use borrow.Author.Needs.{needs}
 use Rattle.state.specs.declared.Hub.{Hub}
 use Rattle.state.specs.State.{freshHub}
-use Rattle.core.proofs.make.Statement.{statement}
-use Rattle.core.proofs.make.Tie as tie
+use Rattle.setup.proofs.set_up.Statement.{statement}
+use Rattle.setup.proofs.set_up.Tie as tie
 
 fill-rows-requires : tie.Need-fill-rows-requires
 fill-rows-requires c κs = search needs
 
 kept-rows-requires : tie.Need-kept-rows-requires
 kept-rows-requires c κs = search needs
+
+batch-requires : tie.Need-batch-requires
+batch-requires c κs = search needs
 
 fresh-requires : tie.Need-fresh-requires
 fresh-requires c κs = search needs
@@ -36,21 +39,32 @@ returns c =
     let f = w .before .before in
     let n = f .before .before in
     let e = n .before .before in
-    let kept = e .before .before in
-    let rows = kept .before .before .before in
-    let a = rows .before .before .before .args in
-    let old = a .t1 in (
+    let size = e .before in
+    let kept = size .before .before in
+    let rows = kept .before .before .before .before in
+    let a = rows .before .before .before .args in (
       e .fresh .ensures
-          ∙ (λ i. freshHub (a .p) (a .v) (a .n) (a .clock) (length (a .list .now) / 4) (rows .fill-rows .ensures i) (kept .kept-rows .ensures i) (old .rights)),
+          ∙ (λ i. freshHub
+          (record {
+            p = a .p;
+            v = a .v;
+            n = a .n;
+            batch = size .batch .ensures i;
+            listed = length (a .list .now) / 4;
+            rows = rows .fill-rows .ensures i;
+            granted = kept .kept-rows .ensures i;
+            rights = a .old .site .rights;
+          }) (a .clock)),
       (w .set-up .ensures, (n .fill-newest .ensures, f .fill-free .ensures)),
     )
 
-pub make-spec : {M : Type 1} → statement M
-make-spec =
+pub set-up-spec : {M : Type 1} → statement M
+set-up-spec =
     tie.close
     (tie.spec
     fill-rows-requires
     kept-rows-requires
+    batch-requires
     fresh-requires
     fill-newest-requires
     fill-free-requires

@@ -1,7 +1,7 @@
 -- `kept_rows` meets its contract: each return rewrites with the test that led to it.
 use borrow.Author.Needs.{needs}
-use Rattle.core.proofs.kept_rows.Statement.{statement}
-use Rattle.core.proofs.kept_rows.Tie as tie
+use Rattle.setup.proofs.kept_rows.Statement.{statement}
+use Rattle.setup.proofs.kept_rows.Tie as tie
 
 stands-requires : tie.Need-stands-requires
 stands-requires c κs = search needs
