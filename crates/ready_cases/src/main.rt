@@ -7,7 +7,7 @@ mod memory;
 use libc::STDOUT_FILENO;
 
 // The numbers, in their order, and their largest values.
-const NAMES: [[u8; 32]; 30] = [
+const NAMES: [[u8; 32]; 33] = [
     *b"P = 16                          ",
     *b"V = 256                         ",
     *b"N = 2048                        ",
@@ -18,6 +18,7 @@ const NAMES: [[u8; 32]; 30] = [
     *b"first range = 2048              ",
     *b"rows of totals = 1024           ",
     *b"rows of rights = 64             ",
+    *b"B = 64                          ",
     *b"newest slot = N - 1             ",
     *b"free slot = N - 1               ",
     *b"older neighbour = N - 1         ",
@@ -28,6 +29,7 @@ const NAMES: [[u8; 32]; 30] = [
     *b"register of a row = V - 1       ",
     *b"worker of a row = 15            ",
     *b"slots lent = N - 1              ",
+    *b"rights of a row = 15            ",
     *b"length of local pool = B        ",
     *b"slot in local pool = N - 1      ",
     *b"register = V - 1                ",
@@ -37,7 +39,8 @@ const NAMES: [[u8; 32]; 30] = [
     *b"row of total = its last row     ",
     *b"sum + = 31 * 999999999999       ",
     *b"sum - = 31 * 999999999999       ",
-    *b"mark = 11                       ",
+    *b"mark kept = 11                  ",
+    *b"mark read = 11                  ",
 ];
 
 fn write(bytes: &[u8]) {
@@ -45,7 +48,7 @@ fn write(bytes: &[u8]) {
 }
 
 fn name_of(k: usize) -> [u8; 32] {
-    NAMES[k % 30]
+    NAMES[k % 33]
 }
 
 fn write_word(yes: bool) {
@@ -59,7 +62,7 @@ fn write_word(yes: bool) {
 // Whether memory counts as set up where number k has this value.
 fn ready_with(k: usize, value: u64) -> bool {
     let mut x = memory::usual();
-    x[k / 10 % 3][k % 10] = value;
+    x[k / 11 % 3][k % 11] = value;
     memory::is_ready(x)
 }
 
@@ -75,9 +78,9 @@ fn show(name: &[u8], k: usize, value: u64) {
 // Each number at its limit.
 fn show_all() {
     let limits = memory::limits();
-    for k in 0..30usize {
+    for k in 0..33usize {
         let name = name_of(k);
-        show(&name, k, limits[k / 10][k % 10]);
+        show(&name, k, limits[k / 11][k % 11]);
     }
 }
 
@@ -86,6 +89,6 @@ fn main() {
     // The list in hand has no more ranges than there are slots besides the newest versions.
     show(b"N = 4B + V - 1                  ", 2, 61);
     // Behind the workers all marks are read at once.
-    show(b"times read = P + 11             ", 25, 16);
-    show(b"times read = P + 12             ", 25, 17);
+    show(b"times read = P + 11             ", 27, 17);
+    show(b"times read = P + 12             ", 27, 18);
 }

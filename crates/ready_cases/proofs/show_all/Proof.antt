@@ -8,7 +8,7 @@ abbrev Inv-loop : tie.InvT-loop
 Inv-loop limits k₀ k = Unit {0}
 
 abbrev μ-loop : tie.MeasureT-loop
-μ-loop limits k₀ k = 30 - k
+μ-loop limits k₀ k = 33 - k
 
 limits-requires : tie.Need-limits-requires Inv-loop μ-loop
 limits-requires c κs = search needs
