@@ -44,15 +44,15 @@ returns c = late _ _ _ (up (c .before)) (c .if1 .taken)
 take-table-requires : tie.Need-take-table-requires
 take-table-requires c κs = search needs
 
-fresh-requires : tie.Need-fresh-requires
-fresh-requires c κs = search needs
+tabled-requires : tie.Need-tabled-requires
+tabled-requires c κs = search needs
 
 returns-2 : tie.Need-returns-2
 returns-2 c =
     let t = c .before .before in
     let e = t .before .before .before in
     accepted _ _ _ _ _ _ (up (e .before)) (e .if1 .left) (t .take-table .ensures .0) (c .before .if2 .taken) (t .take-table .ensures .1)
-    (c .fresh .ensures)
+    (c .tabled .ensures)
 
 returns-3 : tie.Need-returns-3
 returns-3 c =
@@ -71,6 +71,6 @@ give-table-spec =
     ready-requires
     returns
     take-table-requires
-    fresh-requires
+    tabled-requires
     returns-2
     returns-3)
