@@ -7,6 +7,7 @@ use Prim.Native.Nat.{ℕ, _<_, _≤_, _+_, _*_, _-_, _/_, _%_}
 use native.Mathlib.Omega.{arith}
 use native.Mathlib.Numerals.{add-one}
 use lib.ListN.{length, getD, set, take, length-set, length-map, replicate}
+use Rattle.model.specs.Rules.{Given}
 use Rattle.lists.specs.Over.{over, overAt}
 use Rattle.lists.proofs.Mapped.{mapped, mapped-all}
 use Rattle.model.specs.Record as Model
@@ -68,9 +69,9 @@ stateOf up h row newest free queue lens merged kinds numbers last =
     record { up = up; memory = memory h (rowOf row) newest free queue lens merged; kinds = kinds; numbers = numbers; last = last }
 
 -- k records of the bytes are applied, with the list lent, from the state S on, and T is the state now
-pub record SoFar (S : State) (list bytes : List ℕ) (count k : ℕ) (T : State) : Type 0 where
+pub record SoFar (S : State) (given : Given) (bytes : List ℕ) (count k : ℕ) (T : State) : Type 0 where
   pub inside : k ≤ count
-  pub state : T ≡ after S list bytes k
+  pub state : T ≡ after S given bytes k
   -- memory that counts as set up has at most sixteen workers
   pub few : T .up ≡ true → T .memory .hub .site .p ≤ 16
   pub row : length (T .memory .slots) ≡ length (S .memory .slots)
@@ -98,14 +99,14 @@ empty-is : poolRep [] ≡ emptyPool
 empty-is i = record { slots = padded-nil 64 i; lows = padded-nil 64 i; highs = padded-nil 64 i; len = 0 }
 
 -- What is known once record k is decided: it reads as r, its byte 1 modulo sixteen is w, and g is the decision.
-pub record Decides (S : State) (list bytes : List ℕ) (count k : ℕ) (T : State) (r : Decoded) (w : ℕ) (g : Gate) : Type 0 where
-  pub soFar : SoFar S list bytes count k T
+pub record Decides (S : State) (given : Given) (bytes : List ℕ) (count k : ℕ) (T : State) (r : Decoded) (w : ℕ) (g : Gate) : Type 0 where
+  pub soFar : SoFar S given bytes count k T
   pub more : k < count
   pub reads : decodedOf r ≡ Model.decode (recordAt bytes k)
   pub worker : w ≡ getD (recordAt bytes k) 1 0 % 16
   pub decided : g
       ≡ gateOf r (T .up) (T .memory .hub .site .p) (T .memory .hub .site .v) (length (T .memory .slots)) (workerIn (T .memory .hub) w .doing)
-      (workerIn (T .memory .hub) w .announced) list (rowsKept (T .memory .hub)) (T .memory .hub .marks) (marksRead (T .memory .hub))
+      (workerIn (T .memory .hub) w .announced) (given .totals) (rowsKept (T .memory .hub)) (T .memory .hub .marks) (marksRead (T .memory .hub))
       (tableKept (T .memory .hub))
 
 -- the worker's number by the record's bytes
@@ -113,14 +114,14 @@ pub named-by : {v : ℕ} {b c : List ℕ} → v ≡ getD b 1 0 → b ≡ c → v
 named-by e f = ap (λ (z : ℕ). z % 16) e ∙ ap (λ (d : List ℕ). getD d 1 0 % 16) f
 
 -- by what the loop's locals and its calls are known to be
-pub deciding : (row : List (List ℕ)) {S : State} {list bytes : List ℕ} {count k : ℕ} {up : Bool} {h : Hub}
+pub deciding : (row : List (List ℕ)) {S : State} {given : Given} {bytes : List ℕ} {count k : ℕ} {up : Bool} {h : Hub}
     {newest free queue lens merged kinds numbers : List ℕ} {last : Answer} {r : Decoded} {w : ℕ} {g : Gate}
-    → SoFar S list bytes count k (stateOf up h row newest free queue lens merged kinds numbers last) → k < count
+    → SoFar S given bytes count k (stateOf up h row newest free queue lens merged kinds numbers last) → k < count
     → decodedOf r ≡ Model.decode (recordAt bytes k) → w ≡ getD (recordAt bytes k) 1 0 % 16
-    → g ≡ gateOf r up (h .site .p) (h .site .v) (length row) (getD (h .workers) w nobody .doing) (getD (h .workers) w nobody .announced) list (rowsKept h)
+    → g ≡ gateOf r up (h .site .p) (h .site .v) (length row) (getD (h .workers) w nobody .doing) (getD (h .workers) w nobody .announced) (given .totals) (rowsKept h)
     (h .marks) (marksRead h) (tableKept h)
-    → Decides S list bytes count k (stateOf up h row newest free queue lens merged kinds numbers last) r w g
-deciding row {list = list} {up = up} {h = h} {r = r} {w = w} R more reads worker decided =
+    → Decides S given bytes count k (stateOf up h row newest free queue lens merged kinds numbers last) r w g
+deciding row {given = given} {up = up} {h = h} {r = r} {w = w} R more reads worker decided =
     record {
       soFar = R;
       more = more;
@@ -128,13 +129,13 @@ deciding row {list = list} {up = up} {h = h} {r = r} {w = w} R more reads worker
       worker = worker;
       decided =
           decided
-          ∙ ap (λ (n : ℕ). gateOf r up (h .site .p) (h .site .v) n (getD (h .workers) w nobody .doing) (getD (h .workers) w nobody .announced) list (rowsKept h)
+          ∙ ap (λ (n : ℕ). gateOf r up (h .site .p) (h .site .v) n (getD (h .workers) w nobody .doing) (getD (h .workers) w nobody .announced) (given .totals) (rowsKept h)
           (h .marks) (marksRead h) (tableKept h))
           (sym (length-map row _));
     }
 
-module _ {S : State} {list bytes : List ℕ} {count k : ℕ} {T : State} {r : Decoded} {w : ℕ} {g : Gate}
-    (D : Decides S list bytes count k T r w g) where
+module _ {S : State} {given : Given} {bytes : List ℕ} {count k : ℕ} {T : State} {r : Decoded} {w : ℕ} {g : Gate}
+    (D : Decides S given bytes count k T r w g) where
   abbrev m : Memory
   m = T .memory
 
@@ -147,7 +148,7 @@ module _ {S : State} {list bytes : List ℕ} {count k : ℕ} {T : State} {r : De
   abbrev x : Worker
   x = workerIn h w
 
-  R : SoFar S list bytes count k T
+  R : SoFar S given bytes count k T
   R = D .soFar
 
   -- the worker that the record names, if it names one
@@ -161,35 +162,35 @@ module _ {S : State} {list bytes : List ℕ} {count k : ℕ} {T : State} {r : De
   read-as = decoded-back r ∙ ap decodedRep (D .reads)
 
   -- the decision is the definition's
-  gate : gateIn (T .up) m list b ≡ g
+  gate : gateIn (T .up) m given b ≡ g
   gate =
-      let by : Decoded → ℕ → Gate = λ z v. gateOf z (T .up) (h .site .p) (h .site .v) (length (m .slots)) (workerIn h v .doing) (workerIn h v .announced) list
+      let by : Decoded → ℕ → Gate = λ z v. gateOf z (T .up) (h .site .p) (h .site .v) (length (m .slots)) (workerIn h v .doing) (workerIn h v .announced) (given .totals)
       (rowsKept h) (h .marks) (marksRead h) (tableKept h) in
       sym (D .decided
       ∙ ap (by r) (D .worker)
-      ∙ gate-at h r u names (T .up) (length (m .slots)) list (R .few)
+      ∙ gate-at h r u names (T .up) (length (m .slots)) (given .totals) (R .few)
       ∙ ap (λ (z : Decoded). by z (whoOf z)) read-as)
 
   -- what it says of the worker
   says : Named (T .up) u (h .site .p) (length (m .slots)) g
   says =
       subst (Named (T .up) u (h .site .p) (length (m .slots))) (sym (D .decided))
-      (named r u names (T .up) (h .site .p) (h .site .v) (length (m .slots)) (x .doing) (x .announced) list (rowsKept h) (h .marks) (marksRead h) (tableKept h))
+      (named r u names (T .up) (h .site .p) (h .site .v) (length (m .slots)) (x .doing) (x .announced) (given .totals) (rowsKept h) (h .marks) (marksRead h) (tableKept h))
 
   -- the answer y is written
   abbrev pub Wrote : Answer → List ℕ → List ℕ → Answer → Type 0
   Wrote y kinds numbers last = (last ≡ y) × ((kinds ≡ set (T .kinds) k (kindOf y)) × (numbers ≡ set (T .numbers) k (numberOf y)))
 
   -- an arm that does what the definition says of the decision
-  on-gate : (g′ : Gate) (u : Bool) (q : Result) (kinds numbers : List ℕ) (last : Answer) → g ≡ g′ → u ≡ (T .up || makes g′) → obeyIn m list g′ ≡ q
+  on-gate : (g′ : Gate) (u : Bool) (q : Result) (kinds numbers : List ℕ) (last : Answer) → g ≡ g′ → u ≡ (T .up || makes g′) → obeyIn m given g′ ≡ q
       → (u ≡ true → q .memory .hub .site .p ≤ 16) → length (q .memory .slots) ≡ length (m .slots) → length (q .memory .hub .workers) ≡ 16
       → Wrote (q .answer) kinds numbers last
-      → SoFar S list bytes count (k + 1) (record { up = u; memory = q .memory; kinds = kinds; numbers = numbers; last = last })
+      → SoFar S given bytes count (k + 1) (record { up = u; memory = q .memory; kinds = kinds; numbers = numbers; last = last })
   unfolding after next doneAs
   on-gate g′ u q kinds numbers last eg eu eq few row sixteen z =
-      let d : doneAs (T .up) m list b ≡ q = ap (obeyIn m list) (gate ∙ eg) ∙ eq in
-      let t : T ≡ after S list bytes k = R .state in
-      let n : next T list k b ≡ record { up = u; memory = q .memory; kinds = kinds; numbers = numbers; last = last } =
+      let d : doneAs (T .up) m given b ≡ q = ap (obeyIn m given) (gate ∙ eg) ∙ eq in
+      let t : T ≡ after S given bytes k = R .state in
+      let n : next T given k b ≡ record { up = u; memory = q .memory; kinds = kinds; numbers = numbers; last = last } =
       (λ i. record {
         up = T .up || makes ((gate ∙ eg) i);
         memory = d i .memory;
@@ -200,7 +201,7 @@ module _ {S : State} {list bytes : List ℕ} {count k : ℕ} {T : State} {r : De
       ∙ (λ i. record { up = sym eu i; memory = q .memory; kinds = sym (z .1 .0) i; numbers = sym (z .1 .1) i; last = sym (z .0) i }) in
       record {
         inside = let i = D .more in omega arith;
-        state = rw (add-one k) (sym n ∙ ap (λ (s : State). next s list k b) t);
+        state = rw (add-one k) (sym n ∙ ap (λ (s : State). next s given k b) t);
         few = few;
         row = row ∙ R .row;
         sixteen = sixteen;
@@ -212,7 +213,7 @@ module _ {S : State} {list bytes : List ℕ} {count k : ℕ} {T : State} {r : De
   -- Refused, set up, begun
 
   pub on-refuse : (n : ℕ) (kinds numbers : List ℕ) (last : Answer) → g ≡ Refuse n → Wrote (No n) kinds numbers last
-      → SoFar S list bytes count (k + 1) (record { up = T .up; memory = m; kinds = kinds; numbers = numbers; last = last })
+      → SoFar S given bytes count (k + 1) (record { up = T .up; memory = m; kinds = kinds; numbers = numbers; last = last })
   unfolding obeyIn
   on-refuse n kinds numbers last e z = on-gate (Refuse n) (T .up) _ kinds numbers last e (or-false (T .up)) refl (R .few) refl (R .sixteen) z
 
@@ -220,9 +221,9 @@ module _ {S : State} {list bytes : List ℕ} {count k : ℕ} {T : State} {r : De
   make-few p v n t e = sizes-few p v n t (length (m .slots)) (subst (Named (T .up) u (h .site .p) (length (m .slots))) e says .1)
 
   pub on-make : (p v n t : ℕ) (h′ : Hub) (slots newest free : List _) (kinds numbers : List ℕ) (last : Answer) → g ≡ Make p v n t
-      → h′ ≡ freshHub (siteMade h list p v n) t → slots ≡ madeTo (m .slots) v n → newest ≡ fillTo (m .newest) short v
+      → h′ ≡ freshHub (siteMade h (given .totals) p v n) t → slots ≡ madeTo (m .slots) v n → newest ≡ fillTo (m .newest) short v
       → free ≡ fillTo (m .free) (λ j. short (n - 1 - j)) (h′ .free) → Wrote Ok kinds numbers last
-      → SoFar S list bytes count (k + 1)
+      → SoFar S given bytes count (k + 1)
       (record { up = true; memory = memory h′ slots newest free (m .queue) (m .lens) (m .merged); kinds = kinds; numbers = numbers; last = last })
   unfolding obeyIn setUpIn
   on-make p v n t h′ slots newest free kinds numbers last e eh es en ef z =
@@ -244,7 +245,7 @@ module _ {S : State} {list bytes : List ℕ} {count k : ℕ} {T : State} {r : De
       (n .1 ∙ omega arith, omega arith)
 
   pub on-start : (v : ℕ) (d : Doing) (kinds numbers : List ℕ) (last : Answer) → g ≡ Start v d → Wrote Ok kinds numbers last
-      → SoFar S list bytes count (k + 1)
+      → SoFar S given bytes count (k + 1)
       (record { up = T .up; memory = withHub m (withWorkersIn h (set (h .workers) w (atPlace x d))); kinds = kinds; numbers = numbers; last = last })
   unfolding obeyIn
   on-start v d kinds numbers last e z =
@@ -280,13 +281,13 @@ module _ {S : State} {list bytes : List ℕ} {count k : ℕ} {T : State} {r : De
     abbrev m′ : Memory
     m′ = withRow m row newest
 
-    goes : (s′ : Next) → s ≡ s′ → obeyIn m list (Go w) ≡ nextIn m′ w x s′
+    goes : (s′ : Next) → s ≡ s′ → obeyIn m given (Go w) ≡ nextIn m′ w x s′
     unfolding obeyIn goIn
     goes s′ f = ap (finishIn m w x) (sym stepped) ∙ ap (nextIn m′ w x) f
 
     on-go : (s′ : Next) (q : Result) (kinds numbers : List ℕ) (last : Answer) → s ≡ s′ → nextIn m′ w x s′ ≡ q → q .memory .hub .site .p ≡ h .site .p
         → length (q .memory .slots) ≡ length row → length (q .memory .hub .workers) ≡ 16 → Wrote (q .answer) kinds numbers last
-        → SoFar S list bytes count (k + 1) (record { up = T .up; memory = q .memory; kinds = kinds; numbers = numbers; last = last })
+        → SoFar S given bytes count (k + 1) (record { up = T .up; memory = q .memory; kinds = kinds; numbers = numbers; last = last })
     on-go s′ q kinds numbers last f n ep er es z =
         on-gate (Go w) (T .up) q kinds numbers last (e ∙ ap Go (of-worker .0)) (or-false (T .up)) (goes s′ f ∙ n)
         (λ u. subst (λ (y : ℕ). y ≤ 16) (sym ep) (R .few u)) (er ∙ long) es z
@@ -296,7 +297,7 @@ module _ {S : State} {list bytes : List ℕ} {count k : ℕ} {T : State} {r : De
 
     pub on-taken : (o : Outcome) (i : ℕ) (kinds numbers : List ℕ) (last : Answer) → s ≡ Taken o
         → i ≡ readNext (x .doing) (o .doing) (getD (h .reading) w 0) → Wrote (o .answer) kinds numbers last
-        → SoFar S list bytes count (k + 1)
+        → SoFar S given bytes count (k + 1)
         (record {
           up = T .up;
           memory =
@@ -333,7 +334,7 @@ module _ {S : State} {list bytes : List ℕ} {count k : ℕ} {T : State} {r : De
         → a ≡ handedOn row (x .pool .len) c (h .site .batch) → slots ≡ placed (x .pool .slots) (x .pool .len) c
         → lows ≡ placed (x .pool .lows) (x .pool .len) (a .low) → highs ≡ placed (x .pool .highs) (x .pool .len) (a .high)
         → Wrote (a .answer) kinds numbers last
-        → SoFar S list bytes count (k + 1)
+        → SoFar S given bytes count (k + 1)
         (record {
           up = T .up;
           memory =
@@ -374,7 +375,7 @@ module _ {S : State} {list bytes : List ℕ} {count k : ℕ} {T : State} {r : De
         × ((poolsIn queue lens (a .window) ≡ rest (queueIn m))
         × (merged ≡ withPart (m .merged) w (over (flat (taken (queueIn m))) (partOf (m .merged) w))))
         → Wrote Going kinds numbers last
-        → SoFar S list bytes count (k + 1)
+        → SoFar S given bytes count (k + 1)
         (record {
           up = T .up;
           memory =
@@ -411,7 +412,7 @@ module _ {S : State} {list bytes : List ℕ} {count k : ℕ} {T : State} {r : De
     -- flush (2)
     pub on-read : (n j : ℕ) (times : List ℕ) (kinds numbers : List ℕ) (last : Answer) → s ≡ Read n j
         → times ≡ flushReadStep (h .times) w j (workerIn h (j % 16) .announced) → Wrote Going kinds numbers last
-        → SoFar S list bytes count (k + 1)
+        → SoFar S given bytes count (k + 1)
         (record {
           up = T .up;
           memory =
@@ -438,7 +439,7 @@ module _ {S : State} {list bytes : List ℕ} {count k : ℕ} {T : State} {r : De
     -- flush (2), behind the last worker
     pub on-read-marks : (n : ℕ) (times : List ℕ) (kinds numbers : List ℕ) (last : Answer) → s ≡ ReadMarks n
         → times ≡ overAt (28 * w + h .site .p) (h .marks) (h .times) → Wrote Going kinds numbers last
-        → SoFar S list bytes count (k + 1)
+        → SoFar S given bytes count (k + 1)
         (record {
           up = T .up;
           memory =
@@ -464,7 +465,7 @@ module _ {S : State} {list bytes : List ℕ} {count k : ℕ} {T : State} {r : De
 
     -- mark and release
     pub on-mark : (i t : ℕ) (kinds numbers : List ℕ) (last : Answer) → s ≡ Mark i t → Wrote Done kinds numbers last
-        → SoFar S list bytes count (k + 1)
+        → SoFar S given bytes count (k + 1)
         (record {
           up = T .up;
           memory = withHub m′ (withMarksIn (withWorkersIn h (set (h .workers) w (atPlace x Idle))) (set (h .marks) (i % 12) t));
@@ -480,7 +481,7 @@ module _ {S : State} {list bytes : List ℕ} {count k : ℕ} {T : State} {r : De
         → a .left ≡ splitLeft (m .merged) w n (h .times) j (x .pool)
         → poolsIn queue lens (a .window) ≡ splitQueue (queueIn m) (m .merged) w n (h .times) j (h .site .batch) (x .pool)
         → merged ≡ splitMerged (m .merged) w n (h .times) j (x .pool) → Wrote Going kinds numbers last
-        → SoFar S list bytes count (k + 1)
+        → SoFar S given bytes count (k + 1)
         (record {
           up = T .up;
           memory =
@@ -521,7 +522,7 @@ module _ {S : State} {list bytes : List ℕ} {count k : ℕ} {T : State} {r : De
         → h′ ≡ withWorkersIn (withFreeIn (withWorkersIn h (set (h .workers) w (atPlace x (FlushFree (n - 1))))) (a .free))
         (mapped (offWorker (a .slot) (a .older)) j (set (h .workers) w (atPlace x (FlushFree (n - 1)))))
         → Wrote (Freed (a .slot)) kinds numbers last
-        → SoFar S list bytes count (k + 1)
+        → SoFar S given bytes count (k + 1)
         (record { up = T .up; memory = memory h′ slots newest free (m .queue) (m .lens) (m .merged); kinds = kinds; numbers = numbers; last = last })
     unfolding nextIn freedIn
     on-free n a slots free h′ j kinds numbers last f ea es ef lo hi eh z =
@@ -554,14 +555,14 @@ ready-is h row newest free queue lens merged up linked ek eu =
     eu ∙ (λ i. readyOf h newest free queue lens merged (ek i) (sym (length-map row slotIn) i))
 
 -- all records are applied
-pub finished : (m : Memory) (list bytes kinds numbers : List ℕ) (count k : ℕ) (up : Bool) (T : State)
-    → SoFar (record { up = up; memory = m; kinds = kinds; numbers = numbers; last = Ok }) list bytes count k T → count ≤ k → up ≡ ready m
-    → Ran m list bytes kinds numbers count (T .memory) (T .kinds) (T .numbers) (T .last)
-finished m list bytes kinds numbers count k up T R all tested =
+pub finished : (m : Memory) (given : Given) (bytes kinds numbers : List ℕ) (count k : ℕ) (up : Bool) (T : State)
+    → SoFar (record { up = up; memory = m; kinds = kinds; numbers = numbers; last = Ok }) given bytes count k T → count ≤ k → up ≡ ready m
+    → Ran m given bytes kinds numbers count (T .memory) (T .kinds) (T .numbers) (T .last)
+finished m given bytes kinds numbers count k up T R all tested =
     let i = R .inside in
     let last : k ≡ count = omega arith in
-    let e : T ≡ after (before m kinds numbers) list bytes count =
-    R .state ∙ (λ j. after (record { up = tested j; memory = m; kinds = kinds; numbers = numbers; last = Ok }) list bytes (last j)) in
+    let e : T ≡ after (before m kinds numbers) given bytes count =
+    R .state ∙ (λ j. after (record { up = tested j; memory = m; kinds = kinds; numbers = numbers; last = Ok }) given bytes (last j)) in
     record {
       memory = ap (λ (s : State). s .memory) e;
       answerKinds = ap (λ (s : State). s .kinds) e;

@@ -3,6 +3,7 @@
 ghost use mathlib.Core.Path.{_≡_};
 ghost use Prim.Native.Nat.{_≤_};
 ghost use lib.ListN.{getD, set};
+ghost use Rattle.model.specs.Rules.{ofTotals};
 ghost use Rattle.answers.specs.Numbers.{kindOf, numberOf};
 ghost use Rattle.versions.specs.Versions.{rowOf};
 ghost use Rattle.simulation.specs.Memory.{memory};
@@ -101,7 +102,7 @@ pub fn run(
         Ran
         (memory start (rowOf (now (row .entry)))
         (now (newest .entry)) (now (free .entry)) (now (queue .entry)) (now (lens .entry)) (now (merged .entry)))
-        (now (list .entry)) (now (bytes .entry)) (now (kinds .entry)) (now (numbers .entry)) count
+        (ofTotals (now (list .entry))) (now (bytes .entry)) (now (kinds .entry)) (now (numbers .entry)) count
         (memory (r .hub) (rowOf (now (row .exit)))
         (now (newest .exit)) (now (free .exit)) (now (queue .exit)) (now (lens .exit)) (now (merged .exit)))
         (now (kinds .exit)) (now (numbers .exit)) (r .last)

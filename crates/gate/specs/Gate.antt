@@ -6,7 +6,7 @@ use Prim.Native.Nat.{ℕ}
 use lib.Dec.{ltb, leb, eqb}
 use lib.ListN.{length}
 use Rattle.model.specs.Store.{markCount}
-use Rattle.model.specs.Rules.{inForce}
+use Rattle.model.specs.Rules.{noneGiven, inForce}
 use Rattle.model.specs.Totals.{firstOf}
 use Rattle.model.specs.Record as Model
 use Rattle.model.specs.Rights.{allowed}
@@ -154,7 +154,7 @@ groupOk (Is i) rows = ltb i (length rows)
 -- 16: the value, if there is one, is at most the limit in force
 abbrev pub valueOk : Putting → Bool
 valueOk NoValue = true
-valueOk (Value x) = valueWithin (inForce [] .limit) (some (readingOf x))
+valueOk (Value x) = valueWithin (inForce noneGiven .limit) (some (readingOf x))
 
 -- 25: the status of the reading, if there is one, is one that there is
 abbrev pub statusOk : Putting → Bool

@@ -19,6 +19,7 @@ use denote.Builtin.{u8, u16, u32}
 use denote.Ref.{RefT, MutRef, ptr-vals, mut-tells}
 use denote.Slice.{ShrSlice, slice-vals, shr-slice-tells}
 use denote.Steps.{only}
+use Rattle.model.specs.Rules.{ofTotals}
 use Rattle.values.specs.declared.Answer.{Answer}
 use Rattle.slots.specs.declared.Slot.{Slot}
 use Rattle.state.specs.declared.Hub.{Hub}
@@ -162,11 +163,11 @@ single-end x z = arrays-end (x .1 .1) (z .1 .1)
 
 -- what one record did
 abbrev pub OneDone : Hub → List Slot → Single → Hub → List Slot → SingleLeft → Answer → Type 0
-OneDone h s x h′ s′ z y = One (found h s (x .1 .1)) (x .0 .now) (x .1 .0 .now) (leaves h′ s′ (z .1 .1)) y
+OneDone h s x h′ s′ z y = One (found h s (x .1 .1)) (ofTotals (x .0 .now)) (x .1 .0 .now) (leaves h′ s′ (z .1 .1)) y
 
 -- the same as the public contract says it
 abbrev pub SingleDoes : Hub → List Slot → Single → Hub → List Slot → SingleLeft → Answer → Type 0
-SingleDoes h s x h′ s′ z y = Does (found h s (x .1 .1)) (x .0 .now) (x .1 .0 .now) y (leaves h′ s′ (z .1 .1))
+SingleDoes h s x h′ s′ z y = Does (found h s (x .1 .1)) (ofTotals (x .0 .now)) (x .1 .0 .now) y (leaves h′ s′ (z .1 .1))
 
 -- what the lent things tell: the bytes are bytes, and so on
 abbrev pub Known : Single → Type 0
@@ -183,5 +184,5 @@ pub single-does : (h : Hub) (s : List Slot) (x : Single) (h′ : Hub) (s′ : Li
     → HubLong h → Known x
     → (rest-of 2048 s′ ≡ rest-of 2048 s) × OneDone h (take 2048 s) x h′ (take 2048 s′) z y → SingleDoes h s x h′ s′ z y
 single-does h s x h′ s′ z y w k e =
-    does-whole (found h s (x .1 .1)) (leaves h′ s′ (z .1 .1)) (x .0 .now) (x .1 .0 .now) y (sized h s (x .1 .1) w (k .1 .1)) (k .1 .0) (e .1 .answer)
+    does-whole (found h s (x .1 .1)) (leaves h′ s′ (z .1 .1)) (ofTotals (x .0 .now)) (x .1 .0 .now) y (sized h s (x .1 .1) w (k .1 .1)) (k .1 .0) (e .1 .answer)
     (e .1 .memory) (e .0)

@@ -3,6 +3,7 @@
 ghost use mathlib.Core.Path.{_≡_};
 ghost use Prim.Native.Nat.{min};
 ghost use lib.ListN.{replicate, take, drop};
+ghost use Rattle.model.specs.Rules.{ofTotals};
 ghost use Rattle.versions.specs.Versions.{rowOf};
 ghost use Rattle.simulation.specs.Memory.{memory};
 ghost use Rattle.simulation.specs.Public.{Does};
@@ -66,7 +67,7 @@ pub fn apply(
         Does
         (memory hub (now (slots .entry))
         (now (newest .entry)) (now (free .entry)) (now (queue .entry)) (now (lens .entry)) (now (merged .entry)))
-        (now (list .entry)) (now (rec .entry)) (r .answer)
+        (ofTotals (now (list .entry))) (now (rec .entry)) (r .answer)
         (memory (r .hub) (now (slots .exit))
         (now (newest .exit)) (now (free .exit)) (now (queue .exit)) (now (lens .exit)) (now (merged .exit)))
         ⌝ }
@@ -114,7 +115,7 @@ pub fn apply_words(
         Applies
         (memory hub (rowOf (now (row .entry)))
         (now (newest .entry)) (now (free .entry)) (now (queue .entry)) (now (lens .entry)) (now (merged .entry)))
-        (now (list .entry)) (now (bytes .entry)) (now (kinds .entry)) (now (numbers .entry)) (r .count)
+        (ofTotals (now (list .entry))) (now (bytes .entry)) (now (kinds .entry)) (now (numbers .entry)) (r .count)
         (memory (r .hub) (rowOf (now (row .exit)))
         (now (newest .exit)) (now (free .exit)) (now (queue .exit)) (now (lens .exit)) (now (merged .exit)))
         (now (kinds .exit)) (now (numbers .exit))
@@ -191,7 +192,7 @@ pub fn apply_row(
         × Does
         (memory hub (take (min long 2048) row)
         (now (newest .entry)) (now (free .entry)) (now (queue .entry)) (now (lens .entry)) (now (merged .entry)))
-        (now (list .entry)) (now (rec .entry)) (r .applied .answer)
+        (ofTotals (now (list .entry))) (now (rec .entry)) (r .applied .answer)
         (memory (r .applied .hub) (take (min long 2048) (r .slots))
         (now (newest .exit)) (now (free .exit)) (now (queue .exit)) (now (lens .exit)) (now (merged .exit)))
         ⌝ }

@@ -6,6 +6,7 @@ use Prim.Native.Nat.{ℕ, zero, suc, _*_, _/_, _≤_, min}
 use native.Mathlib.Omega.{arith}
 use lib.ListN.{length, take, length-take, length-set}
 use lib.Seq.{take-all}
+use Rattle.model.specs.Rules.{Given}
 use Rattle.model.proofs.Basic.{lt-cases}
 use Rattle.simulation.specs.Memory.{Memory}
 use Rattle.simulation.specs.Loop.{State, next, after, before}
@@ -24,29 +25,29 @@ take-min l n b e =
 
 -- the bytes that are handed on
 pub handed-on :
-    (list bytes text : List ℕ) (b : ℕ) {m m′ : Memory} {kinds numbers kinds′ numbers′ : List ℕ} {n : ℕ}
+    (given : Given) (bytes text : List ℕ) (b : ℕ) {m m′ : Memory} {kinds numbers kinds′ numbers′ : List ℕ} {n : ℕ}
     → b ≡ min (length bytes) (16 * (length text / longest))
-    → Applies m list (take b bytes) kinds numbers n m′ kinds′ numbers′
-    → Applies m list (inRoom bytes text) kinds numbers n m′ kinds′ numbers′
-handed-on list bytes text b {m} {m′} {kinds} {numbers} {kinds′} {numbers′} {n} e a =
-    subst (λ (l : List ℕ). Applies m list l kinds numbers n m′ kinds′ numbers′) (take-min bytes (16 * (length text / longest)) b e) a
+    → Applies m given (take b bytes) kinds numbers n m′ kinds′ numbers′
+    → Applies m given (inRoom bytes text) kinds numbers n m′ kinds′ numbers′
+handed-on given bytes text b {m} {m′} {kinds} {numbers} {kinds′} {numbers′} {n} e a =
+    subst (λ (l : List ℕ). Applies m given l kinds numbers n m′ kinds′ numbers′) (take-min bytes (16 * (length text / longest)) b e) a
 
 -- the two rows keep their lengths
-rows-kept : (s : State) (list bytes : List ℕ) (n : ℕ)
-    → (length (after s list bytes n .kinds) ≡ length (s .kinds)) × (length (after s list bytes n .numbers) ≡ length (s .numbers))
+rows-kept : (s : State) (given : Given) (bytes : List ℕ) (n : ℕ)
+    → (length (after s given bytes n .kinds) ≡ length (s .kinds)) × (length (after s given bytes n .numbers) ≡ length (s .numbers))
 unfolding after next
-rows-kept s list bytes zero = (refl, refl)
-rows-kept s list bytes (suc n) =
-    let r = rows-kept s list bytes n in
-    (length-set (after s list bytes n .kinds) n _ ∙ r .0, length-set (after s list bytes n .numbers) n _ ∙ r .1)
+rows-kept s given bytes zero = (refl, refl)
+rows-kept s given bytes (suc n) =
+    let r = rows-kept s given bytes n in
+    (length-set (after s given bytes n .kinds) n _ ∙ r .0, length-set (after s given bytes n .numbers) n _ ∙ r .1)
 
-module _ (list bytes text : List ℕ) {m m′ : Memory} {kinds numbers kinds′ numbers′ : List ℕ} {n : ℕ}
-    (a : Applies m list (inRoom bytes text) kinds numbers n m′ kinds′ numbers′) where
+module _ (given : Given) (bytes text : List ℕ) {m m′ : Memory} {kinds numbers kinds′ numbers′ : List ℕ} {n : ℕ}
+    (a : Applies m given (inRoom bytes text) kinds numbers n m′ kinds′ numbers′) where
   kinds-length : length kinds′ ≡ length kinds
-  kinds-length = ap length (a .ran .ran .answerKinds) ∙ rows-kept (before m kinds numbers) list (inRoom bytes text) n .0
+  kinds-length = ap length (a .ran .ran .answerKinds) ∙ rows-kept (before m kinds numbers) given (inRoom bytes text) n .0
 
   numbers-length : length numbers′ ≡ length numbers
-  numbers-length = ap length (a .ran .ran .answerNumbers) ∙ rows-kept (before m kinds numbers) list (inRoom bytes text) n .1
+  numbers-length = ap length (a .ran .ran .answerNumbers) ∙ rows-kept (before m kinds numbers) given (inRoom bytes text) n .1
 
   -- every answer is asked for
   all-counted : counted n kinds′ numbers′ ≡ n
@@ -57,7 +58,7 @@ module _ (list bytes text : List ℕ) {m m′ : Memory} {kinds numbers kinds′ 
   text-room = omega (arith, a .count, length-take (16 * (length text / longest)) bytes)
 
   pub part-logged : {first used : ℕ} {text′ : List ℕ} → LinesWritten text first kinds′ numbers′ n used text′
-      → Logs m list bytes first text kinds numbers n used m′ text′ kinds′ numbers′
+      → Logs m given bytes first text kinds numbers n used m′ text′ kinds′ numbers′
   part-logged {first} {used} {text′} w =
       let is : writtenLines text first kinds′ numbers′ (counted n kinds′ numbers′) ≡ _ =
       ap (writtenLines text first kinds′ numbers′) all-counted ∙ whole-text text first kinds′ numbers′ n text-room in

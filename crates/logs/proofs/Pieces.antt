@@ -79,6 +79,6 @@ together (r ∷ rs) kept =
     ∙ append-assoc kept r (flatten rs)
 
 pub any-reads : AnyReads
-any-reads m list ps rs e parted H =
-    whole-file m list ps e (subst CutBetweenRecords (sym parted) (between rs [])) H
-    ∙ ap (logOf (inForce list) (lentIn m)) (ap flatten parted ∙ together rs [])
+any-reads m given ps rs e parted H =
+    whole-file m given ps e (subst CutBetweenRecords (sym parted) (between rs [])) H
+    ∙ ap (logOf (inForce given) (lentIn m)) (ap flatten parted ∙ together rs [])

@@ -10,7 +10,7 @@ use lib.Seq.{take-all}
 use Rattle.lists.specs.Over.{over}
 use Rattle.lists.proofs.Over.{take-over, getD-over-in}
 use Rattle.model.specs.Store.{Hub, blank, upFrom}
-use Rattle.model.specs.Rules.{Ruled, inForce, under, allUnder}
+use Rattle.model.specs.Rules.{Given, Ruled, inForce, under, allUnder}
 use Rattle.model.specs.Record.{cut, recordsOf}
 use Rattle.model.specs.Apply.{hubAfter, answersTo}
 use Rattle.model.specs.Demand.{events, Exchange, exchange}
@@ -42,8 +42,8 @@ unfolding firstOf upFrom
 first-up f zero = refl
 first-up f (suc k) = ap (λ (l : List _). l ++ (f k ∷ [])) (first-up f k) ∙ sym (map-last f k)
 
-module _ (h : Hub) (m : Memory) (list bytes : List ℕ) (first : ℕ) (printed : List ℕ) (n : ℕ) (m′ : Memory) (H : Holds h m)
-    (C : Call m list bytes first printed n m′) where
+module _ (h : Hub) (m : Memory) (given : Given) (bytes : List ℕ) (first : ℕ) (printed : List ℕ) (n : ℕ) (m′ : Memory) (H : Holds h m)
+    (C : Call m given bytes first printed n m′) where
   -- every record has room
   all-bytes : inRoom bytes (C .text) ≡ bytes
   all-bytes = take-all (16 * (length (C .text) / 70)) bytes (omega (arith, C .room .forText))
@@ -51,23 +51,23 @@ module _ (h : Hub) (m : Memory) (list bytes : List ℕ) (first : ℕ) (printed :
   all-records : n ≡ recordsIn bytes
   all-records = omega (arith, C .logs .applied .count, ap length all-bytes, C .room .forKinds, C .room .forNumbers)
 
-  applies : Applies m list bytes (C .kinds) (C .numbers) n m′ (C .kinds′) (C .numbers′)
-  applies = subst (λ (l : List ℕ). Applies m list l (C .kinds) (C .numbers) n m′ (C .kinds′) (C .numbers′)) all-bytes (C .logs .applied)
+  applies : Applies m given bytes (C .kinds) (C .numbers) n m′ (C .kinds′) (C .numbers′)
+  applies = subst (λ (l : List ℕ). Applies m given l (C .kinds) (C .numbers) n m′ (C .kinds′) (C .numbers′)) all-bytes (C .logs .applied)
 
   -- what was sent and answered, as the model has it
   abbrev answerOn : ℕ → Answer
   answerOn = answerAt (C .kinds′) (C .numbers′)
 
   abbrev es : List Exchange
-  es = map (exchangeAt list bytes (C .kinds′) (C .numbers′)) (upFrom 0 n)
+  es = map (exchangeAt given bytes (C .kinds′) (C .numbers′)) (upFrom 0 n)
 
   asModel : AsModel h m es m′
   asModel = applies .asModel h H
 
-  sent-is : sent es ≡ allUnder (inForce list) (recordsOf bytes)
-  sent-is = call-records (ForBuffer list bytes (C .kinds) (C .numbers) n (C .kinds′) (C .numbers′) m′) all-records
+  sent-is : sent es ≡ allUnder (inForce given) (recordsOf bytes)
+  sent-is = call-records (ForBuffer given bytes (C .kinds) (C .numbers) n (C .kinds′) (C .numbers′) m′) all-records
 
-  answered : map (λ (e : Exchange). e .answer) es ≡ answersTo h (allUnder (inForce list) (recordsOf bytes))
+  answered : map (λ (e : Exchange). e .answer) es ≡ answersTo h (allUnder (inForce given) (recordsOf bytes))
   answered =
       ap (map (λ (e : Exchange). e .answer)) (asModel .answers)
       ∙ sym (map-map (λ (e : Exchange). e .answer) exchange (events h (sent es)))
@@ -93,14 +93,14 @@ module _ (h : Hub) (m : Memory) (list bytes : List ℕ) (first : ℕ) (printed :
       ∙ ap (lines first)
       (ap (map answerOf) (first-up answerOn n)
       ∙ sym (map-map answerOf answerOn (upFrom 0 n))
-      ∙ map-map (λ (e : Exchange). e .answer) (exchangeAt list bytes (C .kinds′) (C .numbers′)) (upFrom 0 n))
+      ∙ map-map (λ (e : Exchange). e .answer) (exchangeAt given bytes (C .kinds′) (C .numbers′)) (upFrom 0 n))
 
   printed-is : printed ≡ linesFrom first (C .kinds′) (C .numbers′) n
   printed-is =
       let l : List ℕ = linesFrom first (C .kinds′) (C .numbers′) n in
       C .prints ∙ ap (take (C .used)) (C .logs .written) ∙ take-over l (C .text) (C .used) (sym (C .logs .bytesUsed))
 
-  part-logged : LoggedAs h m list bytes first printed n m′
+  part-logged : LoggedAs h m given bytes first printed n m′
   part-logged =
       record {
         count = all-records;
@@ -136,20 +136,20 @@ unfolding CutBetweenRecords flatten recordsOf cut
 records-parts p [] c = ap recordsOf (append-nil p) ∙ sym (append-nil (recordsOf p))
 records-parts p (q ∷ ps) c = in-parts p (flatten (q ∷ ps)) (inl (c .0))
 
-parts : (list : List ℕ) (ps : List Part) (h : Hub) (m : Memory) (first : ℕ) → Holds h m → CutBetweenRecords (parted ps) → HandedIn list m first ps
-    → printedOf ps ≡ lines first (answersTo h (allUnder (inForce list) (recordsOf (bytesOf ps))))
+parts : (given : Given) (ps : List Part) (h : Hub) (m : Memory) (first : ℕ) → Holds h m → CutBetweenRecords (parted ps) → HandedIn given m first ps
+    → printedOf ps ≡ lines first (answersTo h (allUnder (inForce given) (recordsOf (bytesOf ps))))
 unfolding HandedIn flatten recordsOf cut answersTo lines
-parts list [] h m first L c H = refl
-parts list (p ∷ ps) h m first L c H =
-    let a : List Ruled = allUnder (inForce list) (recordsOf (p .bytes)) in
-    let b : List Ruled = allUnder (inForce list) (recordsOf (bytesOf ps)) in
-    let o = one-part h m list (p .bytes) first (p .printed) (p .count) (p .after) L (H .0) in
-    let rest = parts list ps (hubAfter h a) (p .after) (first + p .count) (o .holds) (cut-rest (p .bytes) (parted ps) c) (H .1) in
+parts given [] h m first L c H = refl
+parts given (p ∷ ps) h m first L c H =
+    let a : List Ruled = allUnder (inForce given) (recordsOf (p .bytes)) in
+    let b : List Ruled = allUnder (inForce given) (recordsOf (bytesOf ps)) in
+    let o = one-part h m given (p .bytes) first (p .printed) (p .count) (p .after) L (H .0) in
+    let rest = parts given ps (hubAfter h a) (p .after) (first + p .count) (o .holds) (cut-rest (p .bytes) (parted ps) c) (H .1) in
     let count : length (answersTo h a) ≡ p .count =
-    answers-length h a ∙ length-map (recordsOf (p .bytes)) (under (inForce list)) ∙ sym (ap length (whole (p .bytes)))
+    answers-length h a ∙ length-map (recordsOf (p .bytes)) (under (inForce given)) ∙ sym (ap length (whole (p .bytes)))
     ∙ map-long (recordAt (p .bytes)) (recordsIn (p .bytes)) ∙ sym (o .count) in
-    let all : allUnder (inForce list) (recordsOf (bytesOf (p ∷ ps))) ≡ a ++ b =
-    ap (allUnder (inForce list)) (records-parts (p .bytes) (parted ps) c) ∙ under-append (inForce list) (recordsOf (p .bytes)) (recordsOf (bytesOf ps)) in
+    let all : allUnder (inForce given) (recordsOf (bytesOf (p ∷ ps))) ≡ a ++ b =
+    ap (allUnder (inForce given)) (records-parts (p .bytes) (parted ps) c) ∙ under-append (inForce given) (recordsOf (p .bytes)) (recordsOf (bytesOf ps)) in
     (λ i. o .text i ++ rest i)
     ∙ ap (λ (n : ℕ). lines first (answersTo h a) ++ lines (first + n) (answersTo (hubAfter h a) b)) (sym count)
     ∙ sym (lines-append first (answersTo h a) (answersTo (hubAfter h a) b))
@@ -158,4 +158,4 @@ parts list (p ∷ ps) h m first L c H =
 
 pub whole-file : WholeFile
 unfolding logOf
-whole-file m list ps e c H = parts list ps (blank (lentIn m)) m 0 (e, refl) c H
+whole-file m given ps e c H = parts given ps (blank (lentIn m)) m 0 (e, refl) c H

@@ -5,7 +5,7 @@ use mathlib.Core.Bool.{false, cond}
 use mathlib.Core.List.{List, [], _∷_, _++_, map, flatten}
 use Prim.Native.Nat.{ℕ, _+_, _%_}
 use lib.ListN.{length, take, drop}
-use Rattle.model.specs.Rules.{inForce}
+use Rattle.model.specs.Rules.{Given, inForce}
 use Rattle.model.specs.Rights.{tableOf, tableFits}
 use Rattle.model.specs.Answer.{Ok, No}
 use Rattle.model.specs.Log.{logOf}
@@ -29,9 +29,9 @@ pub record Part : Type 0 where
 
 -- the parts of a file handed in one after the other, all with the same list, from the memory m and the number n on: each meets the memory as
 -- the last one left it, and has the number of its first record. A call takes a number of 64 bits, so fewer than 2^64 records come before the last part.
-unfoldable pub HandedIn : List ℕ → Memory → ℕ → List Part → Type 0
-HandedIn list m n [] = Unit {0}
-HandedIn list m n (p ∷ ps) = Call m list (p .bytes) n (p .printed) (p .count) (p .after) × HandedIn list (p .after) (n + p .count) ps
+unfoldable pub HandedIn : Given → Memory → ℕ → List Part → Type 0
+HandedIn given m n [] = Unit {0}
+HandedIn given m n (p ∷ ps) = Call m given (p .bytes) n (p .printed) (p .count) (p .after) × HandedIn given (p .after) (n + p .count) ps
 
 -- a list of parts is cut between records: every part but the last is a multiple of sixteen bytes
 unfoldable pub CutBetweenRecords : List (List ℕ) → Type 0
@@ -43,11 +43,11 @@ CutBetweenRecords (p ∷ q ∷ ps) = (length p % 16 ≡ 0) × CutBetweenRecords 
 -- put together, the model's log of the file, with the table of rights that stands in the memory.
 abbrev pub WholeFile : Type 0
 WholeFile =
-    (m : Memory) (list : List ℕ) (ps : List Part)
+    (m : Memory) (given : Given) (ps : List Part)
     → ready m ≡ false
     → CutBetweenRecords (map (λ p. p .bytes) ps)
-    → HandedIn list m 0 ps
-    → flatten (map (λ p. p .printed) ps) ≡ logOf (inForce list) (lentIn m) (flatten (map (λ p. p .bytes) ps))
+    → HandedIn given m 0 ps
+    → flatten (map (λ p. p .printed) ps) ≡ logOf (inForce given) (lentIn m) (flatten (map (λ p. p .bytes) ps))
 
 ------------------------------------------------------------------------
 -- How `hublog` meets this
@@ -83,8 +83,8 @@ partsOf kept (r ∷ rs) =
 -- Whatever the reads bring, what was printed for these parts is, put together, the model's log of what was read.
 abbrev pub AnyReads : Type 0
 AnyReads =
-    (m : Memory) (list : List ℕ) (ps : List Part) (rs : List (List ℕ))
+    (m : Memory) (given : Given) (ps : List Part) (rs : List (List ℕ))
     → ready m ≡ false
     → map (λ p. p .bytes) ps ≡ partsOf [] rs
-    → HandedIn list m 0 ps
-    → flatten (map (λ p. p .printed) ps) ≡ logOf (inForce list) (lentIn m) (flatten rs)
+    → HandedIn given m 0 ps
+    → flatten (map (λ p. p .printed) ps) ≡ logOf (inForce given) (lentIn m) (flatten rs)

@@ -2,6 +2,7 @@
 ghost use mathlib.Core.Path.{_≡_};
 ghost use Prim.Native.Nat.{_*_, _/_, _≤_, min};
 ghost use lib.ListN.{length};
+ghost use Rattle.model.specs.Rules.{ofTotals};
 ghost use Rattle.versions.specs.Versions.{rowOf};
 ghost use Rattle.simulation.specs.Memory.{memory};
 ghost use Rattle.logs.specs.Part.{Logs};
@@ -47,7 +48,7 @@ pub fn log_part(
         Logs
         (memory hub (rowOf (now (row .entry)))
         (now (newest .entry)) (now (free .entry)) (now (queue .entry)) (now (lens .entry)) (now (merged .entry)))
-        (now (list .entry)) (now (bytes .entry)) first (now (text .entry)) (now (kinds .entry)) (now (numbers .entry)) (r .count) (r .used)
+        (ofTotals (now (list .entry))) (now (bytes .entry)) first (now (text .entry)) (now (kinds .entry)) (now (numbers .entry)) (r .count) (r .used)
         (memory (r .hub) (rowOf (now (row .exit)))
         (now (newest .exit)) (now (free .exit)) (now (queue .exit)) (now (lens .exit)) (now (merged .exit)))
         (now (text .exit)) (now (kinds .exit)) (now (numbers .exit))

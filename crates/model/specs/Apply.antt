@@ -8,7 +8,7 @@ use lib.Dec.{ltb, leb}
 use lib.ListN.{length, take, replicate}
 use Rattle.model.specs.Store.{absent, lastClock, Reading, lastStatus, Slot, markCount, OpenAnnounce, CloseWithdraw, MarkKeep, MarkRelease}
 use Rattle.model.specs.Store.{Single, Marked, Doing, PutPublish, FlushTake, OnTime, ReadEnter, GetShow, startWorker, Store, Hub}
-use Rattle.model.specs.Store.{blank, up, upFrom, workerAt, place}
+use Rattle.model.specs.Store.{Lent, blank, up, upFrom, workerAt, place}
 use Rattle.model.specs.About.{about}
 use Rattle.model.specs.Marks.{MarkNeed, NoMark, EmptyMark, HeldMark, UnreadMark, markOf, markRefusal}
 use Rattle.model.specs.Rules.{Rules, Ruled}
@@ -63,13 +63,17 @@ fresh b z rows table row =
       marks = replicate markCount absent;
     }
 
+-- the store of a setup with these sizes that is accepted under the rules given, on what is lent
+abbrev pub madeBy : Rules → Sizes → Lent → Store
+madeBy rules z x = fresh (rules .batch (z .P)) z (rowsOf (rules .given .totals)) (x .table) (x .row)
+
 -- H7.6: 9 where the hub is set up. H2.2, H2.3, H12.2: 5 outside the ranges, where the row has fewer than N slots, or where the list of totals is
 -- not one that a setup accepts.
 unfoldable pub setUp : Rules → Hub → Sizes → Applied
 setUp rules (up s) z = refuse (up s) 9
 setUp rules (blank x) z =
-    let y : Applied = record { hub = up (fresh (rules .batch (z .P)) z (rowsOf (rules .list)) (x .table) (x .row)); answer = Ok } in
-    unless (inRanges z && leb (z .N) (length (x .row)) && listFits (z .V') (rules .list)) (blank x) 5 y
+    let y : Applied = record { hub = up (madeBy rules z x); answer = Ok } in
+    unless (inRanges z && leb (z .N) (length (x .row)) && listFits (z .V') (rules .given .totals)) (blank x) 5 y
 
 ------------------------------------------------------------------------
 -- The table of rights

@@ -7,7 +7,7 @@ use lib.ListN.{length, replicate, getD, set}
 use Rattle.model.specs.Totals.{groupOf, signOf, registerOf}
 use Rattle.model.specs.Store.{absent, markCount, Range, Slot, slot₀, FlushRead, startWorker, Store, Lent, Hub, blank, up}
 use Rattle.model.specs.Batch.{batchOf}
-use Rattle.model.specs.Rules.{document01, inForce, Ruled, under}
+use Rattle.model.specs.Rules.{noneGiven, document01, inForce, Ruled, under}
 use Rattle.model.specs.Answer.{Answer, Ok, Going, At, None, No}
 use Rattle.model.specs.Ranges.{needed, merge}
 use Rattle.model.specs.Steps.{flushSplit}
@@ -37,11 +37,11 @@ recordOf (Step w) = 7 ∷ w ∷ replicate 14 0
 
 -- a command's record, handed in under the rules of docs/HUB.md and without a list
 abbrev pub handed : Command → Ruled
-handed c = under (inForce []) (recordOf c)
+handed c = under (inForce noneGiven) (recordOf c)
 
 -- and before the first change request
 abbrev pub handedBefore : Command → Ruled
-handedBefore c = under (document01 []) (recordOf c)
+handedBefore c = under (document01 noneGiven) (recordOf c)
 
 abbrev pub setup : ℕ → ℕ → ℕ → ℕ → Command
 setup p v n t = SetUp (record { P = p; V' = v; N = n; clock = t })
@@ -206,4 +206,4 @@ exampleText =
 
 -- over a row of two slots, the least that its setup needs
 abbrev pub Example : Type 0
-Example = logOf (inForce []) (rowAlone 2) exampleFile ≡ exampleText
+Example = logOf (inForce noneGiven) (rowAlone 2) exampleFile ≡ exampleText

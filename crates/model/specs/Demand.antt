@@ -18,7 +18,7 @@ use lib.ListN.{length, getD}
 use Rattle.model.specs.Store.{absent, Reading, Content, Slot, Doing, PutPublish, Store, Hub, blank, up, workerAt, slotAt, newestOf, holders, Lent, lent₀}
 use Rattle.model.specs.Store.{held}
 use Rattle.model.specs.About.{Effect, NoEffect, ByStamp, ByClock, about}
-use Rattle.model.specs.Rules.{Ruled}
+use Rattle.model.specs.Rules.{Given, noneGiven, Ruled}
 use Rattle.model.specs.Totals.{Sum, sum₀, registerOf, ofGroup}
 use Rattle.model.specs.Sums.{addRow}
 use Rattle.model.specs.Answer.{Answer, Ok, Going, Freed, Done, said}
@@ -30,9 +30,9 @@ use Rattle.model.specs.Apply.{takesStep, applyRuled}
 ------------------------------------------------------------------------
 -- H6.4, H6.5: a list of records after an accepted setup; each meets the hub as the one before left it.
 
--- a record, the list that was lent with it, the hub that it met, its answer, the hub that it left
+-- a record, what was lent with it for a setup, the hub that it met, its answer, the hub that it left
 pub record Event : Type 0 where
-  pub list : List ℕ
+  pub given : Given
   pub bytes : List ℕ
   pub before : Hub
   pub answer : Answer
@@ -43,16 +43,16 @@ unfoldable pub events : Hub → List Ruled → List Event
 events h [] = []
 events h (b ∷ bs) =
     let a = applyRuled h b in
-    record { list = b .rules .list; bytes = b .bytes; before = h; answer = a .answer; after = a .hub } ∷ events (a .hub) bs
+    record { given = b .rules .given; bytes = b .bytes; before = h; answer = a .answer; after = a .hub } ∷ events (a .hub) bs
 
 -- what is seen of an event from outside
 pub record Exchange : Type 0 where
-  pub list : List ℕ
+  pub given : Given
   pub bytes : List ℕ
   pub answer : Answer
 
 abbrev pub exchange : Event → Exchange
-exchange e = record { list = e .list; bytes = e .bytes; answer = e .answer }
+exchange e = record { given = e .given; bytes = e .bytes; answer = e .answer }
 
 ------------------------------------------------------------------------
 -- H6.7, H6.8: operations. One begins with its record, answered `ok`, and ends at its worker's first step after that whose answer is neither
@@ -137,7 +137,7 @@ StepsTaken i (e ∷ es) h =
     StepTaken h (decode (e .bytes)) (e .before) × StepsTaken (i + 1) es (observe i (decode (e .bytes)) (e .answer) h)
 
 ------------------------------------------------------------------------
--- H6.16: plain registers, all without a value at first, for each worker a copy of them or none, none at first, and for each mark one or none, none at first
+-- H6.16: plain registers, with what a setup gives them at first, for each worker a copy of them or none, none at first, and for each mark one or none, none at first
 -- (H13.9). They are a function of the register's number here; an operation that began names one below V.
 
 pub record Plain : Type 0 where
@@ -145,8 +145,12 @@ pub record Plain : Type 0 where
   pub copy : ℕ → Option (ℕ → Content)
   pub kept : ℕ → Option (ℕ → Content)
 
-abbrev pub plain₀ : Plain
-plain₀ = record { registers = λ r. none; copy = λ w. none; kept = λ m. none }
+-- what they hold at first, after a setup with what was given: none has a value
+abbrev pub startOf : Given → ℕ → Content
+startOf g r = none
+
+abbrev pub plain₀ : (ℕ → Content) → Plain
+plain₀ start = record { registers = start; copy = λ w. none; kept = λ m. none }
 
 -- f with x at i
 abbrev pub update {ℓ} : {A : Type ℓ} → (ℕ → A) → ℕ → A → ℕ → A
@@ -375,8 +379,8 @@ RegistersAgree rows h p (i ∷ o) =
     Agrees (callAt h i .operation) (callAt h i .ending) (shows rows p (callAt h i .worker) (callAt h i .operation))
     × RegistersAgree rows h (feed p (callAt h i .worker) (callAt h i .operation)) o
 
--- o is an order of the calls h on a hub with these rows of totals
-pub record IsOrder (rows : List ℕ) (h : List Call) (o : List ℕ) : Type 0 where
+-- o is an order of the calls h on a hub with these rows of totals, whose registers held `start` at first
+pub record IsOrder (rows : List ℕ) (start : ℕ → Content) (h : List Call) (o : List ℕ) : Type 0 where
   -- it names calls of the history only,
   pub within : (i : ℕ) → length h ≤ i → occurrences i o ≡ 0
   -- each as often as its ending says,
@@ -386,7 +390,7 @@ pub record IsOrder (rows : List ℕ) (h : List Call) (o : List ℕ) : Type 0 whe
   -- at its end, but for puts and opens,
   pub byEnds : ByEnds h o
   -- and plain registers show what was answered.
-  pub registersAgree : RegistersAgree rows h plain₀ o
+  pub registersAgree : RegistersAgree rows h (plain₀ start) o
 
 ------------------------------------------------------------------------
 -- What is claimed of freeing
@@ -421,7 +425,7 @@ Took c e = TookBy c (decode (e .bytes)) (e .before) (e .answer) (e .after)
 
 -- what stands where a list has no event
 abbrev pub event₀ : Event
-event₀ = record { list = []; bytes = []; before = blank lent₀; answer = Ok; after = blank lent₀ }
+event₀ = record { given = noneGiven; bytes = []; before = blank lent₀; answer = Ok; after = blank lent₀ }
 
 -- H6.22: between two answers `freed S` for one slot, a put's first step took that slot
 abbrev pub FreedOnce : List Event → Type 0
@@ -433,12 +437,12 @@ FreedOnce es =
 ------------------------------------------------------------------------
 -- Demand 3
 
--- of events on a hub with these rows of totals
-pub record Demand3 (rows : List ℕ) (es : List Event) : Type 0 where
+-- of events on a hub with these rows of totals, whose registers held `start` at first
+pub record Demand3 (rows : List ℕ) (start : ℕ → Content) (es : List Event) : Type 0 where
   -- what ends an operation is a step taken
   pub stepsTaken : StepsTaken 0 es []
   -- there is one order of the operations: this one
-  pub isOrder : IsOrder rows (history 0 (map exchange es) []) (order 0 es [])
+  pub isOrder : IsOrder rows start (history 0 (map exchange es) []) (order 0 es [])
   pub freesNothingNeeded : All (λ e. FreesNothingNeeded (e .before) (e .answer)) es
   pub freedOnce : FreedOnce es
 
@@ -452,4 +456,4 @@ abbrev pub Demand : Type 0
 Demand =
     (row : Lent) (setup : Ruled) → applyRuled (blank row) setup .answer ≡ Ok
     → (records : List Ruled)
-    → Demand3 (rowsIn (applyRuled (blank row) setup .hub)) (events (applyRuled (blank row) setup .hub) records)
+    → Demand3 (rowsIn (applyRuled (blank row) setup .hub)) (startOf (setup .rules .given)) (events (applyRuled (blank row) setup .hub) records)

@@ -5,6 +5,7 @@ use mathlib.Core.Path.{_≡_}
 use mathlib.Core.List.{List, [], map}
 use Prim.Native.Nat.{ℕ, _<_}
 use lib.ListN.{length}
+use Rattle.model.specs.Store.{Content}
 use Rattle.model.specs.Answer.{Answer}
 use Rattle.model.specs.Record.{Operation, Release, MarkedRead}
 use Rattle.model.specs.Demand.{Event, exchange, FinishedAt, Call, callAt, history, Demand3}
@@ -25,4 +26,4 @@ SameFigures h =
 
 -- so it is of the calls of all events of which demand 3 holds
 abbrev pub MonthEnd : Type 0
-MonthEnd = (rows : List ℕ) (es : List Event) → Demand3 rows es → SameFigures (history 0 (map exchange es) [])
+MonthEnd = (rows : List ℕ) (start : ℕ → Content) (es : List Event) → Demand3 rows start es → SameFigures (history 0 (map exchange es) [])

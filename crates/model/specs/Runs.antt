@@ -5,19 +5,19 @@ use mathlib.Core.List.{List, [], _∷_, _++_, map}
 use mathlib.Core.Option.{Option, none, some}
 use Prim.Native.Nat.{ℕ}
 use lib.ListN.{replicate}
-use Rattle.model.specs.Store.{Reading, Hub}
-use Rattle.model.specs.Rules.{twelveDigits, document01, inForce, Ruled, under}
+use Rattle.model.specs.Store.{Reading, Content, Hub}
+use Rattle.model.specs.Rules.{ofTotals, twelveDigits, document01, inForce, Ruled, under}
 use Rattle.model.specs.Record.{Open, Read, Close, Get, Collect, Total, Mark, Release, MarkedRead, Command, Begin, Step}
 use Rattle.model.specs.Answer.{Answer, Ok, Value, None, Below, Done, No}
 use Rattle.model.specs.Apply.{giveTable, applyRuled, answersTo}
 use Rattle.model.specs.Row.{Written, RowNone, RowNo, writeRow}
 use Rattle.model.specs.Log.{text, lines, logOf}
-use Rattle.model.specs.Demand.{Event, exchange, events, Call, callAt, history, order, Plain, plain₀, feed, shows, rowsIn}
+use Rattle.model.specs.Demand.{Event, exchange, events, Call, callAt, history, order, Plain, startOf, plain₀, feed, shows, rowsIn}
 use Rattle.model.specs.Cases.{recordOf, handed, handedBefore, setup, putAs, put, rowAlone, rowOf, joined}
 
 -- the log of a list of commands, over a row of n slots, with the list of totals given
 abbrev pub logWith : List ℕ → ℕ → List Command → List ℕ
-logWith list n l = logOf (inForce list) (rowAlone n) (joined (map recordOf l))
+logWith list n l = logOf (inForce (ofTotals list)) (rowAlone n) (joined (map recordOf l))
 
 abbrev pub logFor : ℕ → List Command → List ℕ
 logFor n l = logWith [] n l
@@ -37,13 +37,13 @@ shownAlong rows h p (i ∷ o) =
     shows rows p (c .worker) (c .operation) ∷ shownAlong rows h (feed p (c .worker) (c .operation)) o
 
 -- along the order of the calls of the records after a setup
-abbrev pub shownIn : List ℕ → List Event → List (Option Answer)
-shownIn rows es = shownAlong rows (history 0 (map exchange es) []) plain₀ (order 0 es [])
+abbrev pub shownIn : List ℕ → (ℕ → Content) → List Event → List (Option Answer)
+shownIn rows start es = shownAlong rows (history 0 (map exchange es) []) (plain₀ start) (order 0 es [])
 
 abbrev pub shownOf : ℕ → Ruled → List Ruled → List (Option Answer)
 shownOf n first l =
     let h = applyRuled (rowOf n) first .hub in
-    shownIn (rowsIn h) (events h l)
+    shownIn (rowsIn h) (startOf (first .rules .given)) (events h l)
 
 -- a reading that was read
 abbrev pub count : ℕ → Reading
@@ -51,7 +51,7 @@ count x = record { count = x; status = 0 }
 
 -- handed in with a list of totals
 abbrev pub with : List ℕ → Command → Ruled
-with list c = under (inForce list) (recordOf c)
+with list c = under (inForce (ofTotals list)) (recordOf c)
 
 abbrev pub steps : ℕ → ℕ → List Command
 steps n w = replicate n (Step w)
@@ -213,7 +213,7 @@ abbrev pub overList : List ℕ
 overList = 0 ∷ 0 ∷ 0 ∷ 0 ∷ 0 ∷ 0 ∷ 1 ∷ 0 ∷ []
 
 abbrev pub overSetup : Ruled
-overSetup = under (document01 overList) (recordOf (setup 2 2 6 1))
+overSetup = under (document01 (ofTotals overList)) (recordOf (setup 2 2 6 1))
 
 abbrev pub over : List Ruled
 over =

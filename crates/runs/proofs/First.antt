@@ -8,6 +8,7 @@ use lib.Dec.{ltb, lit<, lit≤}
 use lib.ListN.{length, getD, take}
 use lib.Seq.{take-all, length-take-le, getD-take}
 use borrow.Author.Tests.{ltb-true, ltb-false}
+use Rattle.model.specs.Rules.{Given}
 use Rattle.model.specs.Record.{number, zeros, Command, SetUp, Begin, Step, Put, Open, Read, Close, Get, Collect, Total, Mark, Release}
 use Rattle.model.specs.Record.{MarkedRead}
 use Rattle.model.specs.Record.{Decoded, Asks, Refuses, commandOf, unusedZero, decode}
@@ -91,21 +92,21 @@ pub decode-first : (b : List ℕ) → decode (take 16 b) ≡ decode b
 decode-first b = by-length b (ltb (length b) 16) refl
 
 -- ---- what a record does, and what the first record of a buffer does
-abbrev gateBy : Bool → Memory → List ℕ → Decoded → Gate
-gateBy up m list d =
+abbrev gateBy : Bool → Memory → Given → Decoded → Gate
+gateBy up m given d =
     let x = workerIn (m .hub) (whoOf (decodedRep d)) in
-    gateOf (decodedRep d) up (m .hub .site .p) (m .hub .site .v) (length (m .slots)) (x .doing) (x .announced) list (rowsKept (m .hub))
+    gateOf (decodedRep d) up (m .hub .site .p) (m .hub .site .v) (length (m .slots)) (x .doing) (x .announced) (given .totals) (rowsKept (m .hub))
     (m .hub .marks) (marksRead (m .hub)) (tableKept (m .hub))
 
-done-first : (up : Bool) (m : Memory) (list b : List ℕ) → doneAs up m list (take 16 b) ≡ doneAs up m list b
+done-first : (up : Bool) (m : Memory) (given : Given) (b : List ℕ) → doneAs up m given (take 16 b) ≡ doneAs up m given b
 unfolding doneAs
-done-first up m list b = ap (λ (d : Decoded). obeyIn m list (gateBy up m list d)) (decode-first b)
+done-first up m given b = ap (λ (d : Decoded). obeyIn m given (gateBy up m given d)) (decode-first b)
 
-pub one-ran : {m m′ : Memory} {list b kinds numbers kinds′ numbers′ : List ℕ} {y : Answer} → Ran m list b kinds numbers 1 m′ kinds′ numbers′ y
-    → One m list b m′ y
+pub one-ran : {m m′ : Memory} {given : Given} {b kinds numbers kinds′ numbers′ : List ℕ} {y : Answer} → Ran m given b kinds numbers 1 m′ kinds′ numbers′ y
+    → One m given b m′ y
 unfolding after next doneOf
-one-ran {m} {m′} {list} {b} r =
+one-ran {m} {m′} {given} {b} r =
     record {
-      memory = r .memory ∙ ap (λ (d : Result). d .memory) (done-first (ready m) m list b);
-      answer = r .last ∙ ap (λ (d : Result). d .answer) (done-first (ready m) m list b);
+      memory = r .memory ∙ ap (λ (d : Result). d .memory) (done-first (ready m) m given b);
+      answer = r .last ∙ ap (λ (d : Result). d .answer) (done-first (ready m) m given b);
     }

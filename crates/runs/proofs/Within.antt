@@ -8,6 +8,7 @@ use mathlib.Core.Bool.{Bool}
 use native.Mathlib.Omega.{arith}
 use lib.ListN.{length, take, drop, length-map}
 use lib.Seq.{length-take-le, take-at, drop-at}
+use Rattle.model.specs.Rules.{Given}
 use Rattle.values.specs.declared.Answer.{Answer}
 use Rattle.state.specs.declared.Hub.{Hub}
 use Rattle.slots.specs.declared.Slot.{Slot}
@@ -36,18 +37,18 @@ rest-kept n row part within same =
     drop-at part (drop (n - 0) row) n (part-long n row part within same) ∙ ap (λ (k : ℕ). drop k row) (sub-zero n)
 
 -- ---- what the loop does to the slots of the first n words, said of the first n slots of the words
-module _ {h h′ : Hub} {newest free queue lens merged newest′ free′ queue′ lens′ merged′ list bytes kinds numbers kinds′ numbers′ : List ℕ} {count : ℕ}
+module _ {h h′ : Hub} {newest free queue lens merged newest′ free′ queue′ lens′ merged′ : List ℕ} {given : Given} {bytes kinds numbers kinds′ numbers′ : List ℕ} {count : ℕ}
     {y : Answer} where
   pub ran-within : (n : ℕ) (row part rest : List (List ℕ)) → n ≤ length row → length part ≡ length (take (n - 0) row)
-      → Ran (memory h (rowOf (take (n - 0) row)) newest free queue lens merged) list bytes kinds numbers count
+      → Ran (memory h (rowOf (take (n - 0) row)) newest free queue lens merged) given bytes kinds numbers count
       (memory h′ (rowOf part) newest′ free′ queue′ lens′ merged′) kinds′ numbers′ y
-      → Ran (memory h (take n (rowOf row)) newest free queue lens merged) list bytes kinds numbers count
+      → Ran (memory h (take n (rowOf row)) newest free queue lens merged) given bytes kinds numbers count
       (memory h′ (take n (rowOf (part ++ rest))) newest′ free′ queue′ lens′ merged′) kinds′ numbers′ y
   ran-within n row part rest within same r =
-      subst (λ (l : List Slot). Ran (memory h l newest free queue lens merged) list bytes kinds numbers count
+      subst (λ (l : List Slot). Ran (memory h l newest free queue lens merged) given bytes kinds numbers count
       (memory h′ (take n (rowOf (part ++ rest))) newest′ free′ queue′ lens′ merged′) kinds′ numbers′ y)
       (ap (λ (k : ℕ). rowOf (take k row)) (sub-zero n) ∙ row-take n row)
-      (subst (λ (l : List Slot). Ran (memory h (rowOf (take (n - 0) row)) newest free queue lens merged) list bytes kinds numbers count
+      (subst (λ (l : List Slot). Ran (memory h (rowOf (take (n - 0) row)) newest free queue lens merged) given bytes kinds numbers count
       (memory h′ l newest′ free′ queue′ lens′ merged′) kinds′ numbers′ y) (row-front n part rest (part-long n row part within same)) r)
 
 -- ---- the test of the first n slots

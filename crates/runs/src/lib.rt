@@ -3,6 +3,7 @@
 ghost use mathlib.Core.Path.{_≡_};
 ghost use Prim.Native.Nat.{_+_, _/_, _≤_};
 ghost use lib.ListN.{length, take, drop};
+ghost use Rattle.model.specs.Rules.{ofTotals};
 ghost use Rattle.versions.specs.Versions.{rowOf};
 ghost use Rattle.simulation.specs.Memory.{memory};
 ghost use Rattle.simulation.specs.Loop.{RanAll};
@@ -48,7 +49,7 @@ pub fn run_one(
         × One
         (memory hub (take n (rowOf (now (row .entry))))
         (now (newest .entry)) (now (free .entry)) (now (queue .entry)) (now (lens .entry)) (now (merged .entry)))
-        (now (list .entry)) (now (rec .entry))
+        (ofTotals (now (list .entry))) (now (rec .entry))
         (memory (r .hub) (take n (rowOf (now (row .exit))))
         (now (newest .exit)) (now (free .exit)) (now (queue .exit)) (now (lens .exit)) (now (merged .exit)))
         (r .answer)
@@ -152,7 +153,7 @@ pub fn run_all(
         × RanAll
         (memory hub (take n (rowOf (now (row .entry))))
         (now (newest .entry)) (now (free .entry)) (now (queue .entry)) (now (lens .entry)) (now (merged .entry)))
-        (now (list .entry)) (now (bytes .entry)) (now (kinds .entry)) (now (numbers .entry)) (r .count)
+        (ofTotals (now (list .entry))) (now (bytes .entry)) (now (kinds .entry)) (now (numbers .entry)) (r .count)
         (memory (r .hub) (take n (rowOf (now (row .exit))))
         (now (newest .exit)) (now (free .exit)) (now (queue .exit)) (now (lens .exit)) (now (merged .exit)))
         (now (kinds .exit)) (now (numbers .exit))

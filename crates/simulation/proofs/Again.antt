@@ -16,7 +16,7 @@ use Rattle.model.specs.Store as Model
 use Rattle.model.specs.Store.{Store, blank, up, startWorker, workerAt}
 use Rattle.model.specs.Batch.{batchOf}
 use Rattle.model.specs.Rights.{tableStands}
-use Rattle.model.specs.Rules.{inForce, under}
+use Rattle.model.specs.Rules.{Given, inForce, under}
 use Rattle.model.specs.Answer.{Ok, Applied}
 use Rattle.model.specs.Record.{SetUp, Begin, Step, Decoded, Asks, Refuses, decode, rowsOf, listFits}
 use Rattle.model.specs.Apply.{inRanges, fresh, setUp, obey, applyDecoded, apply, hubAfter}
@@ -173,43 +173,43 @@ abbrev pub BlankOrLeft : Model.Lent → Model.Hub → Type 0
 BlankOrLeft row h = (h ≡ blank row) ⊎ LeftHub h
 
 -- an accepted setup leaves such a store
-pub setup-left : (list : List ℕ) (row : Model.Lent) (b : List ℕ) → tableStands (row .table) ≡ true → apply (inForce list) (blank row) b .answer ≡ Ok
-    → LeftHub (apply (inForce list) (blank row) b .hub)
+pub setup-left : (given : Given) (row : Model.Lent) (b : List ℕ) → tableStands (row .table) ≡ true → apply (inForce given) (blank row) b .answer ≡ Ok
+    → LeftHub (apply (inForce given) (blank row) b .hub)
 unfolding hubAfter
-setup-left list row b fits ok =
-    let A = accepts (inForce list) row b ok in (
-      fresh (batchOf (A .sizes .P)) (A .sizes) (rowsOf list) (row .table) (row .row),
+setup-left given row b fits ok =
+    let A = accepts (inForce given) row b ok in (
+      fresh (batchOf (A .sizes .P)) (A .sizes) (rowsOf (given .totals)) (row .table) (row .row),
       A .is,
-      record { row = row; setup = under (inForce list) b; batch = allowed (inForce list) refl; table = fits; accepted = ok; records = []; left = A .is },
+      record { row = row; setup = under (inForce given) b; batch = allowed (inForce given) refl; table = fits; accepted = ok; records = []; left = A .is },
     )
 
 -- every other record leaves the hub as it was
 abbrev SameOrOk : Model.Lent → Applied → Type 0
 SameOrOk row a = (a .hub ≡ blank row) ⊎ (a .answer ≡ Ok)
 
-same-or-ok : (list : List ℕ) (row : Model.Lent) (d : Decoded) → SameOrOk row (applyDecoded (inForce list) (blank row) d)
+same-or-ok : (given : Given) (row : Model.Lent) (d : Decoded) → SameOrOk row (applyDecoded (inForce given) (blank row) d)
 unfolding applyDecoded obey setUp
-same-or-ok list row (Asks (SetUp z)) =
-    cond-both (SameOrOk row) (inRanges z && leb (z .N) (length (row .row)) && listFits (z .V') list) _ _ (λ e. inr refl) (λ e. inl refl)
-same-or-ok list row (Asks (Begin w o)) = inl refl
-same-or-ok list row (Asks (Step w)) = inl refl
-same-or-ok list row (Refuses k) = inl refl
+same-or-ok given row (Asks (SetUp z)) =
+    cond-both (SameOrOk row) (inRanges z && leb (z .N) (length (row .row)) && listFits (z .V') (given .totals)) _ _ (λ e. inr refl) (λ e. inl refl)
+same-or-ok given row (Asks (Begin w o)) = inl refl
+same-or-ok given row (Asks (Step w)) = inl refl
+same-or-ok given row (Refuses k) = inl refl
 
-blank-next : (list : List ℕ) (row : Model.Lent) (b : List ℕ) → tableStands (row .table) ≡ true → BlankOrLeft row (apply (inForce list) (blank row) b .hub)
+blank-next : (given : Given) (row : Model.Lent) (b : List ℕ) → tableStands (row .table) ≡ true → BlankOrLeft row (apply (inForce given) (blank row) b .hub)
 unfolding apply
-blank-next list row b fits = ⊎-elim (λ e. inl e) (λ ok. inr (setup-left list row b fits ok)) (same-or-ok list row (decode b))
+blank-next given row b fits = ⊎-elim (λ e. inl e) (λ ok. inr (setup-left given row b fits ok)) (same-or-ok given row (decode b))
 
-pub hub-next : (list : List ℕ) (row : Model.Lent) (h : Model.Hub) (b : List ℕ) → tableStands (row .table) ≡ true → BlankOrLeft row h
-    → BlankOrLeft row (apply (inForce list) h b .hub)
-hub-next list row h b fits (inl e) =
-    subst (λ (k : Model.Hub). BlankOrLeft row (apply (inForce list) k b .hub)) (sym e) (blank-next list row b fits)
-hub-next list row h b fits (inr (s, e, L)) =
-    inr (subst (λ (k : Model.Hub). LeftHub (apply (inForce list) k b .hub)) (sym e) (left-next L (under (inForce list) b)))
+pub hub-next : (given : Given) (row : Model.Lent) (h : Model.Hub) (b : List ℕ) → tableStands (row .table) ≡ true → BlankOrLeft row h
+    → BlankOrLeft row (apply (inForce given) h b .hub)
+hub-next given row h b fits (inl e) =
+    subst (λ (k : Model.Hub). BlankOrLeft row (apply (inForce given) k b .hub)) (sym e) (blank-next given row b fits)
+hub-next given row h b fits (inr (s, e, L)) =
+    inr (subst (λ (k : Model.Hub). LeftHub (apply (inForce given) k b .hub)) (sym e) (left-next L (under (inForce given) b)))
 
 ------------------------------------------------------------------------
 -- The memory that a record leaves
 
-module _ (m m′ : Memory) (Z : Sized m) (list : List ℕ) where
+module _ (m m′ : Memory) (Z : Sized m) (given : Given) where
   -- the hub by value that is written over has its lengths
   hub-sized : (h₀ : Model.Hub) (t : Store)
       → (length (nextHub h₀ t (m .hub) .workers) ≡ 16) × (length (nextHub h₀ t (m .hub) .times) ≡ 448) × (length (nextHub h₀ t (m .hub) .site .rows) ≡ 1024)
@@ -249,34 +249,34 @@ module _ (m m′ : Memory) (Z : Sized m) (list : List ℕ) where
       (subst (λ (x : Memory). Holds (blank row) x × Sized x) (sym (is ∙ ap (λ (k : Model.Hub). writeHub (blank row) k m) e)) (H, Z))
 
   -- whatever hub the memory held
-  pub holds-written : (h : Model.Hub) (b : List ℕ) → Holds h m → m′ ≡ writeHub h (apply (inForce list) h b .hub) m
-      → Holds (apply (inForce list) h b .hub) m′ × Sized m′
+  pub holds-written : (h : Model.Hub) (b : List ℕ) → Holds h m → m′ ≡ writeHub h (apply (inForce given) h b .hub) m
+      → Holds (apply (inForce given) h b .hub) m′ × Sized m′
   holds-written (blank row) b H is =
-      ⊎-elim (λ e. unwritten row (apply (inForce list) (blank row) b .hub) H e is)
-      (λ L. written (blank row) (apply (inForce list) (blank row) b .hub) (λ t. record { first = omega arith; from = omega arith }) L is)
-      (blank-next list row b (ap (λ (x : Model.Lent). tableStands (x .table)) (H .1) ∙ standing-stands (m .hub)))
+      ⊎-elim (λ e. unwritten row (apply (inForce given) (blank row) b .hub) H e is)
+      (λ L. written (blank row) (apply (inForce given) (blank row) b .hub) (λ t. record { first = omega arith; from = omega arith }) L is)
+      (blank-next given row b (ap (λ (x : Model.Lent). tableStands (x .table)) (H .1) ∙ standing-stands (m .hub)))
   holds-written (up s) b L is =
       let some = All-map (λ l a. a .0) (s .queue) (sound (L .store) .bounds .queued) in
-      written (up s) (apply (inForce list) (up s) b .hub) (λ t. begins-after (s .queue) (t .queue) (m .hub .window) some (L .begins))
-      (left-next (L .store) (under (inForce list) b)) is
+      written (up s) (apply (inForce given) (up s) b .hub) (λ t. begins-after (s .queue) (t .queue) (m .hub .window) some (L .begins))
+      (left-next (L .store) (under (inForce given) b)) is
 
   -- so what a record leaves and answers is as the model has it
   pub as-model : (h : Model.Hub) (b : List ℕ) (y : Answer) → Holds h m
-      → m′ ≡ writeHub h (apply (inForce list) h b .hub) m → answerOf y ≡ apply (inForce list) h b .answer → AsModel h m (exchangeOf list b y ∷ []) m′
+      → m′ ≡ writeHub h (apply (inForce given) h b .hub) m → answerOf y ≡ apply (inForce given) h b .answer → AsModel h m (exchangeOf given b y ∷ []) m′
   unfolding events hubAfter memoryAfter
   as-model h b y L is a =
-      record { answers = λ i. record { list = list; bytes = b; answer = a i } ∷ []; holds = holds-written h b L is .0; memory = is }
+      record { answers = λ i. record { given = given; bytes = b; answer = a i } ∷ []; holds = holds-written h b L is .0; memory = is }
 
 -- what is known of one record
 module _ {h : Model.Hub} {m m′ : Memory} {x : Exchange} (A : AsModel h m (x ∷ []) m′) where
-  pub one-answer : x .answer ≡ apply (inForce (x .list)) h (x .bytes) .answer
+  pub one-answer : x .answer ≡ apply (inForce (x .given)) h (x .bytes) .answer
   unfolding events
   one-answer = ap (λ (l : List Exchange). getD l 0 x .answer) (A .answers)
 
-  pub one-memory : m′ ≡ writeHub h (apply (inForce (x .list)) h (x .bytes) .hub) m
+  pub one-memory : m′ ≡ writeHub h (apply (inForce (x .given)) h (x .bytes) .hub) m
   unfolding memoryAfter
   one-memory = A .memory
 
-  pub one-holds : Holds (apply (inForce (x .list)) h (x .bytes) .hub) m′
+  pub one-holds : Holds (apply (inForce (x .given)) h (x .bytes) .hub) m′
   unfolding hubAfter
   one-holds = A .holds

@@ -8,6 +8,7 @@ use native.Mathlib.Omega.{arith}
 use native.Mathlib.Numerals.{add-one}
 use lib.Dec.{ltb}
 use lib.ListN.{length, getD, set}
+use Rattle.model.specs.Rules.{Given}
 use Rattle.lists.specs.Over.{over}
 use Rattle.lists.proofs.Over.{getD-over-in}
 use Rattle.model.specs.Store.{Hub, upFrom}
@@ -41,36 +42,36 @@ use Rattle.simulation.proofs.Again.{one-answer}
 use Rattle.simulation.proofs.Ends.{on-any}
 use Rattle.simulation.proofs.Ranged.{comes-back}
 use Rattle.simulation.proofs.Assembly.{StepsSimulate}
-use Rattle.simulation.proofs.OneByOne.{stateAt, answerTo, given, hubTo, so-far, does-each}
+use Rattle.simulation.proofs.OneByOne.{stateAt, answerTo, exchangedAt, hubTo, so-far, does-each}
 
 ------------------------------------------------------------------------
 -- The two rows
 
-module _ (m : Memory) (list bytes kinds numbers : List ℕ) where
+module _ (m : Memory) (given : Given) (bytes kinds numbers : List ℕ) where
   abbrev run : ℕ → State
-  run k = after (before m kinds numbers) list bytes k
+  run k = after (before m kinds numbers) given bytes k
 
   -- what stands in the rows makes no difference to the records
-  rows-apart : (k : ℕ) → (run k .up ≡ stateAt m list bytes k .up) × (run k .memory ≡ stateAt m list bytes k .memory)
+  rows-apart : (k : ℕ) → (run k .up ≡ stateAt m given bytes k .up) × (run k .memory ≡ stateAt m given bytes k .memory)
   unfolding after next
   rows-apart zero = (refl, refl)
   rows-apart (suc k) =
       let s = rows-apart k in
       let b = recordAt bytes k in
-      (λ i. s .0 i || makes (gateIn (s .0 i) (s .1 i) list b), λ i. doneAs (s .0 i) (s .1 i) list b .memory)
+      (λ i. s .0 i || makes (gateIn (s .0 i) (s .1 i) given b), λ i. doneAs (s .0 i) (s .1 i) given b .memory)
 
-  answers-apart : (k : ℕ) → run (suc k) .last ≡ answerTo m list bytes k
+  answers-apart : (k : ℕ) → run (suc k) .last ≡ answerTo m given bytes k
   unfolding after next
   answers-apart k =
       let s = rows-apart k in
-      λ i. doneAs (s .0 i) (s .1 i) list (recordAt bytes k) .answer
+      λ i. doneAs (s .0 i) (s .1 i) given (recordAt bytes k) .answer
 
-  kinds-filled : (n : ℕ) → run n .kinds ≡ fillTo kinds (λ k. kindOf (answerTo m list bytes k)) n
+  kinds-filled : (n : ℕ) → run n .kinds ≡ fillTo kinds (λ k. kindOf (answerTo m given bytes k)) n
   unfolding after next fillTo
   kinds-filled zero = refl
   kinds-filled (suc n) = λ i. set (kinds-filled n i) n (kindOf (answers-apart n i))
 
-  numbers-filled : (n : ℕ) → run n .numbers ≡ fillTo numbers (λ k. numberOf (answerTo m list bytes k)) n
+  numbers-filled : (n : ℕ) → run n .numbers ≡ fillTo numbers (λ k. numberOf (answerTo m given bytes k)) n
   unfolding after next fillTo
   numbers-filled zero = refl
   numbers-filled (suc n) = λ i. set (numbers-filled n i) n (numberOf (answers-apart n i))
@@ -79,17 +80,17 @@ module _ (m : Memory) (list bytes kinds numbers : List ℕ) where
 -- Each record on any memory
 
 -- the decision sets up just where a setup is answered `ok`
-module _ (m : Memory) (list : List ℕ) where
+module _ (m : Memory) (given : Given) where
   abbrev SetsUp : Record.Decoded → Gate → Type 0
-  SetsUp r g = makes g ≡ setsUp r (said (answerOf (obeyIn m list g .answer)) .ok)
+  SetsUp r g = makes g ≡ setsUp r (said (answerOf (obeyIn m given g .answer)) .ok)
 
   gate-sets-up : (r : Record.Decoded) (up : Bool) (p v long : ℕ) (d : Doing) (t : Announced) (rows marks reading table : List ℕ)
-      → SetsUp r (gateOf (decodedRep r) up p v long d t list rows marks reading table)
+      → SetsUp r (gateOf (decodedRep r) up p v long d t (given .totals) rows marks reading table)
   unfolding gateOf setsUp obeyIn
   gate-sets-up (Record.Refuses k) up p v long d t rows marks reading table = refl
   gate-sets-up (Asks (SetUp z)) up p v long d t rows marks reading table =
       let N : Gate → Type 0 = SetsUp (Asks (SetUp z)) in
-      cond-both N up _ _ (λ e. refl) (λ e. cond-both N (sizesOk (z .P) (z .V') (z .N) (z .clock) long && Record.listFits (z .V') list) _ _ (λ e. refl) (λ e. refl))
+      cond-both N up _ _ (λ e. refl) (λ e. cond-both N (sizesOk (z .P) (z .V') (z .N) (z .clock) long && Record.listFits (z .V') (given .totals)) _ _ (λ e. refl) (λ e. refl))
   gate-sets-up (Asks (Record.Begin w o)) up p v long d t rows marks reading table =
       let N : Gate → Type 0 = SetsUp (Asks (Record.Begin w o)) in
       cond-both N up _ _ (λ e. begin-gate-by N p v w (operationRep o) d t rows marks reading table (λ k f. refl) (λ f. refl)) (λ e. refl)
@@ -97,90 +98,90 @@ module _ (m : Memory) (list : List ℕ) where
       let N : Gate → Type 0 = SetsUp (Asks (Record.Step w)) in
       cond-both N up _ _ (λ e. cond-both N (ltb w p) _ _ (λ e. refl) (λ e. refl)) (λ e. refl)
 
-module _ (m : Memory) (list bytes : List ℕ) where
+module _ (m : Memory) (given : Given) (bytes : List ℕ) where
   flag-is : (k : ℕ)
-      → stateAt m list bytes (suc k) .up ≡ (stateAt m list bytes k .up || setsUp (decode (recordAt bytes k)) (said (answerOf (answerTo m list bytes k)) .ok))
+      → stateAt m given bytes (suc k) .up ≡ (stateAt m given bytes k .up || setsUp (decode (recordAt bytes k)) (said (answerOf (answerTo m given bytes k)) .ok))
   unfolding after next doneAs
   flag-is k =
-      let s : State = stateAt m list bytes k in
+      let s : State = stateAt m given bytes k in
       let x : Memory = s .memory in
       let w : Worker = workerIn (x .hub) (whoOf (decodedIn (recordAt bytes k))) in
       ap (λ (t : Bool). s .up || t)
-      (gate-sets-up x list (decode (recordAt bytes k)) (s .up) (x .hub .site .p) (x .hub .site .v) (length (x .slots)) (w .doing) (w .announced)
+      (gate-sets-up x given (decode (recordAt bytes k)) (s .up) (x .hub .site .p) (x .hub .site .v) (length (x .slots)) (w .doing) (w .announced)
       (rowsKept (x .hub)) (x .hub .marks) (marksRead (x .hub)) (tableKept (x .hub)))
 
   any-at : (k : ℕ)
-      → OnAny (stateAt m list bytes k .up) (stateAt m list bytes k .memory) (recordAt bytes k) (answerTo m list bytes k) (stateAt m list bytes (suc k) .memory)
+      → OnAny (stateAt m given bytes k .up) (stateAt m given bytes k .memory) (recordAt bytes k) (answerTo m given bytes k) (stateAt m given bytes (suc k) .memory)
   unfolding after next
-  any-at k = on-any (stateAt m list bytes k .up) (stateAt m list bytes k .memory) list (recordAt bytes k)
+  any-at k = on-any (stateAt m given bytes k .up) (stateAt m given bytes k .memory) given (recordAt bytes k)
 
   each-from : (n k c : ℕ) → c ≡ k + n
-      → EachOnAny (stateAt m list bytes k .up) (stateAt m list bytes k .memory) (map (recordAt bytes) (upFrom k n)) (map (answerTo m list bytes) (upFrom k n))
-      (stateAt m list bytes c .memory)
+      → EachOnAny (stateAt m given bytes k .up) (stateAt m given bytes k .memory) (map (recordAt bytes) (upFrom k n)) (map (answerTo m given bytes) (upFrom k n))
+      (stateAt m given bytes c .memory)
   unfolding EachOnAny upFrom
   each-from zero k c e =
       let same : c ≡ k = omega (arith, e) in
-      ap (λ (j : ℕ). stateAt m list bytes j .memory) same
+      ap (λ (j : ℕ). stateAt m given bytes j .memory) same
   each-from (suc n) k c e = (
-    stateAt m list bytes (suc k) .memory,
+    stateAt m given bytes (suc k) .memory,
     any-at k,
-    subst (λ (t : Bool). EachOnAny t (stateAt m list bytes (suc k) .memory) (map (recordAt bytes) (upFrom (k + 1) n))
-        (map (answerTo m list bytes) (upFrom (k + 1) n)) (stateAt m list bytes c .memory)) (flag-is k)
-        (subst (λ (j : ℕ). EachOnAny (stateAt m list bytes (suc k) .up) (stateAt m list bytes (suc k) .memory) (map (recordAt bytes) (upFrom j n))
-        (map (answerTo m list bytes) (upFrom j n)) (stateAt m list bytes c .memory)) (sym (add-one k)) (each-from n (suc k) c (omega (arith, e)))),
+    subst (λ (t : Bool). EachOnAny t (stateAt m given bytes (suc k) .memory) (map (recordAt bytes) (upFrom (k + 1) n))
+        (map (answerTo m given bytes) (upFrom (k + 1) n)) (stateAt m given bytes c .memory)) (flag-is k)
+        (subst (λ (j : ℕ). EachOnAny (stateAt m given bytes (suc k) .up) (stateAt m given bytes (suc k) .memory) (map (recordAt bytes) (upFrom j n))
+        (map (answerTo m given bytes) (upFrom j n)) (stateAt m given bytes c .memory)) (sym (add-one k)) (each-from n (suc k) c (omega (arith, e)))),
   )
 
 ------------------------------------------------------------------------
 -- The contract
 
-module _ (steps : StepsSimulate) (m : Memory) (list bytes kinds numbers : List ℕ) (n : ℕ) (m′ : Memory) (kinds′ numbers′ : List ℕ)
-    (Z : Sized m) (B : Bytes bytes) (R : RanAll m list bytes kinds numbers n m′ kinds′ numbers′) where
+module _ (steps : StepsSimulate) (m : Memory) (given : Given) (bytes kinds numbers : List ℕ) (n : ℕ) (m′ : Memory) (kinds′ numbers′ : List ℕ)
+    (Z : Sized m) (B : Bytes bytes) (R : RanAll m given bytes kinds numbers n m′ kinds′ numbers′) where
   abbrev ys : List Answer
-  ys = map (answerTo m list bytes) (upFrom 0 n)
+  ys = map (answerTo m given bytes) (upFrom 0 n)
 
-  is-left : m′ ≡ stateAt m list bytes n .memory
-  is-left = R .ran .memory ∙ rows-apart m list bytes kinds numbers n .1
+  is-left : m′ ≡ stateAt m given bytes n .memory
+  is-left = R .ran .memory ∙ rows-apart m given bytes kinds numbers n .1
 
   are-kinds : kinds′ ≡ over (map kindOf ys) kinds
   are-kinds =
       R .ran .answerKinds
-      ∙ kinds-filled m list bytes kinds numbers n
-      ∙ fill-over kinds (λ k. kindOf (answerTo m list bytes k)) n (omega (arith, R .count))
-      ∙ ap (λ (l : List ℕ). over l kinds) (map-map kindOf (answerTo m list bytes) (upFrom 0 n))
+      ∙ kinds-filled m given bytes kinds numbers n
+      ∙ fill-over kinds (λ k. kindOf (answerTo m given bytes k)) n (omega (arith, R .count))
+      ∙ ap (λ (l : List ℕ). over l kinds) (map-map kindOf (answerTo m given bytes) (upFrom 0 n))
 
   are-numbers : numbers′ ≡ over (map numberOf ys) numbers
   are-numbers =
       R .ran .answerNumbers
-      ∙ numbers-filled m list bytes kinds numbers n
-      ∙ fill-over numbers (λ k. numberOf (answerTo m list bytes k)) n (omega (arith, R .count))
-      ∙ ap (λ (l : List ℕ). over l numbers) (map-map numberOf (answerTo m list bytes) (upFrom 0 n))
+      ∙ numbers-filled m given bytes kinds numbers n
+      ∙ fill-over numbers (λ k. numberOf (answerTo m given bytes k)) n (omega (arith, R .count))
+      ∙ ap (λ (l : List ℕ). over l numbers) (map-map numberOf (answerTo m given bytes) (upFrom 0 n))
 
   -- at k of such a row
-  at-row : (f : Answer → ℕ) (l l′ : List ℕ) (k : ℕ) → k < n → l′ ≡ over (map f ys) l → getD l′ k 0 ≡ f (answerTo m list bytes k)
+  at-row : (f : Answer → ℕ) (l l′ : List ℕ) (k : ℕ) → k < n → l′ ≡ over (map f ys) l → getD l′ k 0 ≡ f (answerTo m given bytes k)
   at-row f l l′ k h e =
-      ap (λ (q : List ℕ). getD q k 0) (e ∙ ap (λ (q : List ℕ). over q l) (sym (map-map f (answerTo m list bytes) (upFrom 0 n))))
-      ∙ getD-over-in (map (λ j. f (answerTo m list bytes j)) (upFrom 0 n)) l k 0 (omega (arith, map-long (λ j. f (answerTo m list bytes j)) n))
-      ∙ at-below (λ j. f (answerTo m list bytes j)) 0 n k h
+      ap (λ (q : List ℕ). getD q k 0) (e ∙ ap (λ (q : List ℕ). over q l) (sym (map-map f (answerTo m given bytes) (upFrom 0 n))))
+      ∙ getD-over-in (map (λ j. f (answerTo m given bytes j)) (upFrom 0 n)) l k 0 (omega (arith, map-long (λ j. f (answerTo m given bytes j)) n))
+      ∙ at-below (λ j. f (answerTo m given bytes j)) 0 n k h
 
-  -- the answer that is read from the rows is the one that was given
-  read-back : (h : Hub) → Holds h m → (k : ℕ) → k < n → answerAt kinds′ numbers′ k ≡ answerTo m list bytes k
+  -- the answer that is read from the rows is the one that was exchangedAt
+  read-back : (h : Hub) → Holds h m → (k : ℕ) → k < n → answerAt kinds′ numbers′ k ≡ answerTo m given bytes k
   read-back h H k below =
-      let x : Memory = stateAt m list bytes k .memory in
-      let S = so-far steps m list bytes h H Z B k in
-      let h′ : Hub = hubTo steps m list bytes h H Z B k in
+      let x : Memory = stateAt m given bytes k .memory in
+      let S = so-far steps m given bytes h H Z B k in
+      let h′ : Hub = hubTo steps m given bytes h H Z B k in
       (λ i. answerFrom (at-row kindOf kinds kinds′ k below are-kinds i) (at-row numberOf numbers numbers′ k below are-numbers i))
-      ∙ comes-back list h′ x (recordAt bytes k) (answerTo m list bytes k) (S .asModel .holds)
-      (one-answer (does-each steps m list bytes h H Z B k .asModel h′ (S .asModel .holds)))
+      ∙ comes-back given h′ x (recordAt bytes k) (answerTo m given bytes k) (S .asModel .holds)
+      (one-answer (does-each steps m given bytes h H Z B k .asModel h′ (S .asModel .holds)))
 
-  all-as-model : (h : Hub) → Holds h m → AsModel h m (map (exchangeAt list bytes kinds′ numbers′) (upFrom 0 n)) m′
+  all-as-model : (h : Hub) → Holds h m → AsModel h m (map (exchangeAt given bytes kinds′ numbers′) (upFrom 0 n)) m′
   all-as-model h H =
-      let same : map (exchangeAt list bytes kinds′ numbers′) (upFrom 0 n) ≡ map (given steps m list bytes h H Z B) (upFrom 0 n) =
-      same-below (exchangeAt list bytes kinds′ numbers′) (given steps m list bytes h H Z B) n
-      (λ k below. ap (exchangeOf list (recordAt bytes k)) (read-back h H k below)) in
+      let same : map (exchangeAt given bytes kinds′ numbers′) (upFrom 0 n) ≡ map (exchangedAt steps m given bytes h H Z B) (upFrom 0 n) =
+      same-below (exchangeAt given bytes kinds′ numbers′) (exchangedAt steps m given bytes h H Z B) n
+      (λ k below. ap (exchangeOf given (recordAt bytes k)) (read-back h H k below)) in
       subst (λ (l : List Exchange). AsModel h m l m′) (sym same)
-      (subst (AsModel h m (map (given steps m list bytes h H Z B) (upFrom 0 n))) (sym is-left) (so-far steps m list bytes h H Z B n .asModel))
+      (subst (AsModel h m (map (exchangedAt steps m given bytes h H Z B) (upFrom 0 n))) (sym is-left) (so-far steps m given bytes h H Z B n .asModel))
 
-  pub applies : Applies m list bytes kinds numbers n m′ kinds′ numbers′
+  pub applies : Applies m given bytes kinds numbers n m′ kinds′ numbers′
   unfolding after
   applies =
       record {
@@ -189,9 +190,9 @@ module _ (steps : StepsSimulate) (m : Memory) (list bytes kinds numbers : List �
         answerKinds = are-kinds;
         answerNumbers = are-numbers;
         asModel = all-as-model;
-        readBack = λ D. same-below (answerAt kinds′ numbers′) (answerTo m list bytes) n (read-back (D .0) (D .1));
+        readBack = λ D. same-below (answerAt kinds′ numbers′) (answerTo m given bytes) n (read-back (D .0) (D .1));
         onAny =
-            subst (EachOnAny (stateAt m list bytes 0 .up) m (map (recordAt bytes) (upFrom 0 n)) ys) (sym is-left)
-            (each-from m list bytes n 0 n (omega arith));
+            subst (EachOnAny (stateAt m given bytes 0 .up) m (map (recordAt bytes) (upFrom 0 n)) ys) (sym is-left)
+            (each-from m given bytes n 0 n (omega arith));
         ran = R;
       }

@@ -8,7 +8,7 @@ use lib.ListN.{length}
 use Rattle.model.specs.Store as Model
 use native.Mathlib.Omega.{arith}
 use Rattle.model.specs.Store.{Store, blank, up, workerAt}
-use Rattle.model.specs.Rules.{inForce, under}
+use Rattle.model.specs.Rules.{Given, inForce, under}
 use Rattle.model.specs.Answer.{Applied}
 use Rattle.model.specs.Record.{decode}
 use Rattle.model.specs.Steps.{stepAt}
@@ -46,27 +46,27 @@ StepsSimulate =
     → workerAt s w .doing ≡ d → Sound (stepAt s w d .store) → Simulates s m w d
 
 -- what the code leaves and answers on the bytes b, with the list lent, is what the model makes of the record, a
-abbrev pub DoneAs : Model.Hub → Memory → List ℕ → List ℕ → Applied → Type 0
-DoneAs h m list b a = (doneOf m list b .memory ≡ writeHub h (a .hub) m) × (answerOf (doneOf m list b .answer) ≡ a .answer)
+abbrev pub DoneAs : Model.Hub → Memory → Given → List ℕ → Applied → Type 0
+DoneAs h m given b a = (doneOf m given b .memory ≡ writeHub h (a .hub) m) × (answerOf (doneOf m given b .answer) ≡ a .answer)
 
 -- enough: the decision, and that what follows it is the model's
-done-by : (h : Model.Hub) (m : Memory) (list b : List ℕ) (a : Applied) (g : Gate) → gateIn (ready m) m list b ≡ g → Follows list h m g a
-    → DoneAs h m list b a
+done-by : (h : Model.Hub) (m : Memory) (given : Given) (b : List ℕ) (a : Applied) (g : Gate) → gateIn (ready m) m given b ≡ g → Follows given h m g a
+    → DoneAs h m given b a
 unfolding doneOf doneAs
-done-by h m list b a g e F =
-    let does : obeyIn m list (gateIn (ready m) m list b) ≡ obeyIn m list g = ap (obeyIn m list) e in
+done-by h m given b a g e F =
+    let does : obeyIn m given (gateIn (ready m) m given b) ≡ obeyIn m given g = ap (obeyIn m given) e in
     (ap (λ (r : Result). r .memory) does ∙ F .memory, ap (λ (r : Result). answerOf (r .answer)) does ∙ F .answer)
 
 ------------------------------------------------------------------------
 -- Memory that does not count as set up
 
-module _ (m : Memory) (list b : List ℕ) (Z : Sized m) (bytes : Bytes b) (e : ready m ≡ false) where
+module _ (m : Memory) (given : Given) (b : List ℕ) (Z : Sized m) (bytes : Bytes b) (e : ready m ≡ false) where
   -- the code does what the model's hub does that is not set up and whose row is lent
-  pub done-blank : DoneAs (blank (lentIn m)) m list b (apply (inForce list) (blank (lentIn m)) b)
+  pub done-blank : DoneAs (blank (lentIn m)) m given b (apply (inForce given) (blank (lentIn m)) b)
   unfolding apply
   done-blank =
-      done-by (blank (lentIn m)) m list b (apply (inForce list) (blank (lentIn m)) b) _ (ap (λ (t : Bool). gateIn t m list b) e)
-      (follows-blank m Z list (decode b) (clock-fits b bytes))
+      done-by (blank (lentIn m)) m given b (apply (inForce given) (blank (lentIn m)) b) _ (ap (λ (t : Bool). gateIn t m given b) e)
+      (follows-blank m Z given (decode b) (clock-fits b bytes))
 
 ------------------------------------------------------------------------
 -- Memory that records left
@@ -76,7 +76,7 @@ pub left-ready : {s : Store} (m : Memory) → Left s m → Sized m → ready m �
 left-ready m L Z = ready-left m (sound (L .store)) Z (L .begins) (L .laid)
 
 module _ (steps : StepsSimulate) where
-  module _ (s : Store) (m : Memory) (list b : List ℕ) (L : Left s m) (Z : Sized m) where
+  module _ (s : Store) (m : Memory) (given : Given) (b : List ℕ) (L : Left s m) (Z : Sized m) where
     abbrev laid : m ≡ write s m
     laid = L .laid
 
@@ -85,27 +85,27 @@ module _ (steps : StepsSimulate) where
 
     -- what the model makes of the record
     abbrev a : Applied
-    a = apply (inForce list) (up s) b
+    a = apply (inForce given) (up s) b
 
     -- the record's decision, for the store and for the memory
-    gate-is : gateIn (ready m) m list b ≡ gateBy (decodedIn b) true (length (m .slots)) list (hubRep s (m .hub))
-    gate-is = λ i. gateBy (decodedIn b) (left-ready m L Z i) (length (m .slots)) list (hub-is s m laid i)
+    gate-is : gateIn (ready m) m given b ≡ gateBy (decodedIn b) true (length (m .slots)) given (hubRep s (m .hub))
+    gate-is = λ i. gateBy (decodedIn b) (left-ready m L Z i) (length (m .slots)) given (hub-is s m laid i)
 
     -- the next store is sound
     next-sound : (t : Store) → a .hub ≡ up t → Sound t
     next-sound t e =
-        let N = left-next (L .store) (under (inForce list) b) in
+        let N = left-next (L .store) (under (inForce given) b) in
         let same : N .0 ≡ t = cc in
         subst Sound same (sound (N .2))
 
     -- a step
-    stepped : (w : ℕ) → Stepping s w a → Follows list (up s) m (Go w) a
+    stepped : (w : ℕ) → Stepping s w a → Follows given (up s) m (Go w) a
     unfolding obeyIn
     stepped w T =
         let d : Model.Doing = workerAt s w .doing in
         let at : workerIn (m .hub) w .doing ≡ doingRep d =
         ap (λ (h : Hub). workerIn h w .doing) (hub-is s m laid) ∙ ap (λ (x : Worker). x .doing) (worker-at s S w (T .inside) d refl) in
-        let does : obeyIn m list (Go w) ≡ stepIn m w d = ap (goIn m w (workerIn (m .hub) w)) at in
+        let does : obeyIn m given (Go w) ≡ stepIn m w d = ap (goIn m w (workerIn (m .hub) w)) at in
         let M : Simulates s m w d =
         steps s m w d (L .store) S Z (L .begins) laid (T .inside) refl (next-sound (stepAt s w d .store) (ap (λ (x : Applied). x .hub) (T .is))) in
         record {
@@ -114,33 +114,33 @@ module _ (steps : StepsSimulate) where
         }
 
     -- by the decision
-    by-gate : (g : Gate) → Means s g a → Follows list (up s) m g a
-    by-gate (Refuse k) t = subst (Follows list (up s) m (Refuse k)) (sym t) (refused (up s) m k (laid ∙ write-kept s s m (omega arith)))
+    by-gate : (g : Gate) → Means s g a → Follows given (up s) m g a
+    by-gate (Refuse k) t = subst (Follows given (up s) m (Refuse k)) (sym t) (refused (up s) m k (laid ∙ write-kept s s m (omega arith)))
     by-gate (Make p v n k) t = absurd t
     by-gate (Start w d) t =
         let B = t .2 in
-        subst (Follows list (up s) m (Start w d)) (sym (B .is))
+        subst (Follows given (up s) m (Start w d)) (sym (B .is))
         (rw (t .1) (begun s m S Z laid w (B .inside) (B .idle) (t .0)))
     by-gate (Go w) t = stepped w t
 
     -- on memory that records left the code does what the model does
-    pub done-left : DoneAs (up s) m list b (apply (inForce list) (up s) b)
+    pub done-left : DoneAs (up s) m given b (apply (inForce given) (up s) b)
     unfolding apply
-    done-left = done-by (up s) m list b a _ gate-is (by-gate _ (gate-left s S (m .hub) list (decode b) (length (m .slots))))
+    done-left = done-by (up s) m given b a _ gate-is (by-gate _ (gate-left s S (m .hub) given (decode b) (length (m .slots))))
     -- on memory that holds a hub
 
-  done-as : (h : Model.Hub) (m : Memory) (list b : List ℕ) → Holds h m → Sized m → Bytes b → DoneAs h m list b (apply (inForce list) h b)
-  done-as (blank row) m list b (e, r) Z B =
-      subst (λ (l : Model.Lent). DoneAs (blank l) m list b (apply (inForce list) (blank l) b)) (sym r) (done-blank m list b Z B e)
-  done-as (up s) m list b L Z B = done-left s m list b L Z
+  done-as : (h : Model.Hub) (m : Memory) (given : Given) (b : List ℕ) → Holds h m → Sized m → Bytes b → DoneAs h m given b (apply (inForce given) h b)
+  done-as (blank row) m given b (e, r) Z B =
+      subst (λ (l : Model.Lent). DoneAs (blank l) m given b (apply (inForce given) (blank l) b)) (sym r) (done-blank m given b Z B e)
+  done-as (up s) m given b L Z B = done-left s m given b L Z
 
   -- the public function's contract
-  pub does : (m : Memory) (list b : List ℕ) → Sized m → Bytes b → Does m list b (doneOf m list b .answer) (doneOf m list b .memory)
+  pub does : (m : Memory) (given : Given) (b : List ℕ) → Sized m → Bytes b → Does m given b (doneOf m given b .answer) (doneOf m given b .memory)
   unfolding doneOf
-  does m list b Z bytes =
+  does m given b Z bytes =
       record {
         asModel = λ h H.
-            let D = done-as h m list b H Z bytes in
-            as-model m (doneOf m list b .memory) Z list h b (doneOf m list b .answer) H (D .0) (D .1);
-        onAny = on-any (ready m) m list b;
+            let D = done-as h m given b H Z bytes in
+            as-model m (doneOf m given b .memory) Z given h b (doneOf m given b .answer) H (D .0) (D .1);
+        onAny = on-any (ready m) m given b;
       }

@@ -4,6 +4,7 @@ use mathlib.Core.Path.{_≡_, refl, sym, ap, _∙_}
 use mathlib.Core.List.{List, [], _++_}
 use Prim.Native.Nat.{ℕ, _<_}
 use lib.ListN.{replicate}
+use Rattle.model.specs.Rules.{Given}
 use Rattle.model.specs.Store as Model
 use native.Mathlib.Omega.{arith}
 use Rattle.model.specs.Store.{Store, up, workerAt, withDoing, place}
@@ -58,7 +59,7 @@ module _ (s : Store) (m : Memory) (S : Sound s) (Z : Sized m) (laid : m ≡ writ
       ∙ worker-put s S w inside m Z laid Model.Idle begunWorker [] idle (first-times (s .site .rows) o) (first-reads (s .site .rows) o)
 
   -- the code begins the operation as the model does
-  pub begun : {list : List ℕ} → Follows list (up s) m (Start w (doingRep (terms (s .site .rows) o .first))) (record { hub = up (place s w (terms (s .site .rows) o .first)); answer = Answers.Ok })
+  pub begun : {given : Given} → Follows given (up s) m (Start w (doingRep (terms (s .site .rows) o .first))) (record { hub = up (place s w (terms (s .site .rows) o .first)); answer = Answers.Ok })
   unfolding obeyIn
   begun =
       record {

@@ -9,11 +9,11 @@ use native.Mathlib.Omega.{arith}
 use lib.ListN.{getD, drop}
 use Rattle.model.specs.Store.{Lent, Store, Hub, blank, up}
 use Rattle.model.specs.Rights.{tableStands}
-use Rattle.model.specs.Rules.{inForce, Ruled, under}
+use Rattle.model.specs.Rules.{Given, inForce, Ruled, under}
 use Rattle.model.specs.Answer.{Answer, Ok}
 use Rattle.model.specs.Record.{Sizes, SetUp, Decoded, Asks, decode}
 use Rattle.model.specs.Apply.{setUp, obey, applyDecoded, apply, applyRuled, hubAfter}
-use Rattle.model.specs.Demand.{Event, events, Exchange, exchange}
+use Rattle.model.specs.Demand.{startOf, Event, events, Exchange, exchange}
 use Rattle.theorem.proofs.Main.{demand}
 use Rattle.simulation.specs.Memory.{Memory, writeHub}
 use Rattle.simulation.specs.Left.{LeftByRecords}
@@ -29,7 +29,7 @@ unfolding events hubAfter
 events-append h [] n = refl
 events-append h (b ∷ l) n =
     let a = applyRuled h b in
-    ap (λ (es : List Event). record { list = b .rules .list; bytes = b .bytes; before = h; answer = a .answer; after = a .hub } ∷ es) (events-append (a .hub) l n)
+    ap (λ (es : List Event). record { given = b .rules .given; bytes = b .bytes; before = h; answer = a .answer; after = a .hub } ∷ es) (events-append (a .hub) l n)
 
 pub hub-append : (h : Hub) (l n : List Ruled) → hubAfter h (l ++ n) ≡ hubAfter (hubAfter h l) n
 unfolding hubAfter
@@ -42,7 +42,7 @@ memory-append h [] n m = refl
 memory-append h (b ∷ l) n m = memory-append (applyRuled h b .hub) l n (writeHub h (applyRuled h b .hub) m)
 
 sent-append : (es fs : List Exchange) → sent (es ++ fs) ≡ sent es ++ sent fs
-sent-append es fs = map-append (λ (e : Exchange). under (inForce (e .list)) (e .bytes)) es fs
+sent-append es fs = map-append (λ (e : Exchange). under (inForce (e .given)) (e .bytes)) es fs
 
 ------------------------------------------------------------------------
 -- As the model has it
@@ -85,45 +85,45 @@ Answered h es = es ≡ map exchange (events h (sent es))
 
 -- at an exchange in the middle
 middle : (h : Hub) (es : List Exchange) (x : Exchange) (fs : List Exchange) → Answered h (es ++ (x ∷ fs))
-    → (x .answer ≡ apply (inForce (x .list)) (hubAfter h (sent es)) (x .bytes) .answer)
-    × Answered (apply (inForce (x .list)) (hubAfter h (sent es)) (x .bytes) .hub) fs
+    → (x .answer ≡ apply (inForce (x .given)) (hubAfter h (sent es)) (x .bytes) .answer)
+    × Answered (apply (inForce (x .given)) (hubAfter h (sent es)) (x .bytes) .hub) fs
 unfolding events hubAfter
 middle h [] x fs e = (ap (λ (l : List Exchange). getD l 0 x .answer) e, ap (drop 1) e)
-middle h (y ∷ es) x fs e = middle (apply (inForce (y .list)) h (y .bytes) .hub) es x fs (ap (drop 1) e)
+middle h (y ∷ es) x fs e = middle (apply (inForce (y .given)) h (y .bytes) .hub) es x fs (ap (drop 1) e)
 
 hubs : (row : Lent) (h : Hub) (es : List Exchange) → tableStands (row .table) ≡ true → BlankOrLeft row h → BlankOrLeft row (hubAfter h (sent es))
 unfolding hubAfter
 hubs row h [] fits B = B
-hubs row h (e ∷ es) fits B = hubs row (apply (inForce (e .list)) h (e .bytes) .hub) es fits (hub-next (e .list) row h (e .bytes) fits B)
+hubs row h (e ∷ es) fits B = hubs row (apply (inForce (e .given)) h (e .bytes) .hub) es fits (hub-next (e .given) row h (e .bytes) fits B)
 
 -- a hub that accepts a setup is not set up
-accepting : (list : List ℕ) (row : Lent) (h : Hub) (b : List ℕ) (z : Sizes) → decode b ≡ Asks (SetUp z) → apply (inForce list) h b .answer ≡ Ok → BlankOrLeft row h
+accepting : (given : Given) (row : Lent) (h : Hub) (b : List ℕ) (z : Sizes) → decode b ≡ Asks (SetUp z) → apply (inForce given) h b .answer ≡ Ok → BlankOrLeft row h
     → h ≡ blank row
 unfolding apply applyDecoded obey setUp
-accepting list row h b z d ok (inl e) = e
-accepting list row h b z d ok (inr (s, e, L)) =
-    let nine : apply (inForce list) h b .answer ≡ Answer.No 9 =
-    ap (λ (k : Hub). apply (inForce list) k b .answer) e ∙ ap (λ (r : Decoded). applyDecoded (inForce list) (up s) r .answer) d in
+accepting given row h b z d ok (inl e) = e
+accepting given row h b z d ok (inr (s, e, L)) =
+    let nine : apply (inForce given) h b .answer ≡ Answer.No 9 =
+    ap (λ (k : Hub). apply (inForce given) k b .answer) e ∙ ap (λ (r : Decoded). applyDecoded (inForce given) (up s) r .answer) d in
     let never : _≡_ {A = ℕ} 0 1 = cc in
     absurd (omega arith)
 
-pub behind-setup : (row : Lent) (h : Hub) (es fs : List Exchange) (list b : List ℕ) (z : Sizes) → tableStands (row .table) ≡ true → BlankOrLeft row h
-    → Answered h (es ++ (record { list = list; bytes = b; answer = Ok } ∷ fs)) → decode b ≡ Asks (SetUp z)
-    → CodeDemand3 (apply (inForce list) (blank row) b .hub) [] fs
+pub behind-setup : (row : Lent) (h : Hub) (es fs : List Exchange) (given : Given) (b : List ℕ) (z : Sizes) → tableStands (row .table) ≡ true → BlankOrLeft row h
+    → Answered h (es ++ (record { given = given; bytes = b; answer = Ok } ∷ fs)) → decode b ≡ Asks (SetUp z)
+    → CodeDemand3 (apply (inForce given) (blank row) b .hub) (startOf given) [] fs
 unfolding events
-behind-setup row h es fs list b z fits B e d =
-    let M = middle h es (record { list = list; bytes = b; answer = Ok }) fs e in
+behind-setup row h es fs given b z fits B e d =
+    let M = middle h es (record { given = given; bytes = b; answer = Ok }) fs e in
     let k : Hub = hubAfter h (sent es) in
-    let is : k ≡ blank row = accepting list row k b z d (sym (M .0)) (hubs row h es fits B) in
-    let ok : apply (inForce list) (blank row) b .answer ≡ Ok = ap (λ (q : Hub). apply (inForce list) q b .answer) (sym is) ∙ sym (M .0) in
+    let is : k ≡ blank row = accepting given row k b z d (sym (M .0)) (hubs row h es fits B) in
+    let ok : apply (inForce given) (blank row) b .answer ≡ Ok = ap (λ (q : Hub). apply (inForce given) q b .answer) (sym is) ∙ sym (M .0) in
     record {
-      answers = sym (subst (λ (q : Hub). Answered (apply (inForce list) q b .hub) fs) is (M .1));
-      demand = demand row (under (inForce list) b) ok (sent fs);
+      answers = sym (subst (λ (q : Hub). Answered (apply (inForce given) q b .hub) fs) is (M .1));
+      demand = demand row (under (inForce given) b) ok (sent fs);
     }
 
 -- behind the setup and the records that left a store
 pub behind-records : (s : Store) (L : LeftByRecords s) (es : List Exchange) → Answered (up s) es
-    → CodeDemand3 (applyRuled (blank (L .row)) (L .setup) .hub) (L .records) es
+    → CodeDemand3 (applyRuled (blank (L .row)) (L .setup) .hub) (startOf (L .setup .rules .given)) (L .records) es
 behind-records s L es e =
     let h : Hub = applyRuled (blank (L .row)) (L .setup) .hub in
     record {

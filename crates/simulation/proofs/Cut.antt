@@ -13,7 +13,7 @@ use lib.Seq.{getD-take, take-take}
 use borrow.Author.Tests.{le-leb, lt-leb}
 use Rattle.model.specs.Store as Model
 use Rattle.model.specs.Store.{Store, blank, up}
-use Rattle.model.specs.Rules.{inForce, under}
+use Rattle.model.specs.Rules.{Given, inForce, under}
 use Rattle.model.specs.Answer.{said, Applied}
 use Rattle.model.specs.Record.{Sizes, SetUp, Begin, Step, Decoded, Asks, Refuses, decode, listFits}
 use Rattle.model.specs.Apply.{refuse, inRanges, fresh, setUp, obey, applyDecoded, apply}
@@ -116,7 +116,7 @@ record Alike (m : Memory) (h h′ : Model.Hub) (a a′ : Applied) : Type 0 where
   answer : a .answer ≡ a′ .answer
   few : FewIn (a′ .hub)
 
-module _ (m : Memory) (list : List ℕ) (l : List Slot) where
+module _ (m : Memory) (given : Given) (l : List Slot) where
   abbrev row : List Model.Slot
   row = map slotOf l
 
@@ -137,12 +137,12 @@ module _ (m : Memory) (list : List ℕ) (l : List Slot) where
   made-cut : (z : Sizes) → z .N ≤ 2048 → take (z .N) row′ ≡ take (z .N) row
   made-cut z h = ap (take (z .N)) (map-take slotOf 2048 l) ∙ take-take (z .N) 2048 row h
 
-  set-up-cut : (z : Sizes) → Alike m (blank lent′) (blank lent) (setUp (inForce list) (blank lent′) z) (setUp (inForce list) (blank lent) z)
+  set-up-cut : (z : Sizes) → Alike m (blank lent′) (blank lent) (setUp (inForce given) (blank lent′) z) (setUp (inForce given) (blank lent) z)
   unfolding setUp fresh
   set-up-cut z =
-      both (Alike m (blank lent′) (blank lent)) (inRanges z && leb (z .N) (length row′) && listFits (z .V') list)
-      (inRanges z && leb (z .N) (length row) && listFits (z .V') list) _ _ _ _
-      (ap (λ (t : Bool). t && listFits (z .V') list)
+      both (Alike m (blank lent′) (blank lent)) (inRanges z && leb (z .N) (length row′) && listFits (z .V') (given .totals))
+      (inRanges z && leb (z .N) (length row) && listFits (z .V') (given .totals)) _ _ _ _
+      (ap (λ (t : Bool). t && listFits (z .V') (given .totals))
       (and-same (inRanges z) _ _ (λ e. rw (map-take slotOf 2048 l) (long-cut (z .N) row (in-ranges z e .N≤2048)))))
       (λ e. let h : z .N ≤ 2048 = in-ranges z (and-both (inRanges z) (leb (z .N) (length row)) (and-both (inRanges z && leb (z .N) (length row)) _ e .0) .0) .N≤2048 in
       record {
@@ -152,14 +152,14 @@ module _ (m : Memory) (list : List ℕ) (l : List Slot) where
       })
       (λ e. refused-cut 5)
 
-  decoded-cut : (r : Decoded) → Alike m (blank lent′) (blank lent) (applyDecoded (inForce list) (blank lent′) r) (applyDecoded (inForce list) (blank lent) r)
+  decoded-cut : (r : Decoded) → Alike m (blank lent′) (blank lent) (applyDecoded (inForce given) (blank lent′) r) (applyDecoded (inForce given) (blank lent) r)
   unfolding applyDecoded obey
   decoded-cut (Asks (SetUp z)) = set-up-cut z
   decoded-cut (Asks (Begin w o)) = refused-cut 8
   decoded-cut (Asks (Step w)) = refused-cut 8
   decoded-cut (Refuses k) = refused-cut k
 
-  apply-cut : (b : List ℕ) → Alike m (blank lent′) (blank lent) (apply (inForce list) (blank lent′) b) (apply (inForce list) (blank lent) b)
+  apply-cut : (b : List ℕ) → Alike m (blank lent′) (blank lent) (apply (inForce given) (blank lent′) b) (apply (inForce given) (blank lent) b)
   unfolding apply
   apply-cut b = decoded-cut (decode b)
 
@@ -221,29 +221,29 @@ module _ (m m′ : Memory) (rest : drop 2048 (m′ .slots) ≡ drop 2048 (m .slo
       }
 
   -- what the model makes of the record, with the first 2048 slots and with the whole row
-  module _ (list b : List ℕ) (y : Answer) (D : Does (cut m) list b y (cut m′)) (Z : Sized m) where
-    blank-as-model-cut : ready m ≡ false → AsModel (blank (lentIn m)) m (exchangeOf list b y ∷ []) m′
+  module _ (given : Given) (b : List ℕ) (y : Answer) (D : Does (cut m) given b y (cut m′)) (Z : Sized m) where
+    blank-as-model-cut : ready m ≡ false → AsModel (blank (lentIn m)) m (exchangeOf given b y ∷ []) m′
     blank-as-model-cut e =
-        let h : Model.Hub = blank (lent (cut m) list (m .slots)) in
-        let A = D .asModel (blank (lent′ (cut m) list (m .slots))) (ready-cut m ∙ e, refl) in
-        let L = apply-cut (cut m) list (m .slots) b in
-        as-model m m′ Z list h b y (e, refl) (written h (apply (inForce list) h b .hub) (L .few) (one-memory A ∙ L .memory)) (one-answer A ∙ L .answer)
+        let h : Model.Hub = blank (lent (cut m) given (m .slots)) in
+        let A = D .asModel (blank (lent′ (cut m) given (m .slots))) (ready-cut m ∙ e, refl) in
+        let L = apply-cut (cut m) given (m .slots) b in
+        as-model m m′ Z given h b y (e, refl) (written h (apply (inForce given) h b .hub) (L .few) (one-memory A ∙ L .memory)) (one-answer A ∙ L .answer)
 
-    as-model-cut : (h : Model.Hub) → Holds h m → AsModel h m (exchangeOf list b y ∷ []) m′
+    as-model-cut : (h : Model.Hub) → Holds h m → AsModel h m (exchangeOf given b y ∷ []) m′
     as-model-cut (up s) L =
         let A = D .asModel (up s) (left-cut m L) in
-        let N = left-next (L .store) (under (inForce list) b) in
-        let f : FewIn (apply (inForce list) (up s) b .hub) = subst FewIn (sym (N .1)) (left-few (N .2)) in
-        as-model m m′ Z list (up s) b y L (written (up s) (apply (inForce list) (up s) b .hub) f (one-memory A)) (one-answer A)
+        let N = left-next (L .store) (under (inForce given) b) in
+        let f : FewIn (apply (inForce given) (up s) b .hub) = subst FewIn (sym (N .1)) (left-few (N .2)) in
+        as-model m m′ Z given (up s) b y L (written (up s) (apply (inForce given) (up s) b .hub) f (one-memory A)) (one-answer A)
     as-model-cut (blank l) H =
-        subst (λ (q : Model.Lent). AsModel (blank q) m (exchangeOf list b y ∷ []) m′) (sym (H .1)) (blank-as-model-cut (H .0))
+        subst (λ (q : Model.Lent). AsModel (blank q) m (exchangeOf given b y ∷ []) m′) (sym (H .1)) (blank-as-model-cut (H .0))
 
 -- the contract with the first 2048 slots is the contract with the whole row, where the rest of the row is as it was
-does-cut : (m m′ : Memory) (list b : List ℕ) (y : Answer) → Sized m → Does (cut m) list b y (cut m′) → drop 2048 (m′ .slots) ≡ drop 2048 (m .slots)
-    → Does m list b y m′
-does-cut m m′ list b y Z D rest =
+does-cut : (m m′ : Memory) (given : Given) (b : List ℕ) (y : Answer) → Sized m → Does (cut m) given b y (cut m′) → drop 2048 (m′ .slots) ≡ drop 2048 (m .slots)
+    → Does m given b y m′
+does-cut m m′ given b y Z D rest =
     record {
-      asModel = as-model-cut m m′ rest list b y D Z;
+      asModel = as-model-cut m m′ rest given b y D Z;
       onAny = subst (λ (t : Bool). OnAny t m b y m′) (ready-cut m) (any-cut m m′ rest (ready (cut m)) b y (D .onAny));
     }
 
@@ -264,15 +264,15 @@ sized-cut m Z =
     }
 
 -- so what the code answers and leaves with the first 2048 slots is right for the whole row
-pub does-whole : (m m′ : Memory) (list b : List ℕ) (y : Answer) → Sized m → Bytes b
-    → y ≡ doneOf (cut m) list b .answer → cut m′ ≡ doneOf (cut m) list b .memory → drop 2048 (m′ .slots) ≡ drop 2048 (m .slots) → Does m list b y m′
-does-whole m m′ list b y Z bytes a l rest =
-    does-cut m m′ list b y Z (rw (a, l) (does (cut m) list b (sized-cut m Z) bytes)) rest
+pub does-whole : (m m′ : Memory) (given : Given) (b : List ℕ) (y : Answer) → Sized m → Bytes b
+    → y ≡ doneOf (cut m) given b .answer → cut m′ ≡ doneOf (cut m) given b .memory → drop 2048 (m′ .slots) ≡ drop 2048 (m .slots) → Does m given b y m′
+does-whole m m′ given b y Z bytes a l rest =
+    does-cut m m′ given b y Z (rw (a, l) (does (cut m) given b (sized-cut m Z) bytes)) rest
 
 ------------------------------------------------------------------------
 -- The contract with the whole row is the contract with the first 2048 slots
 
-module _ (m m′ : Memory) (list b : List ℕ) (y : Answer) (Z : Sized m) (D : Does m list b y m′) where
+module _ (m m′ : Memory) (given : Given) (b : List ℕ) (y : Answer) (Z : Sized m) (D : Does m given b y m′) where
   left-uncut : {s : Store} → Left s (cut m) → Left s m
   left-uncut {s} L =
       let few = left-few (L .store) in
@@ -282,22 +282,22 @@ module _ (m m′ : Memory) (list b : List ℕ) (y : Answer) (Z : Sized m) (D : D
   cut-written h₀ (blank row) f e = ap cut e
   cut-written h₀ (up s) f e = ap cut e ∙ write-cut s f (withHub m (nextHub h₀ s (m .hub)))
 
-  blank-uncut : ready (cut m) ≡ false → AsModel (blank (lentIn (cut m))) (cut m) (exchangeOf list b y ∷ []) (cut m′)
+  blank-uncut : ready (cut m) ≡ false → AsModel (blank (lentIn (cut m))) (cut m) (exchangeOf given b y ∷ []) (cut m′)
   blank-uncut e =
-      let A = D .asModel (blank (lent (cut m) list (m .slots))) (sym (ready-cut m) ∙ e, refl) in
-      let L = apply-cut (cut m) list (m .slots) b in
-      let a : Applied = apply (inForce list) (blank (lent (cut m) list (m .slots))) b in
-      as-model (cut m) (cut m′) (sized-cut m Z) list (blank (lent′ (cut m) list (m .slots))) b y (e, refl)
-      (cut-written (blank (lent (cut m) list (m .slots))) (a .hub) (L .few) (one-memory A) ∙ sym (L .memory)) (one-answer A ∙ sym (L .answer))
+      let A = D .asModel (blank (lent (cut m) given (m .slots))) (sym (ready-cut m) ∙ e, refl) in
+      let L = apply-cut (cut m) given (m .slots) b in
+      let a : Applied = apply (inForce given) (blank (lent (cut m) given (m .slots))) b in
+      as-model (cut m) (cut m′) (sized-cut m Z) given (blank (lent′ (cut m) given (m .slots))) b y (e, refl)
+      (cut-written (blank (lent (cut m) given (m .slots))) (a .hub) (L .few) (one-memory A) ∙ sym (L .memory)) (one-answer A ∙ sym (L .answer))
 
-  as-model-uncut : (h : Model.Hub) → Holds h (cut m) → AsModel h (cut m) (exchangeOf list b y ∷ []) (cut m′)
+  as-model-uncut : (h : Model.Hub) → Holds h (cut m) → AsModel h (cut m) (exchangeOf given b y ∷ []) (cut m′)
   as-model-uncut (blank l) H =
-      subst (λ (q : Model.Lent). AsModel (blank q) (cut m) (exchangeOf list b y ∷ []) (cut m′)) (sym (H .1)) (blank-uncut (H .0))
+      subst (λ (q : Model.Lent). AsModel (blank q) (cut m) (exchangeOf given b y ∷ []) (cut m′)) (sym (H .1)) (blank-uncut (H .0))
   as-model-uncut (up s) L =
       let A = D .asModel (up s) (left-uncut L) in
-      let N = left-next (L .store) (under (inForce list) b) in
-      let f : FewIn (apply (inForce list) (up s) b .hub) = subst FewIn (sym (N .1)) (left-few (N .2)) in
-      as-model (cut m) (cut m′) (sized-cut m Z) list (up s) b y L (cut-written (up s) (apply (inForce list) (up s) b .hub) f (one-memory A)) (one-answer A)
+      let N = left-next (L .store) (under (inForce given) b) in
+      let f : FewIn (apply (inForce given) (up s) b .hub) = subst FewIn (sym (N .1)) (left-few (N .2)) in
+      as-model (cut m) (cut m′) (sized-cut m Z) given (up s) b y L (cut-written (up s) (apply (inForce given) (up s) b .hub) f (one-memory A)) (one-answer A)
 
   ends-uncut : (t : Bool) (d : Decoded) (k : Option ℕ) → EndsBy t m d k m′ → EndsBy t (cut m) d k (cut m′)
   ends-uncut t d none E = tt
@@ -309,7 +309,7 @@ module _ (m m′ : Memory) (list b : List ℕ) (y : Answer) (Z : Sized m) (D : D
       by true e = ap cut e ∙ sym (idled-cut m m refl d)
       by false e = ap cut e
 
-  pub does-uncut : Does (cut m) list b y (cut m′)
+  pub does-uncut : Does (cut m) given b y (cut m′)
   does-uncut =
       let E = D .onAny in
       record {

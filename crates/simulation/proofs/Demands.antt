@@ -13,9 +13,9 @@ use Rattle.lists.proofs.Over.{getD-over-in}
 use Rattle.model.specs.Store.{Store, Hub, blank, up, upFrom}
 use Rattle.model.specs.Answer.{Answer, Ok, said}
 use Rattle.model.specs.Record.{Sizes, SetUp, Asks, decode}
-use Rattle.model.specs.Rules.{document01, inForce, under, allUnder}
+use Rattle.model.specs.Rules.{Given, document01, inForce, under, allUnder}
 use Rattle.model.specs.Apply.{apply, hubAfter, answersTo}
-use Rattle.model.specs.Demand.{Event, events, Exchange, exchange, history, rowsIn}
+use Rattle.model.specs.Demand.{Event, events, Exchange, exchange, history, startOf, rowsIn}
 use Rattle.model.specs.MonthEnd.{SameFigures}
 use Rattle.model.proofs.Batch.{allowed}
 use Rattle.theorem.proofs.MonthEnd.{month-end}
@@ -93,17 +93,17 @@ module _ (l es fs : List Exchange) (x : Exchange) (e : l ≡ es ++ (x ∷ fs)) w
   within : length es < length l
   within = omega (arith, ap length e, length-append es (x ∷ fs))
 
-from-setup : (m : Memory) (c : CallIn) → Called m c → (es fs : List Exchange) (list b : List ℕ) → Accepts (exchanged c) es list b fs → ready m ≡ false
-from-setup m (ForRecord l₀ b₀ y m′) D es fs list b S =
-    let x : Exchange = record { list = list; bytes = b; answer = Ok } in
+from-setup : (m : Memory) (c : CallIn) → Called m c → (es fs : List Exchange) (given : Given) (b : List ℕ) → Accepts (exchanged c) es given b fs → ready m ≡ false
+from-setup m (ForRecord l₀ b₀ y m′) D es fs given b S =
+    let x : Exchange = record { given = given; bytes = b; answer = Ok } in
     let l : List Exchange = exchangeOf l₀ b₀ y ∷ [] in
     let first : 0 ≡ length es = omega (arith, within l es fs x (S .place)) in
     let is : exchangeOf l₀ b₀ y ≡ x = ap (λ (k : ℕ). getD l k x) first ∙ stands l es fs x (S .place) in
     not-ready m
     (no-setup (ready m) m m′ b₀ y (D .onAny) (S .sizes) (ap (λ (q : Exchange). decode (q .bytes)) is ∙ S .setup)
     (ap (λ (q : Exchange). said (q .answer) .ok) is))
-from-setup m (ForBuffer l₀ bytes kinds numbers n kinds′ numbers′ m′) A es fs list b S =
-    let x : Exchange = record { list = list; bytes = b; answer = Ok } in
+from-setup m (ForBuffer l₀ bytes kinds numbers n kinds′ numbers′ m′) A es fs given b S =
+    let x : Exchange = record { given = given; bytes = b; answer = Ok } in
     let f : ℕ → Exchange = exchangeAt l₀ bytes kinds′ numbers′ in
     let k : ℕ = length es in
     let ys : List Code.Answer = A .answers in
@@ -135,8 +135,8 @@ held (blank row) m H = inl (ap blank (H .1))
 held (up s) m L = inr (s, refl, L .store)
 
 call-as-model : (h : Hub) (m : Memory) (c : CallIn) → Holds h m → Called m c → AsModel h m (exchanged c) (leftBy c)
-call-as-model h m (ForRecord list b y m′) H D = D .asModel h H
-call-as-model h m (ForBuffer list bytes kinds numbers n kinds′ numbers′ m′) H A = A .asModel h H
+call-as-model h m (ForRecord given b y m′) H D = D .asModel h H
+call-as-model h m (ForBuffer given bytes kinds numbers n kinds′ numbers′ m′) H A = A .asModel h H
 
 calls-as-model : (h : Hub) (m : Memory) (cs : List CallIn) → Holds h m → Calls m cs → AsModel h m (exchanges cs) (leftByAll m cs)
 unfolding Calls exchanges leftByAll
@@ -157,32 +157,32 @@ calls-behind m [] ds C = C
 calls-behind m (c ∷ cs) ds C = calls-behind (leftBy c) cs ds (C .1)
 
 -- demand 3 of a setup in the first call
-first-setup : (m : Memory) (c : CallIn) (ds : List CallIn) → Calls m (c ∷ ds) → (es fs : List Exchange) (list b : List ℕ) → Accepts (exchanged c) es list b fs
-    → CodeDemand3 (apply (inForce list) (blank (lentIn m)) b .hub) [] (fs ++ exchanges ds)
+first-setup : (m : Memory) (c : CallIn) (ds : List CallIn) → Calls m (c ∷ ds) → (es fs : List Exchange) (given : Given) (b : List ℕ) → Accepts (exchanged c) es given b fs
+    → CodeDemand3 (apply (inForce given) (blank (lentIn m)) b .hub) (startOf given) [] (fs ++ exchanges ds)
 unfolding Calls exchanges
-first-setup m c ds C es fs list b S =
-    let D : Decided m = (blank (lentIn m), (from-setup m c (C .0) es fs list b S, refl)) in
-    let x : Exchange = record { list = list; bytes = b; answer = Ok } in
+first-setup m c ds C es fs given b S =
+    let D : Decided m = (blank (lentIn m), (from-setup m c (C .0) es fs given b S, refl)) in
+    let x : Exchange = record { given = given; bytes = b; answer = Ok } in
     let whole : exchanges (c ∷ ds) ≡ es ++ (x ∷ (fs ++ exchanges ds)) =
     ap (λ (l : List Exchange). l ++ exchanges ds) (S .place) ∙ append-assoc es (x ∷ fs) (exchanges ds) in
-    behind-setup (lentIn m) (D .0) es (fs ++ exchanges ds) list b (S .sizes) (standing-stands (m .hub)) (held (D .0) m (D .1))
+    behind-setup (lentIn m) (D .0) es (fs ++ exchanges ds) given b (S .sizes) (standing-stands (m .hub)) (held (D .0) m (D .1))
     (subst (λ (l : List Exchange). l ≡ map exchange (events (D .0) (sent l))) whole (calls-as-model (D .0) m (c ∷ ds) (D .1) C .answers)) (S .setup)
 
 -- memory from before the first change request
-on-earlier : (list : List ℕ) (s : Store) (m : Memory) (E : LeftUnder (document01 list) s) (cs : List CallIn) → Begins (m .hub .window) → m ≡ write s m → Calls m cs
-    → OnEarlier list s m E cs
+on-earlier : (given : Given) (s : Store) (m : Memory) (E : LeftUnder (document01 given) s) (cs : List CallIn) → Begins (m .hub .window) → m ≡ write s m → Calls m cs
+    → OnEarlier given s m E cs
 unfolding tableStands eachOf
-on-earlier list s m E cs begins laid C =
+on-earlier given s m E cs begins laid C =
     let L : Left s m =
     record {
       store =
           record {
             row = record { row = E .row; table = [] };
-            setup = under (document01 list) (E .setup);
-            batch = allowed (document01 list) refl;
+            setup = under (document01 given) (E .setup);
+            batch = allowed (document01 given) refl;
             table = refl;
             accepted = E .accepted;
-            records = allUnder (document01 list) (E .records);
+            records = allUnder (document01 given) (E .records);
             left = E .left;
           };
       begins = begins;
@@ -195,11 +195,11 @@ pub demands : Demands
 demands =
     record {
       demand2 = calls-as-model;
-      log = λ h m cs list file H C F.
+      log = λ h m cs given file H C F.
           ap (map (λ (e : Exchange). e .answer)) (calls-as-model h m cs H C .answers)
           ∙ map-exchange (events h (sent (exchanges cs)))
           ∙ answers-of-events h (sent (exchanges cs))
-          ∙ ap (answersTo h) (parts-records list cs file F);
+          ∙ ap (answersTo h) (parts-records given cs file F);
       anyCalls = λ m cs ds D C E.
           same-sent (D .0) m (leftByAll m cs) (leftByAll m ds) (exchanges cs) (exchanges ds) (calls-as-model (D .0) m cs (D .1) C)
           (calls-as-model (D .0) m ds (D .1) E);
@@ -208,8 +208,8 @@ demands =
       fromSetup = from-setup;
       demand3 = λ m cs ds c C. first-setup (leftByAll m cs) c ds (calls-behind m cs (c ∷ ds) C);
       demand3Left = λ s m cs L C. behind-records s (L .store) (exchanges cs) (calls-as-model (up s) m cs L C .answers);
-      monthEnd = λ h old es D.
-          subst (λ (l : List Exchange). SameFigures (history 0 l [])) (D .answers) (month-end (rowsIn h) (events h (old ++ sent es)) (D .demand));
+      monthEnd = λ h start old es D.
+          subst (λ (l : List Exchange). SameFigures (history 0 l [])) (D .answers) (month-end (rowsIn h) start (events h (old ++ sent es)) (D .demand));
       table = table;
       late = late;
       empty = empty;

@@ -23,7 +23,7 @@ use Rattle.versions.specs.Versions.{slotAtIn, stampedIn}
 use Rattle.worker.specs.Rep.{timeOf}
 use Rattle.worker.specs.declared.Announced.{Announced}
 use Rattle.worker.specs.declared.Announced.the-variants.{Nothing, At}
-use Rattle.model.specs.Rules.{twelveDigits}
+use Rattle.model.specs.Rules.{Given, twelveDigits}
 use Rattle.model.specs.Totals.{rowAt, goesOn}
 use Rattle.values.specs.declared.Content.{Content}
 use Rattle.values.specs.declared.Content.the-variants.{NoReading, Of}
@@ -66,12 +66,12 @@ use Rattle.simulation.proofs.Gates.{gateBy}
 ------------------------------------------------------------------------
 -- Memory that counts as set up
 
-setup-nine : (up : Bool) (m : Memory) (list b : List ℕ) → up ≡ true → (z : Sizes) → decode b ≡ Asks (SetUp z)
-    → answerOf (doneAs up m list b .answer) ≡ Model·Answer.No 9
+setup-nine : (up : Bool) (m : Memory) (given : Given) (b : List ℕ) → up ≡ true → (z : Sizes) → decode b ≡ Asks (SetUp z)
+    → answerOf (doneAs up m given b .answer) ≡ Model·Answer.No 9
 unfolding doneAs gateOf obeyIn
-setup-nine up m list b e z d =
+setup-nine up m given b e z d =
     let said : Record.Decoded → Bool → Model·Answer.Answer =
-    λ r t. answerOf (obeyIn m list (gateBy (decodedRep r) t (length (m .slots)) list (m .hub)) .answer) in
+    λ r t. answerOf (obeyIn m given (gateBy (decodedRep r) t (length (m .slots)) given (m .hub)) .answer) in
     λ i. said (d i) (e i)
 
 ------------------------------------------------------------------------
@@ -275,10 +275,10 @@ module _ (up : Bool) (m : Memory) (r : Record.Decoded) where
 ------------------------------------------------------------------------
 -- A record
 
-module _ (up : Bool) (m : Memory) (list : List ℕ) where
+module _ (up : Bool) (m : Memory) (given : Given) where
   -- by the decision
   gate-ends : (r : Record.Decoded) (d : Doing) → Steps r up (m .hub .site .p) d ≡ takesStepIn up m r
-      → (g : Gate) → GateNumbered r up (m .hub .site .p) d g → Ends up m r (obeyIn m list g)
+      → (g : Gate) → GateNumbered r up (m .hub .site .p) d g → Ends up m r (obeyIn m given g)
   unfolding obeyIn
   gate-ends r d e (Refuse k) n = record { number = rw (sym e ∙ n .1) (n .0); leaves = rw (sym e ∙ n .1) }
   gate-ends r d e (Make p v k t) n = tt
@@ -294,24 +294,24 @@ module _ (up : Bool) (m : Memory) (list : List ℕ) where
   looks-at (Record.Refuses k) = refl
 
   module _ (b : List ℕ) where
-    ends-well : Ends up m (decode b) (doneAs up m list b)
+    ends-well : Ends up m (decode b) (doneAs up m given b)
     unfolding doneAs
     ends-well =
         let x : Worker = workerIn (m .hub) (whoOf (decodedIn b)) in
-        gate-ends (decode b) (x .doing) (looks-at (decode b)) (gateIn up m list b)
-        (gate-numbered (decode b) (read-numbered b) up (m .hub .site .p) (m .hub .site .v) (length (m .slots)) (x .doing) (x .announced) list (rowsKept (m .hub))
+        gate-ends (decode b) (x .doing) (looks-at (decode b)) (gateIn up m given b)
+        (gate-numbered (decode b) (read-numbered b) up (m .hub .site .p) (m .hub .site .v) (length (m .slots)) (x .doing) (x .announced) (given .totals) (rowsKept (m .hub))
         (m .hub .marks) (marksRead (m .hub)) (tableKept (m .hub)))
 
     -- a record that is refused before it is a command
-    refused-read : (k : ℕ) → decode b ≡ Record.Refuses k → doneAs up m list b ≡ answered m (No k)
+    refused-read : (k : ℕ) → decode b ≡ Record.Refuses k → doneAs up m given b ≡ answered m (No k)
     unfolding doneAs gateOf obeyIn
-    refused-read k e = ap (λ (r : Record.Decoded). obeyIn m list (gateBy (decodedRep r) up (length (m .slots)) list (m .hub))) e
+    refused-read k e = ap (λ (r : Record.Decoded). obeyIn m given (gateBy (decodedRep r) up (length (m .slots)) given (m .hub))) e
 
-    pub on-any : OnAny up m b (doneAs up m list b .answer) (doneAs up m list b .memory)
+    pub on-any : OnAny up m b (doneAs up m given b .answer) (doneAs up m given b .memory)
     on-any =
         record {
           ends = ends-well;
           reading = λ k e.
               (ap (λ (r : Result). answerOf (r .answer)) (refused-read k e), ap (λ (r : Result). r .memory) (refused-read k e));
-          nine = setup-nine up m list b;
+          nine = setup-nine up m given b;
         }

@@ -13,7 +13,7 @@ use Rattle.model.specs.Store.{absent, markCount}
 use Rattle.model.specs.Marks as Mark
 use Rattle.model.specs.About as Place
 use Rattle.model.specs.About.{about}
-use Rattle.model.specs.Rules.{inForce}
+use Rattle.model.specs.Rules.{Given, inForce}
 use Rattle.model.specs.Totals.{firstOf}
 use Rattle.model.specs.Record as Record
 use Rattle.model.specs.Apply as Begin
@@ -147,9 +147,9 @@ pub same-names : (x : Option ℕ) (y : Mark.MarkNeed) (v : ℕ)
 same-names x y v = λ i. same-named x v i && same-mark y markCount i
 
 -- the code's limit is that of the rules in force
-pub same-value : (list : List ℕ) (x : Option Model.Reading) → valueOk (valueRep x) ≡ valueWithin (inForce list .limit) x
-same-value list none = refl
-same-value list (some x) = refl
+pub same-value : (given : Given) (x : Option Model.Reading) → valueOk (valueRep x) ≡ valueWithin (inForce given .limit) x
+same-value given none = refl
+same-value given (some x) = refl
 
 pub same-status : (x : Option Model.Reading) → statusOk (valueRep x) ≡ statusKnown x
 same-status none = refl

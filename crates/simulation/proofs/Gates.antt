@@ -15,7 +15,7 @@ use Rattle.model.specs.Store.{Store, up, absent, markCount, workerAt, place}
 use Rattle.model.specs.Marks as Mark
 use Rattle.model.specs.Marks.{markRefusal}
 use Rattle.model.specs.Rights.{allowed}
-use Rattle.model.specs.Rules.{inForce}
+use Rattle.model.specs.Rules.{Given, inForce}
 use Rattle.model.specs.Answer.{Ok, Stepped, Applied}
 use Rattle.model.specs.Record as Record
 use Rattle.model.specs.Steps.{stepAt}
@@ -43,9 +43,9 @@ use Rattle.simulation.proofs.Sound.{Sound}
 use Rattle.simulation.proofs.Marks.{numberOf, UnreadIn, refusal-same, Numbered, numbered}
 
 -- the gate of a record that was read as r, by whether the memory is ready, the length of the row, the list that is lent, and the hub by value
-abbrev pub gateBy : Decoded → Bool → ℕ → List ℕ → Hub → Gate
-gateBy r ready long list h =
-    gateOf r ready (h .site .p) (h .site .v) long (workerIn h (whoOf r) .doing) (workerIn h (whoOf r) .announced) list (rowsKept h)
+abbrev pub gateBy : Decoded → Bool → ℕ → Given → Hub → Gate
+gateBy r ready long given h =
+    gateOf r ready (h .site .p) (h .site .v) long (workerIn h (whoOf r) .doing) (workerIn h (whoOf r) .announced) (given .totals) (rowsKept h)
     (h .marks) (marksRead h) (tableKept h)
 
 -- a begin of operation o by worker w in the store s is accepted
@@ -81,7 +81,7 @@ both M true false g g′ a a′ e f f′ = absurd (true≢false e)
 both M false true g g′ a a′ e f f′ = absurd (true≢false (sym e))
 both M false false g g′ a a′ e f f′ = f′ refl
 
-module _ (s : Store) (S : Sound s) (k : Hub) (list : List ℕ) where
+module _ (s : Store) (S : Sound s) (k : Hub) (given : Given) where
   abbrev rows : List ℕ
   rows = s .site .rows
 
@@ -120,15 +120,15 @@ module _ (s : Store) (S : Sound s) (k : Hub) (list : List ℕ) where
   begins : (w : ℕ) (o : Record.Operation)
       → Means s (beginGate (s .site .P) (s .site .V') w (operationRep o) (workerIn (hubRep s k) w .doing) (workerIn (hubRep s k) w .announced) rows
       (s .marks) reading table)
-      (begin (inForce list) s w o)
+      (begin (inForce given) s w o)
   unfolding beginGate begin refusedBy
   begins w o =
-      subst (λ (z : Code.Terms). M (chosen z) (begin (inForce list) s w o)) (sym (same-terms rows (S .bounds .rows .1) o))
+      subst (λ (z : Code.Terms). M (chosen z) (begin (inForce given) s w o)) (sym (same-terms rows (S .bounds .rows .1) o))
       (both M (ltb w (s .site .P)) (ltb w (s .site .P)) _ _ _ _ refl
       (λ i. both M (namedOk (z .register) (s .site .V') && namedOk (markOf (z .mark)) markCount)
       (namedBelow (s .site .V') (a .register) && namedBelow markCount (Mark.markOf (a .mark))) _ _ _ _ (same-names (a .register) (a .mark) (s .site .V'))
       (λ r. both M (groupOk (z .row) rows) (groupThere rows (a .group)) _ _ _ _ (same-group rows (a .group))
-      (λ g. both M (valueOk (z .value)) (valueWithin (inForce list .limit) (a .value)) _ _ _ _ (same-value list (a .value))
+      (λ g. both M (valueOk (z .value)) (valueWithin (inForce given .limit) (a .value)) _ _ _ _ (same-value given (a .value))
       (λ v. both M (statusOk (z .value)) (statusKnown (a .value)) _ _ _ _ (same-status (a .value))
       (λ k. both M (allowed table (s .site .V') w (neededIn (z .right) rows)) (allowed table (s .site .V') w (a .right)) _ _ _ _
       (ap (allowed table (s .site .V') w) (same-right rows o))
@@ -199,17 +199,17 @@ module _ (s : Store) (S : Sound s) (k : Hub) (list : List ℕ) where
 
   -- the decision on a record that was read as r is the model's
   pub gate-left : (r : Record.Decoded) (long : ℕ)
-      → Means s (gateBy (decodedRep r) true long list (hubRep s k)) (applyDecoded (inForce list) (up s) r)
+      → Means s (gateBy (decodedRep r) true long given (hubRep s k)) (applyDecoded (inForce given) (up s) r)
   unfolding whoOf gateOf applyDecoded obey setUp step
   gate-left (Record.Refuses k) long = refl
   gate-left (Record.Asks (Record.SetUp z)) long = refl
   gate-left (Record.Asks (Record.Begin w o)) long =
       subst (λ (l : List ℕ). Means s (beginGate (s .site .P) (s .site .V') w (operationRep o) (x w .doing) (x w .announced) l (s .marks)
-      (marksRead (hubRep s k)) (tableKept (hubRep s k))) (begin (inForce list) s w o)) (sym kept-rows)
+      (marksRead (hubRep s k)) (tableKept (hubRep s k))) (begin (inForce given) s w o)) (sym kept-rows)
       (subst (λ (l : List ℕ). Means s (beginGate (s .site .P) (s .site .V') w (operationRep o) (x w .doing) (x w .announced) rows (s .marks) l
-      (tableKept (hubRep s k))) (begin (inForce list) s w o)) (sym kept-reading)
+      (tableKept (hubRep s k))) (begin (inForce given) s w o)) (sym kept-reading)
       (subst (λ (l : List ℕ). Means s (beginGate (s .site .P) (s .site .V') w (operationRep o) (x w .doing) (x w .announced) rows (s .marks) reading l)
-      (begin (inForce list) s w o)) (sym kept-table) (begins w o)))
+      (begin (inForce given) s w o)) (sym kept-table) (begins w o)))
   gate-left (Record.Asks (Record.Step w)) long =
       both (Means s) (ltb w (s .site .P)) (ltb w (s .site .P)) _ _ _ _ refl
       (λ i. record { inside = ltb-true w (s .site .P) i; is = refl })

@@ -8,7 +8,7 @@ use Prim.Native.Nat.{ℕ, zero, suc}
 use lib.ListN.{length}
 use Rattle.model.specs.Store as Model
 use Rattle.model.specs.Store.{blank, up, upFrom}
-use Rattle.model.specs.Rules.{inForce, under}
+use Rattle.model.specs.Rules.{Given, inForce, under}
 use Rattle.model.specs.Answer.{Ok}
 use Rattle.model.specs.Record as Record
 use Rattle.model.specs.Record.{SetUp, Asks}
@@ -41,12 +41,12 @@ use Rattle.simulation.proofs.Assembly.{StepsSimulate, left-ready, does}
 use Rattle.simulation.proofs.Compose.{nothing-sent, both-sent}
 
 -- before record k of the bytes, of which the first met the memory m: with no rows for the answers, which make no difference
-abbrev pub stateAt : Memory → List ℕ → List ℕ → ℕ → State
-stateAt m list bytes k = after (before m [] []) list bytes k
+abbrev pub stateAt : Memory → Given → List ℕ → ℕ → State
+stateAt m given bytes k = after (before m [] []) given bytes k
 
 -- the answer to record k
-abbrev pub answerTo : Memory → List ℕ → List ℕ → ℕ → Answer
-answerTo m list bytes k = stateAt m list bytes (suc k) .last
+abbrev pub answerTo : Memory → Given → List ℕ → ℕ → Answer
+answerTo m given bytes k = stateAt m given bytes (suc k) .last
 
 ------------------------------------------------------------------------
 -- The flag after one record
@@ -66,96 +66,96 @@ blank-gate P f g (Asks (Record.Step w)) p v long d t list rows marks reading tab
 held-ready : (h : Model.Hub) (m : Memory) → Holds h m → Sized m → LeftHub h → ready m ≡ true
 held-ready h m H Z (t, e, L) = left-ready m (subst (λ (k : Model.Hub). Holds k m) e H) Z
 
-module _ (steps : StepsSimulate) (m : Memory) (list b : List ℕ) (Z : Sized m) (B : Bytes b) where
+module _ (steps : StepsSimulate) (m : Memory) (given : Given) (b : List ℕ) (Z : Sized m) (B : Bytes b) where
   -- what the flag is after the record
   abbrev Flagged : Type 0
-  Flagged = ready (doneOf m list b .memory) ≡ (ready m || makes (gateIn (ready m) m list b))
+  Flagged = ready (doneOf m given b .memory) ≡ (ready m || makes (gateIn (ready m) m given b))
 
-  abbrev did : (h : Model.Hub) → Holds h m → AsModel h m (exchangeOf list b (doneOf m list b .answer) ∷ []) (doneOf m list b .memory)
-  did = does steps m list b Z B .asModel
+  abbrev did : (h : Model.Hub) → Holds h m → AsModel h m (exchangeOf given b (doneOf m given b .answer) ∷ []) (doneOf m given b .memory)
+  did = does steps m given b Z B .asModel
 
   -- the next hub is set up
-  now-ready : (h : Model.Hub) → Holds h m → LeftHub (apply (inForce list) h b .hub) → ready (doneOf m list b .memory) ≡ true
-  now-ready h H L = held-ready (apply (inForce list) h b .hub) (doneOf m list b .memory) (one-holds (did h H))
-      (holds-written m (doneOf m list b .memory) Z list h b H (one-memory (did h H)) .1) L
+  now-ready : (h : Model.Hub) → Holds h m → LeftHub (apply (inForce given) h b .hub) → ready (doneOf m given b .memory) ≡ true
+  now-ready h H L = held-ready (apply (inForce given) h b .hub) (doneOf m given b .memory) (one-holds (did h H))
+      (holds-written m (doneOf m given b .memory) Z given h b H (one-memory (did h H)) .1) L
 
   module _ (row : Model.Lent) (H : Holds (blank row) m) where
     -- a refusal changes nothing
-    flag-refused : (k : ℕ) → gateIn (ready m) m list b ≡ Refuse k → Flagged
+    flag-refused : (k : ℕ) → gateIn (ready m) m given b ≡ Refuse k → Flagged
     unfolding doneOf doneAs obeyIn
-    flag-refused k g = ap (λ (x : Gate). ready (obeyIn m list x .memory)) g ∙ H .0 ∙ sym (λ i. H .0 i || makes (g i))
+    flag-refused k g = ap (λ (x : Gate). ready (obeyIn m given x .memory)) g ∙ H .0 ∙ sym (λ i. H .0 i || makes (g i))
 
-    -- the table that stands is one that may be given
+    -- the table that stands is one that may be exchangedAt
     fits : tableStands (row .table) ≡ true
     fits = ap (λ (x : Model.Lent). tableStands (x .table)) (H .1) ∙ standing-stands (m .hub)
 
     -- an accepted setup
-    flag-made : (p v n k : ℕ) → gateIn (ready m) m list b ≡ Make p v n k → Flagged
+    flag-made : (p v n k : ℕ) → gateIn (ready m) m given b ≡ Make p v n k → Flagged
     unfolding doneOf doneAs obeyIn
     flag-made p v n k g =
-        let ok : apply (inForce list) (blank row) b .answer ≡ Ok =
-        sym (one-answer (did (blank row) H)) ∙ ap (λ (x : Gate). answerOf (obeyIn m list x .answer)) g in
-        now-ready (blank row) H (setup-left list row b fits ok) ∙ sym (λ i. H .0 i || makes (g i))
+        let ok : apply (inForce given) (blank row) b .answer ≡ Ok =
+        sym (one-answer (did (blank row) H)) ∙ ap (λ (x : Gate). answerOf (obeyIn m given x .answer)) g in
+        now-ready (blank row) H (setup-left given row b fits ok) ∙ sym (λ i. H .0 i || makes (g i))
 
   flagged : (h : Model.Hub) → Holds h m → Flagged
   flagged (up s) L =
-      now-ready (up s) L (left-next (L .store) (under (inForce list) b)) ∙ sym (ap (λ (t : Bool). t || makes (gateIn (ready m) m list b)) (left-ready m L Z))
+      now-ready (up s) L (left-next (L .store) (under (inForce given) b)) ∙ sym (ap (λ (t : Bool). t || makes (gateIn (ready m) m given b)) (left-ready m L Z))
   flagged (blank row) H =
       let x : Worker = workerIn (m .hub) (whoOf (decodedIn b)) in
-      blank-gate (λ (g : Gate). gateIn (ready m) m list b ≡ g → Flagged) (flag-refused row H) (flag-made row H)
-      (Record.decode b) (m .hub .site .p) (m .hub .site .v) (length (m .slots)) (x .doing) (x .announced) list (rowsKept (m .hub))
+      blank-gate (λ (g : Gate). gateIn (ready m) m given b ≡ g → Flagged) (flag-refused row H) (flag-made row H)
+      (Record.decode b) (m .hub .site .p) (m .hub .site .v) (length (m .slots)) (x .doing) (x .announced) (given .totals) (rowsKept (m .hub))
       (m .hub .marks) (marksRead (m .hub)) (tableKept (m .hub))
-      (ap (λ (t : Bool). gateIn t m list b) (H .0))
+      (ap (λ (t : Bool). gateIn t m given b) (H .0))
 
 ------------------------------------------------------------------------
 -- The records of a buffer on memory that holds a hub
 
-module _ (steps : StepsSimulate) (m : Memory) (list bytes : List ℕ) (h : Model.Hub) (H : Holds h m) (Z : Sized m) (B : Bytes bytes) where
+module _ (steps : StepsSimulate) (m : Memory) (given : Given) (bytes : List ℕ) (h : Model.Hub) (H : Holds h m) (Z : Sized m) (B : Bytes bytes) where
   -- record k and its answer
-  abbrev pub given : ℕ → Exchange
-  given k = exchangeOf list (recordAt bytes k) (answerTo m list bytes k)
+  abbrev pub exchangedAt : ℕ → Exchange
+  exchangedAt k = exchangeOf given (recordAt bytes k) (answerTo m given bytes k)
 
   -- the model's hub before record k
   abbrev pub hubTo : ℕ → Model.Hub
-  hubTo k = hubAfter h (sent (map given (upFrom 0 k)))
+  hubTo k = hubAfter h (sent (map exchangedAt (upFrom 0 k)))
 
   -- so far all is as the model has it, and the flag says whether the memory counts as set up
   pub record SoFar (k : ℕ) : Type 0 where
-    pub asModel : AsModel h m (map given (upFrom 0 k)) (stateAt m list bytes k .memory)
-    pub sized : Sized (stateAt m list bytes k .memory)
-    pub flag : stateAt m list bytes k .up ≡ ready (stateAt m list bytes k .memory)
+    pub asModel : AsModel h m (map exchangedAt (upFrom 0 k)) (stateAt m given bytes k .memory)
+    pub sized : Sized (stateAt m given bytes k .memory)
+    pub flag : stateAt m given bytes k .up ≡ ready (stateAt m given bytes k .memory)
 
   module _ (k : ℕ) (S : SoFar k) where
     abbrev x : Memory
-    x = stateAt m list bytes k .memory
+    x = stateAt m given bytes k .memory
 
     abbrev b : List ℕ
     b = recordAt bytes k
 
-    does-next : Does x list b (answerTo m list bytes k) (stateAt m list bytes (suc k) .memory)
+    does-next : Does x given b (answerTo m given bytes k) (stateAt m given bytes (suc k) .memory)
     unfolding after next doneOf
     does-next =
-        subst (λ (u : Bool). Does x list b (doneAs u x list b .answer) (doneAs u x list b .memory)) (sym (S .flag))
-        (does steps x list b (S .sized) (record-bytes bytes k B))
+        subst (λ (u : Bool). Does x given b (doneAs u x given b .answer) (doneAs u x given b .memory)) (sym (S .flag))
+        (does steps x given b (S .sized) (record-bytes bytes k B))
 
-    next-as-model : AsModel (hubTo k) x (given k ∷ []) (stateAt m list bytes (suc k) .memory)
+    next-as-model : AsModel (hubTo k) x (exchangedAt k ∷ []) (stateAt m given bytes (suc k) .memory)
     next-as-model = does-next .asModel (hubTo k) (S .asModel .holds)
 
-    flag-next : stateAt m list bytes (suc k) .up ≡ ready (stateAt m list bytes (suc k) .memory)
+    flag-next : stateAt m given bytes (suc k) .up ≡ ready (stateAt m given bytes (suc k) .memory)
     unfolding after next doneOf
     flag-next =
-        (λ i. S .flag i || makes (gateIn (S .flag i) x list b))
-        ∙ sym (flagged steps x list b (S .sized) (record-bytes bytes k B) (hubTo k) (S .asModel .holds))
-        ∙ sym (λ i. ready (doneAs (S .flag i) x list b .memory))
+        (λ i. S .flag i || makes (gateIn (S .flag i) x given b))
+        ∙ sym (flagged steps x given b (S .sized) (record-bytes bytes k B) (hubTo k) (S .asModel .holds))
+        ∙ sym (λ i. ready (doneAs (S .flag i) x given b .memory))
 
     one-more : SoFar (suc k)
     one-more =
-        let x′ : Memory = stateAt m list bytes (suc k) .memory in
+        let x′ : Memory = stateAt m given bytes (suc k) .memory in
         record {
           asModel =
-              subst (λ (l : List Exchange). AsModel h m l x′) (sym (map-last given k))
-              (both-sent h m x x′ (map given (upFrom 0 k)) (given k ∷ []) (S .asModel) next-as-model);
-          sized = holds-written x x′ (S .sized) list (hubTo k) b (S .asModel .holds) (one-memory next-as-model) .1;
+              subst (λ (l : List Exchange). AsModel h m l x′) (sym (map-last exchangedAt k))
+              (both-sent h m x x′ (map exchangedAt (upFrom 0 k)) (exchangedAt k ∷ []) (S .asModel) next-as-model);
+          sized = holds-written x x′ (S .sized) given (hubTo k) b (S .asModel .holds) (one-memory next-as-model) .1;
           flag = flag-next;
         }
 
@@ -165,15 +165,15 @@ module _ (steps : StepsSimulate) (m : Memory) (list bytes : List ℕ) (h : Model
   so-far (suc k) = one-more k (so-far k)
 
   -- each record does what the contract of one record says
-  pub does-each : (k : ℕ) → Does (stateAt m list bytes k .memory) list (recordAt bytes k) (answerTo m list bytes k) (stateAt m list bytes (suc k) .memory)
+  pub does-each : (k : ℕ) → Does (stateAt m given bytes k .memory) given (recordAt bytes k) (answerTo m given bytes k) (stateAt m given bytes (suc k) .memory)
   does-each k = does-next k (so-far k)
 
   -- and is the call for one record, which tests the memory anew
   pub one-by-one : (k : ℕ)
-      → (stateAt m list bytes (suc k) .memory ≡ doneOf (stateAt m list bytes k .memory) list (recordAt bytes k) .memory)
-      × (answerTo m list bytes k ≡ doneOf (stateAt m list bytes k .memory) list (recordAt bytes k) .answer)
+      → (stateAt m given bytes (suc k) .memory ≡ doneOf (stateAt m given bytes k .memory) given (recordAt bytes k) .memory)
+      × (answerTo m given bytes k ≡ doneOf (stateAt m given bytes k .memory) given (recordAt bytes k) .answer)
   unfolding after next doneOf
   one-by-one k =
-      let x : Memory = stateAt m list bytes k .memory in
+      let x : Memory = stateAt m given bytes k .memory in
       let f = so-far k .flag in
-      (λ i. doneAs (f i) x list (recordAt bytes k) .memory, λ i. doneAs (f i) x list (recordAt bytes k) .answer)
+      (λ i. doneAs (f i) x given (recordAt bytes k) .memory, λ i. doneAs (f i) x given (recordAt bytes k) .answer)

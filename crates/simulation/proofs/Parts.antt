@@ -7,13 +7,13 @@ use native.Mathlib.Omega.{arith}
 use lib.ListN.{length, take, drop, length-append, length-drop, drop-of-length-le}
 use lib.Seq.{drop-drop, take-all, take-append-le, drop-append-le}
 use Rattle.model.specs.Store.{upFrom}
-use Rattle.model.specs.Rules.{inForce, under, allUnder}
+use Rattle.model.specs.Rules.{Given, inForce, under, allUnder}
 use Rattle.model.specs.Record.{cut, recordsOf}
 use Rattle.model.specs.Demand.{Exchange}
 use Rattle.simulation.specs.Holds.{sent}
 use Rattle.simulation.specs.Records.{recordAt, recordsIn}
 use Rattle.simulation.specs.Buffer.{exchangeAt}
-use Rattle.simulation.specs.Demands.{CallIn, ForRecord, ForBuffer, exchanged, exchanges, listIn, bytesIn, AppliedAll, InParts}
+use Rattle.simulation.specs.Demands.{CallIn, ForRecord, ForBuffer, exchanged, exchanges, givenIn, bytesIn, AppliedAll, InParts}
 use Rattle.simulation.proofs.Below.{map-map}
 
 -- k records are taken, and the bytes l are left
@@ -86,20 +86,20 @@ one-record (x ∷ l) h k =
     λ i. sym (take-all 16 (x ∷ l) k) i ∷ sym none i
 
 -- the records that a call was sent, each with the call's list
-pub call-records : (c : CallIn) → AppliedAll c → sent (exchanged c) ≡ allUnder (inForce (listIn c)) (recordsOf (bytesIn c))
-call-records (ForRecord list b y m) (h, k) = ap (allUnder (inForce list)) (one-record b h k)
-call-records (ForBuffer list bytes kinds numbers n kinds′ numbers′ m) e =
-    sym (map-map (λ (x : Exchange). under (inForce (x .list)) (x .bytes)) (exchangeAt list bytes kinds′ numbers′) (upFrom 0 n))
-    ∙ map-map (under (inForce list)) (recordAt bytes) (upFrom 0 n)
-    ∙ ap (λ (k : ℕ). allUnder (inForce list) (map (recordAt bytes) (upFrom 0 k))) e
-    ∙ ap (allUnder (inForce list)) (whole bytes)
+pub call-records : (c : CallIn) → AppliedAll c → sent (exchanged c) ≡ allUnder (inForce (givenIn c)) (recordsOf (bytesIn c))
+call-records (ForRecord given b y m) (h, k) = ap (allUnder (inForce given)) (one-record b h k)
+call-records (ForBuffer given bytes kinds numbers n kinds′ numbers′ m) e =
+    sym (map-map (λ (x : Exchange). under (inForce (x .given)) (x .bytes)) (exchangeAt given bytes kinds′ numbers′) (upFrom 0 n))
+    ∙ map-map (under (inForce given)) (recordAt bytes) (upFrom 0 n)
+    ∙ ap (λ (k : ℕ). allUnder (inForce given) (map (recordAt bytes) (upFrom 0 k))) e
+    ∙ ap (allUnder (inForce given)) (whole bytes)
 
-pub parts-records : (list : List ℕ) (cs : List CallIn) (file : List ℕ) → InParts list cs file
-    → sent (exchanges cs) ≡ allUnder (inForce list) (recordsOf file)
+pub parts-records : (given : Given) (cs : List CallIn) (file : List ℕ) → InParts given cs file
+    → sent (exchanges cs) ≡ allUnder (inForce given) (recordsOf file)
 unfolding InParts exchanges recordsOf cut
-parts-records list [] file F = ap (λ (l : List ℕ). allUnder (inForce list) (recordsOf l)) (sym F)
-parts-records list (c ∷ cs) file (A, same, rest, e, last, F) =
-    map-append (λ (x : Exchange). under (inForce (x .list)) (x .bytes)) (exchanged c) (exchanges cs)
-    ∙ (λ i. (call-records c A ∙ ap (λ (l : List ℕ). allUnder (inForce l) (recordsOf (bytesIn c))) same) i ++ parts-records list cs rest F i)
-    ∙ sym (map-append (under (inForce list)) (recordsOf (bytesIn c)) (recordsOf rest))
-    ∙ ap (allUnder (inForce list)) (sym (in-parts (bytesIn c) rest last) ∙ ap recordsOf (sym e))
+parts-records given [] file F = ap (λ (l : List ℕ). allUnder (inForce given) (recordsOf l)) (sym F)
+parts-records given (c ∷ cs) file (A, same, rest, e, last, F) =
+    map-append (λ (x : Exchange). under (inForce (x .given)) (x .bytes)) (exchanged c) (exchanges cs)
+    ∙ (λ i. (call-records c A ∙ ap (λ (g : Given). allUnder (inForce g) (recordsOf (bytesIn c))) same) i ++ parts-records given cs rest F i)
+    ∙ sym (map-append (under (inForce given)) (recordsOf (bytesIn c)) (recordsOf rest))
+    ∙ ap (allUnder (inForce given)) (sym (in-parts (bytesIn c) rest last) ∙ ap recordsOf (sym e))

@@ -10,7 +10,7 @@ use lib.Dec.{ltb, leb, eqb, lit<}
 use lib.ListN.{length, getD}
 use Rattle.model.specs.Store as Model
 use Rattle.model.specs.Store.{Store, Range, blank, up, lastClock, workerAt, slotAt, newestOf, countOf}
-use Rattle.model.specs.Rules.{twelveDigits, inForce}
+use Rattle.model.specs.Rules.{Given, twelveDigits, inForce}
 use Rattle.model.specs.Totals.{goesOn, Sum}
 use Rattle.model.specs.Answer.{Answer, Ok, Going, Freed, At, Value, None, Below, Done, No, Stepped, Applied}
 use Rattle.model.specs.Record.{SetUp, Begin, Step, Decoded, Asks, Refuses, commandOf, unusedZero, decode, listFits}
@@ -133,16 +133,16 @@ SoundIn (up s) = Sound s
 numbers-small : All (λ (i : ℕ). i < 256) onReading
 numbers-small = search arith
 
-decoded-ranged : (list : List ℕ) (h : Model.Hub) → SoundIn h → (d : Decoded) → RangedRead d → RangedBy (applyDecoded (inForce list) h d)
+decoded-ranged : (given : Given) (h : Model.Hub) → SoundIn h → (d : Decoded) → RangedRead d → RangedBy (applyDecoded (inForce given) h d)
 unfolding applyDecoded obey setUp step
-decoded-ranged list h S (Refuses k) r = r
-decoded-ranged list (blank row) S (Asks (SetUp z)) r = cond-both RangedBy (inRanges z && leb (z .N) (length (row .row)) && listFits (z .V') list) _ _ (λ e. tt) (λ e. lit< tt)
-decoded-ranged list (blank row) S (Asks (Begin w o)) r = lit< tt
-decoded-ranged list (blank row) S (Asks (Step w)) r = lit< tt
-decoded-ranged list (up s) S (Asks (SetUp z)) r = lit< tt
-decoded-ranged list (up s) S (Asks (Begin w o)) r =
-    begin-by RangedBy (inForce list) s w o (λ k n. All-get (λ (i : ℕ). i < 256) onReading numbers-small k n) (λ t. tt)
-decoded-ranged list (up s) S (Asks (Step w)) r =
+decoded-ranged given h S (Refuses k) r = r
+decoded-ranged given (blank row) S (Asks (SetUp z)) r = cond-both RangedBy (inRanges z && leb (z .N) (length (row .row)) && listFits (z .V') (given .totals)) _ _ (λ e. tt) (λ e. lit< tt)
+decoded-ranged given (blank row) S (Asks (Begin w o)) r = lit< tt
+decoded-ranged given (blank row) S (Asks (Step w)) r = lit< tt
+decoded-ranged given (up s) S (Asks (SetUp z)) r = lit< tt
+decoded-ranged given (up s) S (Asks (Begin w o)) r =
+    begin-by RangedBy (inForce given) s w o (λ k n. All-get (λ (i : ℕ). i < 256) onReading numbers-small k n) (λ t. tt)
+decoded-ranged given (up s) S (Asks (Step w)) r =
     cond-both RangedBy (ltb w (s .site .P)) _ _
     (λ e. let below : w < s .site .P = ltb-true w (s .site .P) e in step-ranged s S w below (workerAt s w .doing) (S .places w below))
     (λ e. lit< tt)
@@ -165,8 +165,8 @@ in-range (Is.Below x) r = tt
 in-range Is.Done r = tt
 in-range (Is.No k) r = r
 
-pub comes-back : (list : List ℕ) (h : Model.Hub) (m : Memory) (b : List ℕ) (y : Code.Answer) → Holds h m → answerOf y ≡ apply (inForce list) h b .answer
+pub comes-back : (given : Given) (h : Model.Hub) (m : Memory) (b : List ℕ) (y : Code.Answer) → Holds h m → answerOf y ≡ apply (inForce given) h b .answer
     → answerFrom (kindOf y) (numberOf y) ≡ y
 unfolding apply
-comes-back list h m b y H e =
-    faithful y (in-range y (subst Ranged (sym e) (decoded-ranged list h (held-sound h m H) (decode b) (read-ranged b))))
+comes-back given h m b y H e =
+    faithful y (in-range y (subst Ranged (sym e) (decoded-ranged given h (held-sound h m H) (decode b) (read-ranged b))))

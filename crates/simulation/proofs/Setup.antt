@@ -12,7 +12,7 @@ use Rattle.queue.proofs.MemoryLaws.{overAt-none}
 use Rattle.model.specs.Store as Model
 use Rattle.model.specs.Store.{blank, up, lastClock}
 use Rattle.model.specs.Batch.{batchOf}
-use Rattle.model.specs.Rules.{inForce}
+use Rattle.model.specs.Rules.{Given, inForce}
 use Rattle.model.specs.Answer as Answers
 use Rattle.model.specs.Record as Record
 use Rattle.model.specs.Record.{Sizes, commandOf, unusedZero, decode, rowsOf, listFits}
@@ -83,7 +83,7 @@ same-sizes z long h =
 ------------------------------------------------------------------------
 -- A record that was read as r
 
-module _ (m : Memory) (Z : Sized m) (list : List ℕ) where
+module _ (m : Memory) (Z : Sized m) (given : Given) where
   abbrev lent : Model.Lent
   lent = lentIn m
 
@@ -91,14 +91,14 @@ module _ (m : Memory) (Z : Sized m) (list : List ℕ) where
   row = lent .row
 
   -- an accepted setup
-  made : (z : Sizes) → InRanges z → z .N ≤ length (m .slots) → listFits (z .V') list ≡ true
-      → Follows list (blank lent) m (Make (z .P) (z .V') (z .N) (z .clock))
-      (record { hub = up (fresh (batchOf (z .P)) z (rowsOf list) (lent .table) row); answer = Answers.Ok })
+  made : (z : Sizes) → InRanges z → z .N ≤ length (m .slots) → listFits (z .V') (given .totals) ≡ true
+      → Follows given (blank lent) m (Make (z .P) (z .V') (z .N) (z .clock))
+      (record { hub = up (fresh (batchOf (z .P)) z (rowsOf (given .totals)) (lent .table) row); answer = Answers.Ok })
   unfolding obeyIn setUpIn fresh
   made z I long lf =
       record {
         memory =
-            memory-path (hub-made z list row (m .hub) (I .P≤16) (rows-few (z .V') list lf) (Z .rights)) (slots-made (m .slots) (z .V') (z .N) long)
+            memory-path (hub-made z (given .totals) row (m .hub) (I .P≤16) (rows-few (z .V') (given .totals) lf) (Z .rights)) (slots-made (m .slots) (z .V') (z .N) long)
             (newest-made (m .newest) (z .V') (omega (arith, I .V≤256, Z .newest)) (omega (arith, I .V≤256)))
             (free-made (m .free) (z .N) (z .N - z .V') (z .V') (omega (arith, I .V≤N)) (omega (arith, I .N≤2048, Z .free)) (omega (arith, I .N≤2048)))
             (overAt-none (m .queue) 0 []) (overAt-none (m .lens) 0 []) (merged-made (z .P) (m .merged));
@@ -106,14 +106,14 @@ module _ (m : Memory) (Z : Sized m) (list : List ℕ) where
       }
 
   set-up : (z : Sizes) → z .clock ≤ lastClock
-      → Follows list (blank lent) m (cond (sizesOk (z .P) (z .V') (z .N) (z .clock) (length (m .slots)) && listFits (z .V') list) (Make (z .P) (z .V') (z .N) (z .clock)) (Refuse 5))
-      (setUp (inForce list) (blank lent) z)
+      → Follows given (blank lent) m (cond (sizesOk (z .P) (z .V') (z .N) (z .clock) (length (m .slots)) && listFits (z .V') (given .totals)) (Make (z .P) (z .V') (z .N) (z .clock)) (Refuse 5))
+      (setUp (inForce given) (blank lent) z)
   unfolding setUp
   set-up z h =
       let long : length (m .slots) ≡ length row = sym (length-map (m .slots) slotOf) in
-      both (Follows list (blank lent) m) (sizesOk (z .P) (z .V') (z .N) (z .clock) (length (m .slots)) && listFits (z .V') list)
-      (inRanges z && leb (z .N) (length row) && listFits (z .V') list) _ _ _ _
-      (ap (λ (t : Bool). t && listFits (z .V') list) (same-sizes z (length (m .slots)) h ∙ ap (λ (n : ℕ). inRanges z && leb (z .N) n) long))
+      both (Follows given (blank lent) m) (sizesOk (z .P) (z .V') (z .N) (z .clock) (length (m .slots)) && listFits (z .V') (given .totals))
+      (inRanges z && leb (z .N) (length row) && listFits (z .V') (given .totals)) _ _ _ _
+      (ap (λ (t : Bool). t && listFits (z .V') (given .totals)) (same-sizes z (length (m .slots)) h ∙ ap (λ (n : ℕ). inRanges z && leb (z .N) n) long))
       (λ e.
       let t = and-both (inRanges z && leb (z .N) (length row)) _ e in
       let a = and-both (inRanges z) (leb (z .N) (length row)) (t .0) in
@@ -122,7 +122,7 @@ module _ (m : Memory) (Z : Sized m) (list : List ℕ) where
 
   -- the code does what the model's hub does that is not set up and whose row is lent
   pub follows-blank : (r : Record.Decoded) → ClockFits r
-      → Follows list (blank lent) m (gateBy (decodedRep r) false (length (m .slots)) list (m .hub)) (applyDecoded (inForce list) (blank lent) r)
+      → Follows given (blank lent) m (gateBy (decodedRep r) false (length (m .slots)) given (m .hub)) (applyDecoded (inForce given) (blank lent) r)
   unfolding whoOf gateOf applyDecoded obey
   follows-blank (Record.Refuses k) f = refused (blank lent) m k refl
   follows-blank (Record.Asks (Record.SetUp z)) f = set-up z f

@@ -12,9 +12,8 @@ use Rattle.model.specs.Store as Model
 use Rattle.model.specs.Store.{markCount, Store, Range, up, absent, lastClock, startWorker, workerAt, slotAt, newestOf}
 use Rattle.model.specs.Rights.{tableStands}
 use Rattle.model.specs.Rules.{Rules, Ruled}
-use Rattle.model.specs.Record.{rowsOf}
-use Rattle.model.specs.Apply.{fresh, apply, applyRuled, hubAfter}
-use Rattle.model.specs.Demand.{Call, Plain, occurrences, All}
+use Rattle.model.specs.Apply.{madeBy, apply, applyRuled, hubAfter}
+use Rattle.model.specs.Demand.{Call, Plain, startOf, occurrences, All}
 use Rattle.model.specs.About.{about}
 use Rattle.model.specs.Reached.{sumBy, inHand, Bounds}
 use Rattle.model.proofs.Basic.{hit-same, hit-eq, occurrences-head, up-inj, All-at}
@@ -105,13 +104,13 @@ reached {s} L =
     let rules : Rules = L .setup .rules in
     let A = accepts rules (L .row) (L .setup .bytes) (L .accepted) in
     reached-from rules (L .row .table) (L .records)
-    (fresh (rules .batch (A .sizes .P)) (A .sizes) (rowsOf (rules .list)) (L .row .table) (L .row .row)) s (reached-start rules (L .batch) A)
+    (madeBy rules (A .sizes) (L .row)) s (reached-start rules (L .batch) A)
     (subst (λ (h : Model.Hub). hubAfter h (L .records) ≡ up s) (A .is) (L .left))
 
 ------------------------------------------------------------------------
 -- What the invariant says of ranges and slots
 
-module _ {now : ℕ} {s : Store} {olds : List (List ℕ)} {h : List Call} {o : List ℕ} {p : Plain} (I : Inv now s olds h o p) where
+module _ {start : ℕ → Model.Content} {now : ℕ} {s : Store} {olds : List (List ℕ)} {h : List Call} {o : List ℕ} {p : Plain} (I : Inv start now s olds h o p) where
   in-chain : (r : ℕ) → r < s .site .V' → (c : ℕ) → 0 < occurrences c (chain (ctx s olds) r) → c < s .site .N
   in-chain r b c z = omega (arith, chain-in I r b c z, I .slotsLength)
 
@@ -255,7 +254,7 @@ reached-sound first table fits s R =
       marks = I .marksLength;
     }
   where
-    I : Inv (R .now) s (R .olds) (R .calls) (R .order) (R .plain)
+    I : Inv (startOf (first .given)) (R .now) s (R .olds) (R .calls) (R .order) (R .plain)
     I = R .inv
 
     B : Bounds s

@@ -4,6 +4,7 @@ use mathlib.Core.Bool.{Bool, false, _||_}
 use mathlib.Core.List.{List, [], _∷_, map}
 use Prim.Native.Nat.{ℕ}
 use lib.ListN.{getD}
+use Rattle.model.specs.Rules.{Given}
 use Rattle.lists.specs.Over.{over}
 use Rattle.model.specs.Store.{Hub, upFrom}
 use Rattle.model.specs.Record.{SetUp, Begin, Step, Decoded, Asks, Refuses, decode}
@@ -23,9 +24,9 @@ use Rattle.simulation.specs.Loop.{RanAll}
 abbrev pub answerAt : List ℕ → List ℕ → ℕ → Answer
 answerAt kinds numbers k = answerFrom (getD kinds k 0) (getD numbers k 0)
 
--- record k of the bytes, with the list that was lent, and its answer
-abbrev pub exchangeAt : List ℕ → List ℕ → List ℕ → List ℕ → ℕ → Exchange
-exchangeAt list bytes kinds numbers k = exchangeOf list (recordAt bytes k) (answerAt kinds numbers k)
+-- record k of the bytes, with what was given for a setup, and its answer
+abbrev pub exchangeAt : Given → List ℕ → List ℕ → List ℕ → ℕ → Exchange
+exchangeAt given bytes kinds numbers k = exchangeOf given (recordAt bytes k) (answerAt kinds numbers k)
 
 -- A record that reads as d sets the hub up: it is a setup, and `ok` says that it was answered so.
 unfoldable pub setsUp : Decoded → Bool → Bool
@@ -43,16 +44,16 @@ EachOnAny up m (b ∷ bs) [] m′ = ⊥
 EachOnAny up m (b ∷ bs) (y ∷ ys) m′ =
     (x : Memory) × OnAny up m b y x × EachOnAny (up || setsUp (decode b) (said (answerOf y) .ok)) x bs ys m′
 
--- The records of the bytes, any bytes, with the list lent, met the memory m, the first n of them, as many as there is room for; their answers were written over the
+-- The records of the bytes, any bytes, with what is given for a setup, met the memory m, the first n of them, as many as there is room for; their answers were written over the
 -- two rows, and the memory m′ was left.
-pub record Applies (m : Memory) (list bytes kinds numbers : List ℕ) (n : ℕ) (m′ : Memory) (kinds′ numbers′ : List ℕ) : Type 0 where
+pub record Applies (m : Memory) (given : Given) (bytes kinds numbers : List ℕ) (n : ℕ) (m′ : Memory) (kinds′ numbers′ : List ℕ) : Type 0 where
   pub count : n ≡ countOf bytes kinds numbers
   pub answers : List Answer
   pub answerKinds : kinds′ ≡ over (map kindOf answers) kinds
   pub answerNumbers : numbers′ ≡ over (map numberOf answers) numbers
   -- Memory that holds a hub of the model: what the model does is done, and the numbers of an answer stand for it. This is demand 2 (H6.2).
-  pub asModel : (h : Hub) → Holds h m → AsModel h m (map (exchangeAt list bytes kinds′ numbers′) (upFrom 0 n)) m′
+  pub asModel : (h : Hub) → Holds h m → AsModel h m (map (exchangeAt given bytes kinds′ numbers′) (upFrom 0 n)) m′
   pub readBack : Decided m → map (answerAt kinds′ numbers′) (upFrom 0 n) ≡ answers
   -- Any memory: demand 1 (H6.1), and what the loop does.
   pub onAny : EachOnAny (ready m) m (map (recordAt bytes) (upFrom 0 n)) answers m′
-  pub ran : RanAll m list bytes kinds numbers n m′ kinds′ numbers′
+  pub ran : RanAll m given bytes kinds numbers n m′ kinds′ numbers′

@@ -20,9 +20,9 @@ Holds (up s) m = Left s m
 abbrev pub Decided : Memory → Type 0
 Decided m = (h : Hub) × Holds h m
 
--- the records of what was sent and answered, under the rules in force, each with its list
+-- the records of what was sent and answered, under the rules in force, each with what was given for it
 abbrev pub sent : List Exchange → List Ruled
-sent es = map (λ e. under (inForce (e .list)) (e .bytes)) es
+sent es = map (λ e. under (inForce (e .given)) (e .bytes)) es
 
 -- the memory after a list of records that starts with hub h: each writes the hub that it leaves over the memory
 unfoldable pub memoryAfter : Hub → List Ruled → Memory → Memory

@@ -5,6 +5,7 @@ use mathlib.Core.List.{List, [], _∷_}
 use mathlib.Core.Option.{Option, none, some}
 use Prim.Native.Nat.{ℕ, _<_}
 use lib.Dec.{ltb}
+use Rattle.model.specs.Rules.{Given}
 use Rattle.model.specs.Store.{Hub}
 use Rattle.model.specs.Record.{Sizes, SetUp, Begin, Step, Decoded, Asks, Refuses, decode}
 use Rattle.model.specs.Demand.{occurrences, Exchange}
@@ -58,15 +59,15 @@ pub record OnAny (up : Bool) (m : Memory) (b : List ℕ) (y : Answer) (m′ : Me
   -- a setup on memory that counts as set up gets 9 (H8.6)
   pub nine : up ≡ true → (z : Sizes) → decode b ≡ Asks (SetUp z) → answerOf y ≡ No 9
 
--- what was sent, with the list that was lent, and answered
-abbrev pub exchangeOf : List ℕ → List ℕ → Answer → Exchange
-exchangeOf list b y = record { list = list; bytes = b; answer = answerOf y }
+-- what was sent, with what was given for a setup, and answered
+abbrev pub exchangeOf : Given → List ℕ → Answer → Exchange
+exchangeOf given b y = record { given = given; bytes = b; answer = answerOf y }
 
--- A record of the bytes b, any bytes and any number of them, with the list that is lent, any bytes too, met the memory m, was answered y and left
+-- A record of the bytes b, any bytes and any number of them, with what is given for a setup, met the memory m, was answered y and left
 -- the memory m′.
-pub record Does (m : Memory) (list b : List ℕ) (y : Answer) (m′ : Memory) : Type 0 where
+pub record Does (m : Memory) (given : Given) (b : List ℕ) (y : Answer) (m′ : Memory) : Type 0 where
   -- Memory that holds a hub of the model: what the model does is done. This is demand 2 (H6.2). Where the memory does not count as set up, every
   -- record but a setup that gets that far gets 8, and a setup is accepted or gets 5.
-  pub asModel : (h : Hub) → Holds h m → AsModel h m (exchangeOf list b y ∷ []) m′
+  pub asModel : (h : Hub) → Holds h m → AsModel h m (exchangeOf given b y ∷ []) m′
   -- Any memory.
   pub onAny : OnAny (ready m) m b y m′

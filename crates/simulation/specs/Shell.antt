@@ -4,6 +4,7 @@ use mathlib.Core.Bool.{Bool}
 use mathlib.Core.List.{List, [], map}
 use Prim.Native.Nat.{ℕ, _+_, _*_, _-_, _/_, _%_}
 use lib.ListN.{length, getD, set, take, replicate}
+use Rattle.model.specs.Rules.{Given}
 use Rattle.lists.specs.Over.{over, overAt}
 use Rattle.values.specs.declared.Answer.{Answer}
 use Rattle.values.specs.declared.Answer.the-variants.{Ok, Going, Freed, Done, No}
@@ -195,11 +196,11 @@ goIn m w x d = finishIn m w x (stepAtIn m x d)
 ------------------------------------------------------------------------
 -- A record
 
--- a setup that is accepted, with the bytes of the list of totals; the table that stands is kept
-unfoldable pub setUpIn : Memory → List ℕ → ℕ → ℕ → ℕ → ℕ → Memory
-setUpIn m list p v n k =
+-- a setup that is accepted, with what is given for it; the table that stands is kept
+unfoldable pub setUpIn : Memory → Given → ℕ → ℕ → ℕ → ℕ → Memory
+setUpIn m given p v n k =
     record {
-      hub = freshHub (siteMade (m .hub) list p v n) k;
+      hub = freshHub (siteMade (m .hub) (given .totals) p v n) k;
       slots = madeTo (m .slots) v n;
       newest = fillTo (m .newest) short v;
       free = fillTo (m .free) (λ j. short (n - 1 - j)) (n - v);
@@ -209,22 +210,22 @@ setUpIn m list p v n k =
     }
 
 -- by the decision on it
-unfoldable pub obeyIn : Memory → List ℕ → Gate → Result
-obeyIn m list (Refuse k) = answered m (No k)
-obeyIn m list (Make p v n k) = answered (setUpIn m list p v n k) Ok
-obeyIn m list (Start w d) = answered (withRecord m w (atPlace (workerIn (m .hub) w) d)) Ok
-obeyIn m list (Go w) = goIn m w (workerIn (m .hub) w) (workerIn (m .hub) w .doing)
+unfoldable pub obeyIn : Memory → Given → Gate → Result
+obeyIn m given (Refuse k) = answered m (No k)
+obeyIn m given (Make p v n k) = answered (setUpIn m given p v n k) Ok
+obeyIn m given (Start w d) = answered (withRecord m w (atPlace (workerIn (m .hub) w) d)) Ok
+obeyIn m given (Go w) = goIn m w (workerIn (m .hub) w) (workerIn (m .hub) w .doing)
 
 -- the decision, where `up` says that the memory counts as set up
-abbrev pub gateIn : Bool → Memory → List ℕ → List ℕ → Gate
-gateIn up m list b =
+abbrev pub gateIn : Bool → Memory → Given → List ℕ → Gate
+gateIn up m given b =
     let x = workerIn (m .hub) (whoOf (decodedIn b)) in
-    gateOf (decodedIn b) up (m .hub .site .p) (m .hub .site .v) (length (m .slots)) (x .doing) (x .announced) list (rowsKept (m .hub))
+    gateOf (decodedIn b) up (m .hub .site .p) (m .hub .site .v) (length (m .slots)) (x .doing) (x .announced) (given .totals) (rowsKept (m .hub))
     (m .hub .marks) (marksRead (m .hub)) (tableKept (m .hub))
 
-unfoldable pub doneAs : Bool → Memory → List ℕ → List ℕ → Result
-doneAs up m list b = obeyIn m list (gateIn up m list b)
+unfoldable pub doneAs : Bool → Memory → Given → List ℕ → Result
+doneAs up m given b = obeyIn m given (gateIn up m given b)
 
--- a record of the bytes b, with the list lent
-unfoldable pub doneOf : Memory → List ℕ → List ℕ → Result
-doneOf m list b = doneAs (ready m) m list b
+-- a record of the bytes b, with what is given for a setup
+unfoldable pub doneOf : Memory → Given → List ℕ → Result
+doneOf m given b = doneAs (ready m) m given b

@@ -7,7 +7,7 @@ use Prim.Native.Nat.{ℕ, _+_, _≤_, _<_}
 use native.Mathlib.Omega.{arith}
 use lib.Dec.{ltb}
 use lib.ListN.{length, getD}
-use Rattle.model.specs.Store.{absent, Store, newestOf}
+use Rattle.model.specs.Store.{Content, absent, Store, newestOf}
 use Rattle.model.specs.Demand.{Call, Plain, occurrences}
 use Rattle.model.specs.Reached.{sumBy}
 use Rattle.model.proofs.Basic.{hit, hit-eq, lt-cases}
@@ -35,7 +35,7 @@ below≤1 c n = go (ltb c n)
 pub below-in : (c n : ℕ) → 0 < below c n → c < n
 below-in c n h = ⊎-elim (λ u. u .0) (λ u. absurd (omega (arith, ap {B = ℕ} (λ (t : Bool). cond t 1 0) (u .1), h))) (lt-cases c n)
 
-module _ {now : ℕ} {s : Store} {olds : List (List ℕ)} {h : List Call} {o : List ℕ} {p : Plain} (I : Inv now s olds h o p) where
+module _ {start : ℕ → Content} {now : ℕ} {s : Store} {olds : List (List ℕ)} {h : List Call} {o : List ℕ} {p : Plain} (I : Inv start now s olds h o p) where
   x : Ctx
   x = ctx s olds
 

@@ -11,7 +11,7 @@ use lib.Dec.{ltb, leb, eqb}
 use lib.ListN.{length, getD, set, take, drop, replicate}
 use lib.Seq.{getD-set-same, getD-set-other, set-out}
 use borrow.Author.Tests as Tests
-use Rattle.model.specs.Store.{absent, Reading, Slot, Range, OpenAnnounce, OpenPass, CloseWithdraw, MarkKeep, MarkRelease, Doing, Idle}
+use Rattle.model.specs.Store.{Content, absent, Reading, Slot, Range, OpenAnnounce, OpenPass, CloseWithdraw, MarkKeep, MarkRelease, Doing, Idle}
 use Rattle.model.specs.Store.{PutPublish, PutStamp, PutHandIn, FlushTake, FlushRead, FlushFree, OnTime, ReadEnter, ReadStand, GetShow}
 use Rattle.model.specs.Store.{Worker, startWorker, Store, workerAt, slotAt, newestOf, rangeOf, withWorker, withDoing, place}
 use Rattle.model.specs.About.{Hand, Empty, Covered, Merged, Needless, about}
@@ -157,7 +157,7 @@ All-points : (Q : Worker → Type 0) (l : List Worker) → ((i : ℕ) → i < le
 All-points Q [] f = tt
 All-points Q (y ∷ l) f = (f 0 (omega arith), All-points Q l (λ i h. f (suc i) (omega (arith, h))))
 
-module _ (now : ℕ) (s : Store) (olds : List (List ℕ)) (h : List Call) (o : List ℕ) (p : Plain) (I : Inv now s olds h o p) (S : StoreByHigh s) (w : ℕ)
+module _ {start : ℕ → Content} (now : ℕ) (s : Store) (olds : List (List ℕ)) (h : List Call) (o : List ℕ) (p : Plain) (I : Inv start now s olds h o p) (S : StoreByHigh s) (w : ℕ)
     (wb : w < s .site .P) where
   -- no high of a pool is above the clock
   low : (v : ℕ) → v < s .site .P → Low (s .clock) (workerAt s v)

@@ -9,7 +9,7 @@ use lib.Dec.{ltb}
 use Rattle.model.specs.Store.{markCount, Hub, blank, up}
 use Rattle.model.specs.Marks.{markOf}
 use Rattle.model.specs.Batch.{batchOf}
-use Rattle.model.specs.Rules.{Rules, document01, inForce, Allowed, under, allUnder}
+use Rattle.model.specs.Rules.{Given, Rules, document01, inForce, Allowed, under, allUnder}
 use Rattle.model.specs.Answer.{Applied}
 use Rattle.model.specs.Record.{SetUp, Begin, Step, Decoded, Asks, Refuses, decode}
 use Rattle.model.specs.Apply.{refuse, setUp, terms, namedBelow, groupThere, valueWithin, begin, obey, applyDecoded, apply}
@@ -41,28 +41,28 @@ one-test true true false d x₀ x₁ x₂ x₃ y = inr refl
 one-test true false c d x₀ x₁ x₂ x₃ y = inr refl
 one-test false b c d x₀ x₁ x₂ x₃ y = inr refl
 
-only-16 : (l : List ℕ) (h : Hub) (d : Decoded)
-    → (applyDecoded (inForce l) h d ≡ refuse h 16) ⊎ (applyDecoded (inForce l) h d ≡ applyDecoded (document01 l) h d)
+only-16 : (g : Given) (h : Hub) (d : Decoded)
+    → (applyDecoded (inForce g) h d ≡ refuse h 16) ⊎ (applyDecoded (inForce g) h d ≡ applyDecoded (document01 g) h d)
 unfolding applyDecoded obey setUp begin
-only-16 l (blank row) (Asks (SetUp z)) = inr refl
-only-16 l (up s) (Asks (SetUp z)) = inr refl
-only-16 l (blank row) (Asks (Begin w o)) = inr refl
-only-16 l (up s) (Asks (Begin w o)) =
+only-16 g (blank row) (Asks (SetUp z)) = inr refl
+only-16 g (up s) (Asks (SetUp z)) = inr refl
+only-16 g (blank row) (Asks (Begin w o)) = inr refl
+only-16 g (up s) (Asks (Begin w o)) =
     let x = terms (s .site .rows) o in
     one-test (ltb w (s .site .P)) (namedBelow (s .site .V') (x .register) && namedBelow markCount (markOf (x .mark))) (groupThere (s .site .rows) (x .group))
-    (valueWithin (inForce l .limit) (x .value)) _ _ _ _ _
-only-16 l (blank row) (Asks (Step w)) = inr refl
-only-16 l (up s) (Asks (Step w)) = inr refl
-only-16 l h (Refuses k) = inr refl
+    (valueWithin (inForce g .limit) (x .value)) _ _ _ _ _
+only-16 g (blank row) (Asks (Step w)) = inr refl
+only-16 g (up s) (Asks (Step w)) = inr refl
+only-16 g h (Refuses k) = inr refl
 
 pub document : Document
 unfolding apply
 document =
     record {
-      in-force = λ l. theorems (inForce l) refl;
-      earlier = λ l. theorems (document01 l) refl;
+      in-force = λ g. theorems (inForce g) refl;
+      earlier = λ g. theorems (document01 g) refl;
       changing = demand;
       month-end = month-end;
       batch-sizes = as-documented;
-      refusal-16 = λ l h b. only-16 l h (decode b);
+      refusal-16 = λ g h b. only-16 g h (decode b);
     }

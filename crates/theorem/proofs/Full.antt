@@ -8,7 +8,7 @@ use Prim.Native.Nat.{ℕ, zero, suc, _≤_, _<_}
 use native.Mathlib.Omega.{arith}
 use lib.ListN.{length, getD}
 use lib.Dec.{eqb}
-use Rattle.model.specs.Store.{absent, Store, slotAt}
+use Rattle.model.specs.Store.{Content, absent, Store, slotAt}
 use Rattle.model.specs.Answer.{No}
 use Rattle.model.specs.Steps.{putPublish, timeStep, stepAt}
 use Rattle.model.specs.Demand.{Call, Plain, occurrences}
@@ -46,7 +46,7 @@ list-is s (c ∷ l) above (suc n) h big k b =
     ap (listFrom s n) (k .1) ∙ list-is s l c n (omega arith) big (k .2) (λ d z. b d (omega (arith, z))) in
     rw (lt-ltb c (s .site .N) (b c (omega (arith, hit-same c))), tail)
 
-module _ {now : ℕ} {s : Store} {olds : List (List ℕ)} {h : List Call} {o : List ℕ} {p : Plain} (I : Inv now s olds h o p) where
+module _ {start : ℕ → Content} {now : ℕ} {s : Store} {olds : List (List ℕ)} {h : List Call} {o : List ℕ} {p : Plain} (I : Inv start now s olds h o p) where
   pub full : s .free ≡ [] → (c : ℕ) → c < s .site .N → (r : ℕ) × (r < s .site .V') × (0 < occurrences c (chain (ctx s olds) r))
   unfolding occurrences
   full e c b = go (pend c (s .workers) (s .queue)) refl

@@ -9,6 +9,7 @@ use native.Mathlib.Omega.{arith}
 use lib.Dec.{eqb}
 use lib.ListN.{length, length-append, List·getD-append}
 use lib.Seq.{getD-append-seam}
+use Rattle.model.specs.Store.{Content}
 use Rattle.model.specs.Answer.{Answer, said}
 use Rattle.model.specs.Record.{Operation}
 use Rattle.model.specs.Demand.{Ending, Unfinished, RefusedAt, FinishedAt, Call, endAs, endOnce, endFor, Plain, feed, shows, call₀}
@@ -18,15 +19,15 @@ use Rattle.theorem.proofs.Linear.{Lin, lin-skip, lin-begin, lin-end, li
 use Rattle.theorem.proofs.Linear.{ended-other}
 use Rattle.theorem.proofs.Invariant.{Running, NoneRunning}
 
-pub record Hist (rows : List ℕ) (now w : ℕ) (h : List Call) (o : List ℕ) (p : Plain) (h′ : List Call) (o′ : List ℕ) (p′ : Plain) : Type 0 where
+pub record Hist (rows : List ℕ) (start : ℕ → Content) (now w : ℕ) (h : List Call) (o : List ℕ) (p : Plain) (h′ : List Call) (o′ : List ℕ) (p′ : Plain) : Type 0 where
   pub shut : (v : ℕ) → v ≢ w → NoneRunning h v → NoneRunning h′ v
   pub running : (v : ℕ) → v ≢ w → (k : ℕ) → Running h v k
       → Running h′ v k × (callAt h′ k .operation ≡ callAt h k .operation) × (occurrences k o′ ≡ occurrences k o)
-  pub linear : Lin rows now h′ o′ p′
+  pub linear : Lin rows start now h′ o′ p′
   pub registers : (r : ℕ) → p′ .registers r ≡ p .registers r
   pub copy : (v : ℕ) → v ≢ w → p′ .copy v ≡ p .copy v
 
-pub hist-skip : {rows : List ℕ} (now w : ℕ) (h : List Call) (o : List ℕ) (p : Plain) → Lin rows now h o p → Hist rows (now + 1) w h o p h o p
+pub hist-skip : {rows : List ℕ} {start : ℕ → Content} (now w : ℕ) (h : List Call) (o : List ℕ) (p : Plain) → Lin rows start now h o p → Hist rows start (now + 1) w h o p h o p
 hist-skip now w h o p L =
     record { shut = λ v n z. z; running = λ v n k z. (z, refl, refl); linear = lin-skip L; registers = λ r. refl; copy = λ v n. refl }
 
@@ -45,7 +46,7 @@ ended-none now w a (c ∷ h) f =
     other : (c .worker ≢ w) × (eqb (c .worker) w ≡ false) → cond (eqb (c .worker) w) (endOnce (c .ending) (endAs now a)) (c .ending) ≡ c .ending
     other u = rw (u .1)
 
-module _ {rows : List ℕ} (now w : ℕ) (h : List Call) (o : List ℕ) (p : Plain) (L : Lin rows now h o p) where
+module _ {rows : List ℕ} {start : ℕ → Content} (now w : ℕ) (h : List Call) (o : List ℕ) (p : Plain) (L : Lin rows start now h o p) where
   module _ (c : Operation) where
     abbrev new : Call
     new = record { operation = c; worker = w; begun = now; ending = Unfinished }
@@ -74,7 +75,7 @@ module _ {rows : List ℕ} (now w : ℕ) (h : List Call) (o : List ℕ) (p : Pla
         (λ u. absurd (n (sym a ∙ ap (λ (j : ℕ). callAt h⁺ j .worker) u ∙ ap (λ (d : Call). d .worker) last⁺)))
         (split⁺ i z)
 
-    pub hist-begin : Hist rows (now + 1) w h o p h⁺ o p
+    pub hist-begin : Hist rows start (now + 1) w h o p h⁺ o p
     hist-begin =
         record {
           shut = λ v n f i z a b. let q = old⁺ v n i z a b in f i (q .0) (q .1) (q .2);
@@ -166,7 +167,7 @@ module _ {rows : List ℕ} (now w : ℕ) (h : List Call) (o : List ℕ) (p : Pla
         }
 
     pub hist-end : Stands (endAs now a) (occurrences k o) → ((s : Option Answer) → Agrees (callAt h k .operation) (endAs now a) s)
-        → Hist rows (now + 1) w h o p h⁻ o p
+        → Hist rows start (now + 1) w h o p h⁻ o p
     hist-end st ag =
         record {
           shut = λ v n f i z x y. let q = old⁻ v n i z x y in f i (q .0) (q .1) (q .2);
@@ -179,7 +180,7 @@ module _ {rows : List ℕ} (now w : ℕ) (h : List Call) (o : List ℕ) (p : Pla
     pub hist-show : occurrences k o ≡ 0 → Stands (endAs now a) 1 → Agrees (callAt h k .operation) (endAs now a) (shows rows p w (callAt h k .operation))
         → ((r : ℕ) → feed p w (callAt h k .operation) .registers r ≡ p .registers r)
         → ((v : ℕ) → v ≢ w → feed p w (callAt h k .operation) .copy v ≡ p .copy v)
-        → Hist rows (now + 1) w h o p h⁻ (o ++ (k ∷ [])) (feed p w (callAt h k .operation))
+        → Hist rows start (now + 1) w h o p h⁻ (o ++ (k ∷ [])) (feed p w (callAt h k .operation))
     hist-show nt st ag rg cp =
         record {
           shut = λ v n f i z x y. let q = old⁻ v n i z x y in f i (q .0) (q .1) (q .2);

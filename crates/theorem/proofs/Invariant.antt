@@ -269,7 +269,7 @@ pub record Works (x : Ctx) (h : List Call) (o : List ℕ) (p : Plain) (w : ℕ) 
 ------------------------------------------------------------------------
 -- The whole, before record `now`
 
-pub record Inv (now : ℕ) (s : Store) (olds : List (List ℕ)) (h : List Call) (o : List ℕ) (p : Plain) : Type 0 where
+pub record Inv (start : ℕ → Content) (now : ℕ) (s : Store) (olds : List (List ℕ)) (h : List Call) (o : List ℕ) (p : Plain) : Type 0 where
   -- shapes
   pub workersLength : length (s .workers) ≡ s .site .P
   pub newestLength : length (s .newest) ≡ s .site .V'
@@ -299,7 +299,7 @@ pub record Inv (now : ℕ) (s : Store) (olds : List (List ℕ)) (h : List Call) 
   -- only the hub's workers perform calls
   pub outside : (w : ℕ) → s .site .P ≤ w → NoneRunning h w
   -- the calls' order so far is one, and has led to the plain registers p
-  pub linear : Lin (s .site .rows) now h o p
+  pub linear : Lin (s .site .rows) start now h o p
   -- the rows of totals are those of a list that a setup accepts
   pub rowsFit : follow (s .site .V') 0 0 (s .site .rows) ≡ true
 

@@ -10,6 +10,7 @@ use lib.Dec.{ltb, eqb}
 use lib.ListN.{length, length-append, length-map, List·getD-append}
 use lib.Seq.{getD-append-seam}
 use borrow.Author.Tests.{eqb-true, eq-eqb}
+use Rattle.model.specs.Store.{Content}
 use Rattle.model.specs.Answer.{Answer, said}
 use Rattle.model.specs.Record.{Operation}
 use Rattle.model.specs.Demand.{Ending, Unfinished, RefusedAt, FinishedAt, Call, endAs, endOnce, endFor, Plain, plain₀, feed, shows}
@@ -137,12 +138,12 @@ RegistersAgree-snoc rows h p (i ∷ o) k a t = (t .0, RegistersAgree-snoc rows h
 ------------------------------------------------------------------------
 -- The order so far: of the operations h, with the plain registers p that it has come to, before record `now`, on a hub with these rows of totals
 
-pub record Lin (rows : List ℕ) (now : ℕ) (h : List Call) (o : List ℕ) (p : Plain) : Type 0 where
-  pub isOrder : IsOrder rows h o
+pub record Lin (rows : List ℕ) (start : ℕ → Content) (now : ℕ) (h : List Call) (o : List ℕ) (p : Plain) : Type 0 where
+  pub isOrder : IsOrder rows start h o
   pub early : (i : ℕ) → i < length h → callAt h i .begun < now
   -- one that takes effect at its end has ended where it stands in the order
   pub past : (i : ℕ) → 0 < occurrences i o → atEnd (callAt h i .operation) ≡ true → FinishedBefore now (callAt h i .ending)
-  pub come : after h plain₀ o ≡ p
+  pub come : after h (plain₀ start) o ≡ p
 
 finished-later : (now : ℕ) (e : Ending) → FinishedBefore now e → FinishedBefore (now + 1) e
 finished-later now Unfinished x = x
@@ -150,7 +151,7 @@ finished-later now (RefusedAt i) x = x
 finished-later now (FinishedAt i a) x = omega (arith, x)
 
 -- nothing happened to the operations
-pub lin-skip : {rows : List ℕ} {now : ℕ} {h : List Call} {o : List ℕ} {p : Plain} → Lin rows now h o p → Lin rows (now + 1) h o p
+pub lin-skip : {rows : List ℕ} {start : ℕ → Content} {now : ℕ} {h : List Call} {o : List ℕ} {p : Plain} → Lin rows start now h o p → Lin rows start (now + 1) h o p
 lin-skip {now = now} {h = h} L =
     record {
       isOrder = L .isOrder;
@@ -173,12 +174,12 @@ agrees-refused c i s = go (showing c)
     go true = tt
     go false = tt
 
-module _ {rows : List ℕ} {now : ℕ} {h : List Call} {o : List ℕ} {p : Plain} (L : Lin rows now h o p) where
+module _ {rows : List ℕ} {start : ℕ → Content} {now : ℕ} {h : List Call} {o : List ℕ} {p : Plain} (L : Lin rows start now h o p) where
   pub inside : (i : ℕ) → 0 < occurrences i o → i < length h
   inside i x = ⊎-elim (λ u. u .0) (λ u. absurd (omega (arith, L .isOrder .within i (u .0)))) (lt-cases i (length h))
 
   -- an operation begins
-  pub lin-begin : (d : Call) → d .begun ≡ now → d .ending ≡ Unfinished → Lin rows (now + 1) (h ++ (d ∷ [])) o p
+  pub lin-begin : (d : Call) → d .begun ≡ now → d .ending ≡ Unfinished → Lin rows start (now + 1) (h ++ (d ∷ [])) o p
   lin-begin d b u =
       record {
         isOrder =
@@ -192,7 +193,7 @@ module _ {rows : List ℕ} {now : ℕ} {h : List Call} {o : List ℕ} {p : Plain
                   ByEnds-mono h h′ o (λ i x. ap (λ (v : Call). v .operation) (keep i x)) (λ i x y. ap (λ (v : Call). v .ending) (keep i x))
                   (L .isOrder .byEnds);
               registersAgree =
-                  RegistersAgree-mono rows h h′ plain₀ o (λ i x. (ap (λ (v : Call). v .operation) (keep i x), ap (λ (v : Call). v .worker) (keep i x)))
+                  RegistersAgree-mono rows h h′ (plain₀ start) o (λ i x. (ap (λ (v : Call). v .operation) (keep i x), ap (λ (v : Call). v .worker) (keep i x)))
                   (λ i s x. subst (λ (v : Call). Agrees (callAt h i .operation) (v .ending) s) (sym (keep i x))) (L .isOrder .registersAgree);
             };
         early =
@@ -201,7 +202,7 @@ module _ {rows : List ℕ} {now : ℕ} {h : List Call} {o : List ℕ} {p : Plain
         past = λ i x y.
             subst (λ (v : Call). FinishedBefore (now + 1) (v .ending)) (sym (keep i x))
             (finished-later now (callAt h i .ending) (L .past i x (ap (λ (v : Call). atEnd (v .operation)) (sym (keep i x)) ∙ y)));
-        come = after-mono h h′ plain₀ o (λ i x. (ap (λ (v : Call). v .operation) (keep i x), ap (λ (v : Call). v .worker) (keep i x))) ∙ L .come;
+        come = after-mono h h′ (plain₀ start) o (λ i x. (ap (λ (v : Call). v .operation) (keep i x), ap (λ (v : Call). v .worker) (keep i x))) ∙ L .come;
       }
     where
       h′ : List Call
@@ -223,7 +224,7 @@ module _ {rows : List ℕ} {now : ℕ} {h : List Call} {o : List ℕ} {p : Plain
 
   -- operation k, which has not ended, takes effect: a put or an open
   pub lin-effect : (k : ℕ) → k < length h → callAt h k .ending ≡ Unfinished → occurrences k o ≡ 0 → atEnd (callAt h k .operation) ≡ false
-      → Lin rows now h (o ++ (k ∷ [])) (feed p (callAt h k .worker) (callAt h k .operation))
+      → Lin rows start now h (o ++ (k ∷ [])) (feed p (callAt h k .worker) (callAt h k .operation))
   lin-effect k x u z ne =
       record {
         isOrder =
@@ -232,13 +233,13 @@ module _ {rows : List ℕ} {now : ℕ} {h : List Call} {o : List ℕ} {p : Plain
               stands = λ i y. ⊎-elim (own i) (other i y) (eq-cases k i);
               ordered = Ordered-snoc h o k (λ i y e. subst (EndsBefore (callAt h i .begun)) u e) (L .isOrder .ordered);
               byEnds = ByEnds-snoc h o k (λ i y a b. absurd (true≢false (sym b ∙ ne))) (L .isOrder .byEnds);
-              registersAgree = RegistersAgree-snoc rows h plain₀ o k (rw u (agrees-unended (callAt h k .operation) _)) (L .isOrder .registersAgree);
+              registersAgree = RegistersAgree-snoc rows h (plain₀ start) o k (rw u (agrees-unended (callAt h k .operation) _)) (L .isOrder .registersAgree);
             };
         early = L .early;
         past = λ i y a.
             ⊎-elim (λ e. absurd (true≢false (sym a ∙ ap (λ (j : ℕ). atEnd (callAt h j .operation)) (sym (e .0)) ∙ ne)))
             (λ e. L .past i (omega (arith, y, occurrences-snoc i o k, hit-other k i (e .0))) a) (eq-cases k i);
-        come = after-snoc h plain₀ o k ∙ ap (λ (q : Plain). feed q (callAt h k .worker) (callAt h k .operation)) (L .come);
+        come = after-snoc h (plain₀ start) o k ∙ ap (λ (q : Plain). feed q (callAt h k .worker) (callAt h k .operation)) (L .come);
       }
     where
       own : (i : ℕ) → (k ≡ i) × (eqb k i ≡ true) → Stands (callAt h i .ending) (occurrences i (o ++ (k ∷ [])))
@@ -303,7 +304,7 @@ module _ (now w : ℕ) (a : Answer) (h : List Call) (k : ℕ) (kin : k < length 
       go none z = omega arith
       go (some k) z = omega arith
 
-  module _ {rows : List ℕ} (o : List ℕ) (p : Plain) (L : Lin rows now h o p) where
+  module _ {rows : List ℕ} {start : ℕ → Content} (o : List ℕ) (p : Plain) (L : Lin rows start now h o p) where
     earlyE : (i : ℕ) → i < length ended → callAt ended i .begun < now + 1
     earlyE i x = let y : i < length h = omega (arith, ended-length) in omega (arith, ended-begun i y, L .early i y)
 
@@ -330,12 +331,12 @@ module _ (now w : ℕ) (a : Answer) (h : List Call) (k : ℕ) (kin : k < length 
         let z = sym (ap atEnd (ended-same i (inside L i x) .0)) ∙ y in
         subst (FinishedBefore now) (sym (ended-other i (inside L i x) (not-yet i x z))) (L .past i x z)
 
-    comeE : after ended plain₀ o ≡ p
-    comeE = after-mono h ended plain₀ o (λ i x. ended-same i (inside L i x)) ∙ L .come
+    comeE : after ended (plain₀ start) o ≡ p
+    comeE = after-mono h ended (plain₀ start) o (λ i x. ended-same i (inside L i x)) ∙ L .come
 
     -- it shows nothing, or is refused: it stands in the order as its ending says
     pub lin-end : Stands (endAs now a) (occurrences k o) → ((s : Option Answer) → Agrees (callAt h k .operation) (endAs now a) s)
-        → Lin rows (now + 1) ended o p
+        → Lin rows start (now + 1) ended o p
     lin-end st ag =
         record {
           isOrder =
@@ -350,7 +351,7 @@ module _ (now w : ℕ) (a : Answer) (h : List Call) (k : ℕ) (kin : k < length 
                 ordered = orderedE;
                 byEnds = byEndsE;
                 registersAgree =
-                    RegistersAgree-mono rows h ended plain₀ o (λ i x. ended-same i (inside L i x))
+                    RegistersAgree-mono rows h ended (plain₀ start) o (λ i x. ended-same i (inside L i x))
                     (λ i s x z. ⊎-elim
                     (λ e. subst (λ (q : ℕ). Agrees (callAt h q .operation) (callAt ended q .ending) s) (e .0)
                     (subst (λ (q : Ending). Agrees (callAt h k .operation) q s) (sym ended-own) (ag s)))
@@ -366,7 +367,7 @@ module _ (now w : ℕ) (a : Answer) (h : List Call) (k : ℕ) (kin : k < length 
     -- it takes effect at its end, and what it answers is what is shown
     pub lin-end-agree : occurrences k o ≡ 0 → Stands (endAs now a) 1
         → Agrees (callAt h k .operation) (endAs now a) (shows rows p w (callAt h k .operation))
-        → Lin rows (now + 1) ended (o ++ (k ∷ [])) (feed p w (callAt h k .operation))
+        → Lin rows start (now + 1) ended (o ++ (k ∷ [])) (feed p w (callAt h k .operation))
     lin-end-agree z st ag =
         record {
           isOrder =
@@ -395,9 +396,9 @@ module _ (now w : ℕ) (a : Answer) (h : List Call) (k : ℕ) (kin : k < length 
                 byEnds =
                     ByEnds-snoc ended o k (λ i x y v. subst (FinishedBy (callAt ended i .ending)) (sym finishes-now) (pastE i x y)) byEndsE;
                 registersAgree =
-                    RegistersAgree-snoc rows ended plain₀ o k
+                    RegistersAgree-snoc rows ended (plain₀ start) o k
                     (rw (comeE, ended-own, ended-same k kin .0, ended-same k kin .1, kw) ag)
-                    (RegistersAgree-mono rows h ended plain₀ o (λ i x. ended-same i (inside L i x))
+                    (RegistersAgree-mono rows h ended (plain₀ start) o (λ i x. ended-same i (inside L i x))
                     (λ i s x g. subst (λ (q : Ending). Agrees (callAt h i .operation) q s)
                     (sym (ended-other i (inside L i x) (λ e. omega (arith, z, subst (λ (q : ℕ). 0 < occurrences q o) (sym e) x)))) g)
                     (L .isOrder .registersAgree));
@@ -408,7 +409,7 @@ module _ (now w : ℕ) (a : Answer) (h : List Call) (k : ℕ) (kin : k < length 
               (λ e. subst (FinishedBefore (now + 1)) (sym finishes-now ∙ ap (λ (j : ℕ). callAt ended j .ending) (e .0)) at-now)
               (λ e. finished-later now (callAt ended i .ending) (pastE i (omega (arith, x, occurrences-snoc i o k, hit-other k i (e .0))) y))
               (eq-cases k i);
-          come = after-snoc ended plain₀ o k ∙ rw (comeE, ended-same k kin .0, ended-same k kin .1, kw);
+          come = after-snoc ended (plain₀ start) o k ∙ rw (comeE, ended-same k kin .0, ended-same k kin .1, kw);
         }
       where
         finished-is : (y : Option ℕ) → Stands (endBy now a y) 1 → endBy now a y ≡ FinishedAt now a

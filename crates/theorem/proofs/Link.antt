@@ -36,7 +36,7 @@ unfolding sumBy
 All-queue [] f t = tt
 All-queue (m ∷ q) f t = (All-cnt m (λ ρ z. f ρ (omega (arith, z))) (t .0), All-queue q (λ ρ z. f ρ (omega (arith, z))) (t .1))
 
-module _ (now : ℕ) (s : Store) (olds : List (List ℕ)) (h : List Call) (o : List ℕ) (p : Plain) (I : Inv now s olds h o p) (w : ℕ)
+module _ {start : ℕ → Content} (now : ℕ) (s : Store) (olds : List (List ℕ)) (h : List Call) (o : List ℕ) (p : Plain) (I : Inv start now s olds h o p) (w : ℕ)
     (wb : w < s .site .P)
     (r : ℕ) (b : r < s .site .V') (y : Reading) (e : workerAt s w .doing ≡ PutPublish r y) (st : nth (s .slots) (newestOf s r) .low ≤ s .clock)
     (f : ℕ) (fs : List ℕ) (fr : s .free ≡ f ∷ fs) where
@@ -334,7 +334,7 @@ module _ (now : ℕ) (s : Store) (olds : List (List ℕ)) (h : List Call) (o : L
       let a = I .freeAlone i (omega (arith, z, free-times i)) in
       (link-part sl n f y (λ v. v .older) (λ v k. refl) i i≢f ∙ a .0, link-newer-other sl n f y i i≢f i≢n ∙ a .1)
 
-  pub link-kept : Kept now linked-store h o
+  pub link-kept : Kept start now linked-store h o
   unfolding occurrences
   link-kept =
       record {

@@ -6,39 +6,39 @@ use Prim.Native.Nat.{ℕ, zero, suc, _+_, _<_}
 use native.Mathlib.Nat.{not-suc-le-zero, le-of-suc-le-suc}
 use native.Mathlib.Omega.{arith}
 use lib.ListN.{length, getD}
-use Rattle.model.specs.Store.{Site, Store, Hub, up}
+use Rattle.model.specs.Store.{Content, Site, Store, Hub, up}
 use Rattle.model.specs.Rules.{Ruled}
 use Rattle.model.specs.Answer.{Answer, Freed}
-use Rattle.model.specs.Record.{decode, rowsOf}
-use Rattle.model.specs.Apply.{fresh, applyRuled, answersTo}
-use Rattle.model.specs.Demand.{Event, events, Call, observe, history, StepsTaken, Plain, plain₀, effects, order, occurrences, All}
+use Rattle.model.specs.Record.{decode}
+use Rattle.model.specs.Apply.{madeBy, applyRuled, answersTo}
+use Rattle.model.specs.Demand.{Event, events, Call, observe, history, StepsTaken, Plain, startOf, plain₀, effects, order, occurrences, All}
 use Rattle.model.specs.Demand.{IsOrder, FreesNothingNeeded, TookBy, Took, event₀, FreedOnce, Demand3, rowsIn, Demand, exchange}
 use Rattle.theorem.proofs.Invariant.{Inv}
 use Rattle.theorem.proofs.Record.{Holds, apply-holds, step-taken}
 use Rattle.theorem.proofs.Setup.{accepts, accepted-inv}
 
 -- what is shown of the records from number `now` on, which find the rows of totals, the free slots `free`, the operations h and the order o
-record Result (rows : List ℕ) (now : ℕ) (free : List ℕ) (es : List Event) (h : List Call) (o : List ℕ) : Type 0 where
+record Result (rows : List ℕ) (start : ℕ → Content) (now : ℕ) (free : List ℕ) (es : List Event) (h : List Call) (o : List ℕ) : Type 0 where
   taken : StepsTaken now es h
-  isOrder : IsOrder rows (history now (map exchange es) h) (o ++ order now es h)
+  isOrder : IsOrder rows start (history now (map exchange es) h) (o ++ order now es h)
   safe : All (λ (e : Event). FreesNothingNeeded (e .before) (e .answer)) es
   again : (c j : ℕ) → 0 < occurrences c free → j < length es → getD es j event₀ .answer ≡ Freed c → (k : ℕ) × (k < j) × Took c (getD es k event₀)
   once : FreedOnce es
 
-run : (bs : List Ruled) (now : ℕ) (s : Store) (olds : List (List ℕ)) (h : List Call) (o : List ℕ) (p : Plain) → Inv now s olds h o p
-    → Result (s .site .rows) now (s .free) (events (up s) bs) h o
+run : {start : ℕ → Content} (bs : List Ruled) (now : ℕ) (s : Store) (olds : List (List ℕ)) (h : List Call) (o : List ℕ) (p : Plain) → Inv start now s olds h o p
+    → Result (s .site .rows) start now (s .free) (events (up s) bs) h o
 unfolding events history StepsTaken order
-run [] now s olds h o p I =
+run {start} [] now s olds h o p I =
     record {
       taken = tt;
-      isOrder = subst (IsOrder (s .site .rows) h) (sym (append-nil o)) (I .linear .isOrder);
+      isOrder = subst (IsOrder (s .site .rows) start h) (sym (append-nil o)) (I .linear .isOrder);
       safe = tt;
       again = λ c j z b. absurd (not-suc-le-zero b);
       once = λ c i j z b. absurd (not-suc-le-zero b);
     }
-run (b ∷ bs) now s olds h o p I = join (run bs (now + 1) (A .store) (A .kept .olds) h′ o′ (A .kept .p) (A .kept .inv))
+run {start} (b ∷ bs) now s olds h o p I = join (run bs (now + 1) (A .store) (A .kept .olds) h′ o′ (A .kept .p) (A .kept .inv))
   where
-    A : Holds now s (decode (b .bytes)) h o (applyRuled (up s) b)
+    A : Holds start now s (decode (b .bytes)) h o (applyRuled (up s) b)
     A = apply-holds now s olds h o p I (b .rules) (b .bytes)
 
     h′ : List Call
@@ -52,15 +52,15 @@ run (b ∷ bs) now s olds h o p I = join (run bs (now + 1) (A .store) (A .kept .
     es = events (applyRuled (up s) b .hub) bs
 
     e₀ : Event
-    e₀ = record { list = b .rules .list; bytes = b .bytes; before = up s; answer = applyRuled (up s) b .answer; after = applyRuled (up s) b .hub }
+    e₀ = record { given = b .rules .given; bytes = b .bytes; before = up s; answer = applyRuled (up s) b .answer; after = applyRuled (up s) b .hub }
 
-    join : Result (A .store .site .rows) (now + 1) (A .store .free) (events (up (A .store)) bs) h′ o′
-        → Result (s .site .rows) now (s .free) (e₀ ∷ es) h o
+    join : Result (A .store .site .rows) start (now + 1) (A .store .free) (events (up (A .store)) bs) h′ o′
+        → Result (s .site .rows) start now (s .free) (e₀ ∷ es) h o
     join R₀ =
         record {
           taken = (step-taken now s olds h o p I (decode (b .bytes)), R .taken);
           isOrder =
-              subst (IsOrder (s .site .rows) (history (now + 1) (map exchange es) h′))
+              subst (IsOrder (s .site .rows) start (history (now + 1) (map exchange es) h′))
               (append-assoc o (effects h (decode (b .bytes)) (up s) (applyRuled (up s) b .answer) (up (A .store))) (order (now + 1) es h′)
               ∙ ap (λ (q : Hub). o ++ (effects h (decode (b .bytes)) (up s) (applyRuled (up s) b .answer) q ++ order (now + 1) es h′)) (sym (A .is)))
               (R .isOrder);
@@ -69,10 +69,10 @@ run (b ∷ bs) now s olds h o p I = join (run bs (now + 1) (A .store) (A .kept .
           once = once;
         }
       where
-        R : Result (s .site .rows) (now + 1) (A .store .free) es h′ o′
+        R : Result (s .site .rows) start (now + 1) (A .store .free) es h′ o′
         R =
-            subst (λ (q : Hub). Result (s .site .rows) (now + 1) (A .store .free) (events q bs) h′ o′) (sym (A .is))
-            (subst (λ (q : Site). Result (q .rows) (now + 1) (A .store .free) (events (up (A .store)) bs) h′ o′) (A .site) R₀)
+            subst (λ (q : Hub). Result (s .site .rows) start (now + 1) (A .store .free) (events q bs) h′ o′) (sym (A .is))
+            (subst (λ (q : Site). Result (q .rows) start (now + 1) (A .store .free) (events (up (A .store)) bs) h′ o′) (A .site) R₀)
 
         again : (c j : ℕ) → 0 < occurrences c (s .free) → j < length (e₀ ∷ es) → getD (e₀ ∷ es) j event₀ .answer ≡ Freed c
             → (k : ℕ) × (k < j) × Took c (getD (e₀ ∷ es) k event₀)
@@ -96,10 +96,10 @@ run (b ∷ bs) now s olds h o p I = join (run bs (now + 1) (A .store) (A .kept .
 pub demand : Demand
 demand row b e bs =
     let A = accepts (b .rules) row (b .bytes) e in
-    subst (λ (q : Hub). Demand3 (rowsIn q) (events q bs)) (sym (A .is))
-    (whole (run bs 0 (fresh (b .rules .batch (A .sizes .P)) (A .sizes) (rowsOf (b .rules .list)) (row .table) (row .row)) _ [] [] plain₀ (accepted-inv (b .rules) A)))
+    subst (λ (q : Hub). Demand3 (rowsIn q) (startOf (b .rules .given)) (events q bs)) (sym (A .is))
+    (whole (run bs 0 (madeBy (b .rules) (A .sizes) row) _ [] [] (plain₀ (startOf (b .rules .given))) (accepted-inv (b .rules) A)))
   where
-    whole : {rows free : List ℕ} {es : List Event} → Result rows 0 free es [] [] → Demand3 rows es
+    whole : {rows free : List ℕ} {start : ℕ → Content} {es : List Event} → Result rows start 0 free es [] [] → Demand3 rows start es
     whole R = record { stepsTaken = R .taken; isOrder = R .isOrder; freesNothingNeeded = R .safe; freedOnce = R .once }
 
 -- the answers that the log shows are those of the events

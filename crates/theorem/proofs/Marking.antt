@@ -84,7 +84,7 @@ not-read s m v e b g c d q =
 ------------------------------------------------------------------------
 -- What a read finds under its source: a time that is past, a copy, and in each register's list the version that the time needs
 
-module _ (now : ℕ) (s : Store) (olds : List (List ℕ)) (h : List Call) (o : List ℕ) (p : Plain) (I : Inv now s olds h o p) (w : ℕ)
+module _ {start : ℕ → Content} (now : ℕ) (s : Store) (olds : List (List ℕ)) (h : List Call) (o : List ℕ) (p : Plain) (I : Inv start now s olds h o p) (w : ℕ)
     (wb : w < s .site .P) where
   abbrev x : Ctx
   x = ctx s olds
@@ -161,7 +161,7 @@ module _ (now : ℕ) (s : Store) (olds : List (List ℕ)) (h : List Call) (o : L
         → shows (s .site .rows) p w op ≡ some Done → showing op ≡ true
         → ((v : ℕ) → v < s .site .P → v ≢ w → (g : Goal) (i : ℕ) → workerAt s v .doing ≡ ReadStand g i → g .purpose ≢ Marked m)
         → MarkHolds (ctx s⁺ olds) (record { registers = p .registers; copy = p .copy; kept = update (p .kept) m f }) m
-        → Kept now s⁺ (map (endFor now w Done) h) (o ++ endEffects h w Done)
+        → Kept start now s⁺ (map (endFor now w Done) h) (o ++ endEffects h w Done)
     mark-kept came st empty nc k K n op is en fd sh so unread here =
         one-more o (endEffects h w Done) k (own-is K Done refl (ap atEnd is ∙ en))
         (record {
@@ -188,9 +188,9 @@ module _ (now : ℕ) (s : Store) (olds : List (List ℕ)) (h : List Call) (o : L
         fed : feed p w (callAt h k .operation) ≡ p⁺
         fed = ap (feed p w) is ∙ fd
 
-        H : Hist (s .site .rows) (now + 1) w h o p (map (endFor now w Done) h) (o ++ (k ∷ [])) p⁺
+        H : Hist (s .site .rows) start (now + 1) w h o p (map (endFor now w Done) h) (o ++ (k ∷ [])) p⁺
         H =
-            subst (Hist (s .site .rows) (now + 1) w h o p (map (endFor now w Done) h) (o ++ (k ∷ []))) fed
+            subst (Hist (s .site .rows) start (now + 1) w h o p (map (endFor now w Done) h) (o ++ (k ∷ []))) fed
             (hist-show now w h o p (I .linear) Done k K n refl
             (subst (λ (z : Operation). Agrees z (FinishedAt now Done) (shows (s .site .rows) p w z)) (sym is)
             (subst (λ (z : Bool). AgreesIf z (FinishedAt now Done) (shows (s .site .rows) p w op)) (sym so) sh))
@@ -198,7 +198,7 @@ module _ (now : ℕ) (s : Store) (olds : List (List ℕ)) (h : List Call) (o : L
 
   -- mark: the copy under the mark is the worker's
   pub keep-kept : (m : ℕ) → workerAt s w .doing ≡ OnTime (MarkKeep m) → markRefusal s (EmptyMark m) ≡ none
-      → Kept now (withMarks (place s w Idle) (set (s .marks) m t)) (map (endFor now w Done) h) (o ++ endEffects h w Done)
+      → Kept start now (withMarks (place s w Idle) (set (s .marks) m t)) (map (endFor now w Done) h) (o ++ endEffects h w Done)
   unfolding feed shows noCopy atEnd
   keep-kept m e q =
       let d = doing-is now s olds h o p I w wb (OnTime (MarkKeep m)) e in
@@ -224,7 +224,7 @@ module _ (now : ℕ) (s : Store) (olds : List (List ℕ)) (h : List Call) (o : L
 
   -- release: there is none
   pub release-kept : (m : ℕ) → workerAt s w .doing ≡ OnTime (MarkRelease m) → markRefusal s (UnreadMark m) ≡ none
-      → Kept now (withMarks (place s w Idle) (set (s .marks) m absent)) (map (endFor now w Done) h) (o ++ endEffects h w Done)
+      → Kept start now (withMarks (place s w Idle) (set (s .marks) m absent)) (map (endFor now w Done) h) (o ++ endEffects h w Done)
   unfolding feed shows inCopy atEnd
   release-kept m e q =
       let d = doing-is now s olds h o p I w wb (OnTime (MarkRelease m)) e in

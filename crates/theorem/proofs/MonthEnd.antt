@@ -186,13 +186,13 @@ module _ (rows : List ℕ) (h : List Call) (m : ℕ) where
 stands-once : {n : ℕ} (e : Ending) (l : ℕ) (a : Answer) → e ≡ FinishedAt l a → Stands e n → n ≡ 1
 stands-once {n} e l a q s = subst (λ (i : Ending). Stands i n) q s
 
-pub same-figures : (rows : List ℕ) (h : List Call) (o : List ℕ) → IsOrder rows h o → SameFigures h
-same-figures rows h o O r m n k a b i j less free =
-    find rows h m r (j .0) k b (j .2) (j .3) (i .0) n a (i .2) (i .3) less free plain₀ o
+pub same-figures : (rows : List ℕ) (start : ℕ → Content) (h : List Call) (o : List ℕ) → IsOrder rows start h o → SameFigures h
+same-figures rows start h o O r m n k a b i j less free =
+    find rows h m r (j .0) k b (j .2) (j .3) (i .0) n a (i .2) (i .3) less free (plain₀ start) o
     (λ c x. ⊎-elim (λ u. u .0) (λ u. absurd (omega (arith, x, O .within c (u .0)))) (lt-cases c (length h)))
     (O .registersAgree) (O .byEnds)
     (omega (arith, stands-once (callAt h (i .0) .ending) n a (i .3) (O .stands (i .0) (i .1))))
     (omega (arith, stands-once (callAt h (j .0) .ending) k b (j .3) (O .stands (j .0) (j .1))))
 
 pub month-end : MonthEnd
-month-end rows es D = same-figures rows _ _ (D .isOrder)
+month-end rows start es D = same-figures rows start _ _ (D .isOrder)

@@ -48,17 +48,17 @@ use Rattle.theorem.proofs.ReadTimes.{Reads, reads}
 use Rattle.theorem.proofs.Work.{at-own, at-other, work-inv, came}
 
 -- the invariant after a record
-pub record Kept (now : ℕ) (s : Store) (h : List Call) (o : List ℕ) : Type 0 where
+pub record Kept (start : ℕ → Content) (now : ℕ) (s : Store) (h : List Call) (o : List ℕ) : Type 0 where
   pub olds : List (List ℕ)
   pub p : Plain
-  pub inv : Inv (now + 1) s olds h o p
+  pub inv : Inv start (now + 1) s olds h o p
 
 -- with what the order's definition adds
-pub none-more : {now : ℕ} {s : Store} {h : List Call} (o e : List ℕ) → e ≡ [] → Kept now s h o → Kept now s h (o ++ e)
-none-more {now} {s} {h} o e z K = subst (λ (q : List ℕ). Kept now s h (o ++ q)) (sym z) (subst (Kept now s h) (sym (append-nil o)) K)
+pub none-more : {start : ℕ → Content} {now : ℕ} {s : Store} {h : List Call} (o e : List ℕ) → e ≡ [] → Kept start now s h o → Kept start now s h (o ++ e)
+none-more {start} {now} {s} {h} o e z K = subst (λ (q : List ℕ). Kept start now s h (o ++ q)) (sym z) (subst (Kept start now s h) (sym (append-nil o)) K)
 
-pub one-more : {now : ℕ} {s : Store} {h : List Call} (o e : List ℕ) (k : ℕ) → e ≡ k ∷ [] → Kept now s h (o ++ (k ∷ [])) → Kept now s h (o ++ e)
-one-more {now} {s} {h} o e k z K = subst (λ (q : List ℕ). Kept now s h (o ++ q)) (sym z) K
+pub one-more : {start : ℕ → Content} {now : ℕ} {s : Store} {h : List Call} (o e : List ℕ) (k : ℕ) → e ≡ k ∷ [] → Kept start now s h (o ++ (k ∷ [])) → Kept start now s h (o ++ e)
+one-more {start} {now} {s} {h} o e k z K = subst (λ (q : List ℕ). Kept start now s h (o ++ q)) (sym z) K
 
 pub fine-low : (s : List Slot) (t : ℕ) (x : Content) (n c : ℕ) (l : List ℕ) → Fine s t x (n ∷ l) → 0 < occurrences c l → nth s c .low ≤ t
 fine-low s t x n c l f z = ⊎-elim (λ u. All-get (Past s t) l (u .2) c z .0) (λ u. next-low s t x c l (u .1) z) (f .1)
@@ -72,7 +72,7 @@ fine-high s t x n c l f z e =
 some-inj : {f g : ℕ → Content} → some f ≡ some g → f ≡ g
 some-inj e = cc
 
-module _ (now : ℕ) (s : Store) (olds : List (List ℕ)) (h : List Call) (o : List ℕ) (p : Plain) (I : Inv now s olds h o p) (w : ℕ)
+module _ {start : ℕ → Content} (now : ℕ) (s : Store) (olds : List (List ℕ)) (h : List Call) (o : List ℕ) (p : Plain) (I : Inv start now s olds h o p) (w : ℕ)
     (wb : w < s .site .P) where
   abbrev x : Ctx
   x = ctx s olds
@@ -95,9 +95,9 @@ module _ (now : ℕ) (s : Store) (olds : List (List ℕ)) (h : List Call) (o : L
 
   -- the worker goes on to place d, its time and its pool as before
   pub place-inv : (d d′ : Doing) → workerAt s w .doing ≡ d → ((c : ℕ) → inDoing c d′ ≡ inDoing c d) → Calm
-      → (h′ : List Call) (o′ : List ℕ) (p′ : Plain) → Hist (s .site .rows) (now + 1) w h o p h′ o′ p′ → p′ .copy w ≡ p .copy w
+      → (h′ : List Call) (o′ : List ℕ) (p′ : Plain) → Hist (s .site .rows) start (now + 1) w h o p h′ o′ p′ → p′ .copy w ≡ p .copy w
       → ((m : ℕ) → p′ .kept m ≡ p .kept m)
-      → PlaceHolds (ctx (to d′) olds) p′ w t d′ → Current (ctx (to d′) olds) h′ o′ w t d′ → Kept now (to d′) h′ o′
+      → PlaceHolds (ctx (to d′) olds) p′ w t d′ → Current (ctx (to d′) olds) h′ o′ w t d′ → Kept start now (to d′) h′ o′
   place-inv d d′ e m nc h′ o′ p′ H cp kp dk ck =
       record {
         olds = olds;
@@ -129,7 +129,7 @@ module _ (now : ℕ) (s : Store) (olds : List (List ℕ)) (h : List Call) (o : L
   pub calm : (d : Doing) → Plainly d → workerAt s w .doing ≡ d → Calm
   calm d a e r c z y = subst Plainly (sym e ∙ z) a
 
-  skip : Hist (s .site .rows) (now + 1) w h o p h o p
+  skip : Hist (s .site .rows) start (now + 1) w h o p h o p
   skip = hist-skip now w h o p (I .linear)
 
   ------------------------------------------------------------------------
@@ -155,7 +155,7 @@ module _ (now : ℕ) (s : Store) (olds : List (List ℕ)) (h : List Call) (o : L
       → (namedBelow (s .site .V') (terms rows c .register) && namedBelow markCount (markOf (terms rows c .mark))) ≡ true
       → groupThere rows (terms rows c .group) ≡ true
       → mayOpen (terms rows c .time) (ltb t absent) ≡ true → mayUseTime (terms rows c .time) (ltb t absent) ≡ true
-      → Kept now (place s w (terms rows c .first)) (h ++ (record { operation = c; worker = w; begun = now; ending = Unfinished } ∷ [])) o
+      → Kept start now (place s w (terms rows c .first)) (h ++ (record { operation = c; worker = w; begun = now; ending = Unfinished } ∷ [])) o
   begin-kept c e named gr fresh has =
       let n = and-both (namedBelow (s .site .V') (terms rows c .register)) _ named in
       go c (n .0) (n .1) gr (ltb t absent) refl fresh has
@@ -170,7 +170,7 @@ module _ (now : ℕ) (s : Store) (olds : List (List ℕ)) (h : List Call) (o : L
           → (Busy (ctx (to d) olds) (h ++ (record { operation = c; worker = w; begun = now; ending = Unfinished } ∷ [])) o w t d
           → Current (ctx (to d) olds) (h ++ (record { operation = c; worker = w; begun = now; ending = Unfinished } ∷ [])) o w t d)
           → Fits (ctx (to d) olds) t c d 0
-          → Kept now (to d) (h ++ (record { operation = c; worker = w; begun = now; ending = Unfinished } ∷ [])) o
+          → Kept start now (to d) (h ++ (record { operation = c; worker = w; begun = now; ending = Unfinished } ∷ [])) o
       begun c d m dk f ft =
           place-inv Idle d e m (calm Idle tt e) _ o p (hist-begin now w h o p (I .linear) c) refl (λ i. refl) dk
           (f (
@@ -193,7 +193,7 @@ module _ (now : ℕ) (s : Store) (olds : List (List ℕ)) (h : List Call) (o : L
       go : (c : Operation) → namedBelow (s .site .V') (terms rows c .register) ≡ true
           → namedBelow markCount (markOf (terms rows c .mark)) ≡ true → groupThere rows (terms rows c .group) ≡ true
           → (b : Bool) → ltb t absent ≡ b → mayOpen (terms rows c .time) b ≡ true → mayUseTime (terms rows c .time) b ≡ true
-          → Kept now (place s w (terms rows c .first)) (h ++ (record { operation = c; worker = w; begun = now; ending = Unfinished } ∷ [])) o
+          → Kept start now (place s w (terms rows c .first)) (h ++ (record { operation = c; worker = w; begun = now; ending = Unfinished } ∷ [])) o
       go (Put r y) rg mk gr b eb fresh has = begun (Put r y) (PutPublish r y) (λ i. refl) (Tests.ltb-true r (s .site .V') rg, st) (λ a. a) (refl, refl)
       go Open rg mk gr true eb fresh has = absurd (true≢false (sym fresh))
       go Open rg mk gr false eb fresh has =
@@ -226,18 +226,18 @@ module _ (now : ℕ) (s : Store) (olds : List (List ℕ)) (h : List Call) (o : L
 
   -- the operation is refused, and nothing else changes
   pub refuse-kept : (k : ℕ) (d : Doing) → workerAt s w .doing ≡ d → Plainly d → ((c : ℕ) → inDoing c d ≡ 0) → Settled x t
-      → ((j : ℕ) × Running h w j × (occurrences j o ≡ 0)) → Kept now (to Idle) (map (endFor now w (No k)) h) o
+      → ((j : ℕ) × Running h w j × (occurrences j o ≡ 0)) → Kept start now (to Idle) (map (endFor now w (No k)) h) o
   refuse-kept k d e pl m st a =
       place-inv d Idle e (λ c. sym (m c)) (calm d pl e) _ o p
       (hist-end now w h o p (I .linear) (No k) (a .0) (a .1) (a .2) (agrees-refused (callAt h (a .0) .operation) now))
       refl (λ i. refl) st (end-shut now w h o p (I .linear) (No k) (a .0) (a .1))
 
-  pub refuse-put : (r : ℕ) (y : Reading) → workerAt s w .doing ≡ PutPublish r y → Kept now (to Idle) (map (endFor now w (No 14)) h) o
+  pub refuse-put : (r : ℕ) (y : Reading) → workerAt s w .doing ≡ PutPublish r y → Kept start now (to Idle) (map (endFor now w (No 14)) h) o
   refuse-put r y e =
       let a = cur-is (PutPublish r y) e in
       refuse-kept 14 (PutPublish r y) e tt (λ c. refl) (doing-is (PutPublish r y) e .1) (a .0, a .1, a .2 .1)
 
-  pub refuse-open : workerAt s w .doing ≡ OnTime OpenAnnounce → Kept now (to Idle) (map (endFor now w (No 15)) h) o
+  pub refuse-open : workerAt s w .doing ≡ OnTime OpenAnnounce → Kept start now (to Idle) (map (endFor now w (No 15)) h) o
   refuse-open e =
       let a = cur-is (OnTime OpenAnnounce) e in refuse-kept 15 (OnTime OpenAnnounce) e tt (λ c. refl) (inl (doing-is (OnTime OpenAnnounce) e))
       (a .0, a .1, a .2 .1)
@@ -247,7 +247,7 @@ module _ (now : ℕ) (s : Store) (olds : List (List ℕ)) (h : List Call) (o : L
   put-agrees c i e q = subst (λ (z : Operation). Agrees z e q) (sym (i .2)) tt
 
   -- what a flush ends with: nothing is left to free
-  pub flush-done : workerAt s w .doing ≡ FlushFree [] → Kept now (to Idle) (map (endFor now w Done) h) (o ++ endEffects h w Done)
+  pub flush-done : workerAt s w .doing ≡ FlushFree [] → Kept start now (to Idle) (map (endFor now w Done) h) (o ++ endEffects h w Done)
   unfolding cnt feed atEnd
   flush-done e = ⊎-elim for-put for-collect (a .2)
     where
@@ -255,7 +255,7 @@ module _ (now : ℕ) (s : Store) (olds : List (List ℕ)) (h : List Call) (o : L
       a = cur-is (FlushFree []) e
 
       for-put : IsPut (callAt h (a .0) .operation) × (occurrences (a .0) o ≡ 1)
-          → Kept now (to Idle) (map (endFor now w Done) h) (o ++ endEffects h w Done)
+          → Kept start now (to Idle) (map (endFor now w Done) h) (o ++ endEffects h w Done)
       for-put u =
           none-more o (endEffects h w Done) (own-not (a .1) Done (ap atEnd (u .0 .2)))
           (place-inv (FlushFree []) Idle e (λ c. refl) (calm (FlushFree []) tt e) _ o p
@@ -263,7 +263,7 @@ module _ (now : ℕ) (s : Store) (olds : List (List ℕ)) (h : List Call) (o : L
           refl (λ i. refl) (doing-is (FlushFree []) e .0) (end-shut now w h o p (I .linear) Done (a .0) (a .1)))
 
       for-collect : (callAt h (a .0) .operation ≡ Collect) × (occurrences (a .0) o ≡ 0)
-          → Kept now (to Idle) (map (endFor now w Done) h) (o ++ endEffects h w Done)
+          → Kept start now (to Idle) (map (endFor now w Done) h) (o ++ endEffects h w Done)
       for-collect u =
           one-more o (endEffects h w Done) (a .0) (own-is (a .1) Done refl (ap atEnd (u .0)))
           (place-inv (FlushFree []) Idle e (λ c. refl) (calm (FlushFree []) tt e) _ (o ++ (a .0 ∷ [])) (feed p w (callAt h (a .0) .operation))
@@ -291,7 +291,7 @@ module _ (now : ℕ) (s : Store) (olds : List (List ℕ)) (h : List Call) (o : L
     unfolding rangeOf cnt
     pend⁺ d m i = omega (arith, m i, cnt-append i (workerAt s w .pool) (rangeOf s c ∷ []), ap (inDoing i) e)
 
-    pub hand-done : Kept now (withWorker s w (record { doing = Idle; announced = t; pool = pool⁺ })) (map (endFor now w Done) h)
+    pub hand-done : Kept start now (withWorker s w (record { doing = Idle; announced = t; pool = pool⁺ })) (map (endFor now w Done) h)
         (o ++ endEffects h w Done)
     unfolding atEnd
     hand-done =
@@ -314,7 +314,7 @@ module _ (now : ℕ) (s : Store) (olds : List (List ℕ)) (h : List Call) (o : L
               });
         })
 
-    pub hand-full : Kept now (withWorker s w (record { doing = FlushTake; announced = t; pool = pool⁺ })) h o
+    pub hand-full : Kept start now (withWorker s w (record { doing = FlushTake; announced = t; pool = pool⁺ })) h o
     hand-full =
         let a = cur-is (PutHandIn r c) e in
         record {
@@ -335,7 +335,7 @@ module _ (now : ℕ) (s : Store) (olds : List (List ℕ)) (h : List Call) (o : L
   ------------------------------------------------------------------------
   -- The flush
 
-  pub take-kept : workerAt s w .doing ≡ FlushTake → Kept now (withQueue (to (FlushRead (firstTwo (s .queue)) [])) (drop 2 (s .queue))) h o
+  pub take-kept : workerAt s w .doing ≡ FlushTake → Kept start now (withQueue (to (FlushRead (firstTwo (s .queue)) [])) (drop 2 (s .queue))) h o
   take-kept e =
       let a = cur-is FlushTake e in
       let good : All (Good x) (firstTwo (s .queue)) = firstTwo-has (All (Good x)) tt (All-merge (Good x)) (s .queue) (I .queue) in
@@ -359,7 +359,7 @@ module _ (now : ℕ) (s : Store) (olds : List (List ℕ)) (h : List Call) (o : L
     d₀ : PlaceHolds x p w t (FlushRead m ts)
     d₀ = doing-is (FlushRead m ts) e
 
-    pub ask-kept : length ts ≤ s .site .P → Kept now (to (FlushRead m (ts ++ readTimes s (length ts)))) h o
+    pub ask-kept : length ts ≤ s .site .P → Kept start now (to (FlushRead m (ts ++ readTimes s (length ts)))) h o
     ask-kept b =
         let a = cur-is (FlushRead m ts) e in
         place-inv (FlushRead m ts) (FlushRead m ts⁺) e (λ c. refl) (calm (FlushRead m ts) tt e) h o p skip refl (λ i. refl)
@@ -418,7 +418,7 @@ module _ (now : ℕ) (s : Store) (olds : List (List ℕ)) (h : List Call) (o : L
         more (ρ ∷ q) g k = (one ρ (g .0) (k .0), more q (g .1) (k .1))
 
     pub split-kept : (b : ℕ) → s .site .P < length ts
-        → Kept now
+        → Kept start now
         (withQueue (withWorker s w (record { doing = FlushFree (filter (λ ρ. not (needed ts ρ)) m); announced = t; pool = [] }))
         (s .queue ++ neededPools b (filter (needed ts) m) ++ queuedPool (merge (workerAt s w .pool) (joining b (filter (needed ts) m)))))
         h
@@ -502,7 +502,7 @@ module _ (now : ℕ) (s : Store) (olds : List (List ℕ)) (h : List Call) (o : L
   -- Open, read, close
 
   pub announce-kept : workerAt s w .doing ≡ OnTime OpenAnnounce → s .clock ≢ 4294967295
-      → Kept now (withWorker s w (record { doing = OnTime OpenPass; announced = s .clock; pool = workerAt s w .pool })) h o
+      → Kept start now (withWorker s w (record { doing = OnTime OpenPass; announced = s .clock; pool = workerAt s w .pool })) h o
   announce-kept e n =
       let a = cur-is (OnTime OpenAnnounce) e in
       record {
@@ -522,7 +522,7 @@ module _ (now : ℕ) (s : Store) (olds : List (List ℕ)) (h : List Call) (o : L
       }
 
   pub withdraw-kept : workerAt s w .doing ≡ OnTime CloseWithdraw
-      → Kept now (withWorker s w (record { doing = Idle; announced = absent; pool = workerAt s w .pool })) (map (endFor now w Done) h)
+      → Kept start now (withWorker s w (record { doing = Idle; announced = absent; pool = workerAt s w .pool })) (map (endFor now w Done) h)
       (o ++ endEffects h w Done)
   unfolding feed atEnd
   withdraw-kept e =
@@ -551,7 +551,7 @@ module _ (now : ℕ) (s : Store) (olds : List (List ℕ)) (h : List Call) (o : L
   pub shown-kept : (d : Doing) → workerAt s w .doing ≡ d → Plainly d → ((c : ℕ) → inDoing c d ≡ 0) → Settled x t
       → (k : ℕ) → Running h w k → occurrences k o ≡ 0 → Looks (callAt h k .operation)
       → (a : Answer) → Tells a → shows rows p w (callAt h k .operation) ≡ some a
-      → Kept now (to Idle) (map (endFor now w a) h) (o ++ endEffects h w a)
+      → Kept start now (to Idle) (map (endFor now w a) h) (o ++ endEffects h w a)
   shown-kept d e pl m st k K n L a T sh =
       one-more o (endEffects h w a) k (own-is K a (tells-finishes T) (L .end))
       (place-inv d Idle e (λ i. sym (m i)) (calm d pl e) _ (o ++ (k ∷ [])) (feed p w (callAt h k .operation))
@@ -587,7 +587,7 @@ module _ (now : ℕ) (s : Store) (olds : List (List ℕ)) (h : List Call) (o : L
     single-kept : slotAt s c .low ≤ t′ → (o′ : Operation) → Looks o′
         → ((k : ℕ) → Serves (callAt h k .operation) r (g .purpose) → callAt h k .operation ≡ o′)
         → ((f : ℕ → Content) → copyFor p w (g .purpose) ≡ some f → shows rows p w o′ ≡ some (answerFor (f r)))
-        → Kept now (to Idle) (map (endFor now w (answerFor v)) h) (o ++ endEffects h w (answerFor v))
+        → Kept start now (to Idle) (map (endFor now w (answerFor v)) h) (o ++ endEffects h w (answerFor v))
     single-kept z o′ L is sh =
         let a = cur-is (ReadStand g c) e in
         let d = doing-is (ReadStand g c) e .2 in
@@ -597,14 +597,14 @@ module _ (now : ℕ) (s : Store) (olds : List (List ℕ)) (h : List Call) (o : L
         (rw i (sh (d .1) (d .2) ∙ ap (λ (q : Content). some (answerFor q)) (sym (found-in z (d .1) (d .2)))))
 
     pub found-kept : slotAt s c .low ≤ t′ → g .purpose ≡ Single
-        → Kept now (to Idle) (map (endFor now w (answerFor v)) h) (o ++ endEffects h w (answerFor v))
+        → Kept start now (to Idle) (map (endFor now w (answerFor v)) h) (o ++ endEffects h w (answerFor v))
     unfolding shows inCopy
     found-kept z single =
         single-kept z (Read r) (looks-read r) (λ k q. subst (Serves (callAt h k .operation) r) single q)
         (λ f q. ap (λ (i : Option (ℕ → Content)). inCopy i (λ f. answerFor (f r))) (sym (ap (copyFor p w) single) ∙ q))
 
     pub found-marked : slotAt s c .low ≤ t′ → (m : ℕ) → g .purpose ≡ Marked m
-        → Kept now (to Idle) (map (endFor now w (answerFor v)) h) (o ++ endEffects h w (answerFor v))
+        → Kept start now (to Idle) (map (endFor now w (answerFor v)) h) (o ++ endEffects h w (answerFor v))
     unfolding shows inCopy
     found-marked z m marked =
         single-kept z (MarkedRead r m) (looks-marked r m) (λ k q. subst (Serves (callAt h k .operation) r) marked q)
@@ -633,12 +633,12 @@ module _ (now : ℕ) (s : Store) (olds : List (List ℕ)) (h : List Call) (o : L
           ∙ ap (sumOver f) (sym (own-next j rows i (so-far .0) (so-far .2)))
 
       -- 18
-      pub over-kept : Kept now (to Idle) (map (endFor now w (No 18)) h) o
+      pub over-kept : Kept start now (to Idle) (map (endFor now w (No 18)) h) o
       over-kept = refuse-kept 18 (ReadStand g c) e tt (λ i. refl) settled (call .0, call .1, call .3)
 
       -- the last row of its group
       pub total-kept : goesOn rows j i ≡ false
-          → Kept now (to Idle) (map (endFor now w (signed more)) h) (o ++ endEffects h w (signed more))
+          → Kept start now (to Idle) (map (endFor now w (signed more)) h) (o ++ endEffects h w (signed more))
       unfolding shows inCopy
       total-kept n =
           let all : ofGroup j (take (i + 1) rows) ≡ ofGroup j rows =
@@ -648,7 +648,7 @@ module _ (now : ℕ) (s : Store) (olds : List (List ℕ)) (h : List Call) (o : L
           (rw (call .2, so-far .4 .1) (ap (λ (k : Sum). some (signed k)) (sym (more-is ∙ ap (sumOver (so-far .4 .0)) all))))
 
       -- another row follows
-      pub next-kept : countOf v ≤ twelveDigits → goesOn rows j i ≡ true → Kept now (to (ReadEnter (goalAt rows j (i + 1) more))) h o
+      pub next-kept : countOf v ≤ twelveDigits → goesOn rows j i ≡ true → Kept start now (to (ReadEnter (goalAt rows j (i + 1) more))) h o
       next-kept few n =
           let k = goes rows j i n in
           let own : length (ofGroup j (take (i + 1) rows)) ≡ length (ofGroup j (take i rows)) + 1 =
@@ -666,7 +666,7 @@ module _ (now : ℕ) (s : Store) (olds : List (List ℕ)) (h : List Call) (o : L
           )
           (call .0, call .1, (call .2, call .3))
 
-    pub on-kept : t′ < slotAt s c .low → Kept now (to (ReadStand g (slotAt s c .older))) h o
+    pub on-kept : t′ < slotAt s c .low → Kept start now (to (ReadStand g (slotAt s c .older))) h o
     on-kept z =
         let a = cur-is (ReadStand g c) e in
         let d = doing-is (ReadStand g c) e in

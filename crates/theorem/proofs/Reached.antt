@@ -8,7 +8,7 @@ use native.Mathlib.Omega.{arith}
 use lib.Dec.{ltb, leb, eqb}
 use lib.ListN.{length, getD, take, replicate, length-append}
 use borrow.Author.Tests as Tests
-use Rattle.model.specs.Store.{absent, lastClock, Reading, Slot, Range, OpenAnnounce, OpenPass, CloseWithdraw, Purpose, Single, Marked, Lent}
+use Rattle.model.specs.Store.{Content, absent, lastClock, Reading, Slot, Range, OpenAnnounce, OpenPass, CloseWithdraw, Purpose, Single, Marked, Lent}
 use Rattle.model.specs.Store.{Totaling, Doing, Idle, PutPublish, PutStamp, PutHandIn, FlushTake, FlushRead, FlushFree, OnTime}
 use Rattle.model.specs.Store.{ReadEnter, ReadStand, GetShow, startWorker, Site, Store, Hub, blank, up, workerAt, slotAt, place}
 use Rattle.model.specs.Totals.{rowAt, ofGroup}
@@ -18,9 +18,9 @@ use Rattle.model.specs.Answer.{Ok, Stepped, Applied}
 use Rattle.model.specs.Versions.{stamp}
 use Rattle.model.specs.Steps.{putPublish, putStamp, putHandIn, flushTake, flushSplit, flushRead, flushFree, openAnnounce, openPass}
 use Rattle.model.specs.Steps.{readEnter, readStand, getShow, closeWithdraw, timeStep, stepAt}
-use Rattle.model.specs.Record.{SetUp, Begin, Step, Decoded, Asks, Refuses, decode, rowsOf}
-use Rattle.model.specs.Apply.{refuse, fresh, setUp, terms, step, obey, applyDecoded, apply, applyRuled}
-use Rattle.model.specs.Demand.{Call, Plain, plain₀, events, observe, effects, All}
+use Rattle.model.specs.Record.{SetUp, Begin, Step, Decoded, Asks, Refuses, decode}
+use Rattle.model.specs.Apply.{madeBy, refuse, fresh, setUp, terms, step, obey, applyDecoded, apply, applyRuled}
+use Rattle.model.specs.Demand.{Call, Plain, startOf, plain₀, events, observe, effects, All}
 use Rattle.model.specs.Reached.{sumBy, inHand, TotalFits, TimesFit, Bounds, SoundHub, Throughout, Sound}
 use Rattle.model.specs.Figure.{HandByHigh, WorkerByHigh, StoreByHigh, FigureHub, AsPublished}
 use Rattle.model.proofs.Basic.{cond-both, All-from, All-map, All-nth, up-inj}
@@ -40,7 +40,7 @@ use Rattle.model.proofs.Figure.{split-is-figure}
 ------------------------------------------------------------------------
 -- One record keeps the bounds, and the pools sorted
 
-module _ (now : ℕ) (s : Store) (olds : List (List ℕ)) (h : List Call) (o : List ℕ) (p : Plain) (I : Inv now s olds h o p) (pos : 0 < s .site .B)
+module _ {start : ℕ → Content} (now : ℕ) (s : Store) (olds : List (List ℕ)) (h : List Call) (o : List ℕ) (p : Plain) (I : Inv start now s olds h o p) (pos : 0 < s .site .B)
     (W : Within (s .site .B) s) (S : StoreByHigh s) where
   abbrev Bounded : Applied → Type 0
   Bounded a = (t : Store) × (a .hub ≡ up t) × SameSite s t × Within (s .site .B) t × StoreByHigh t
@@ -96,7 +96,7 @@ pub record Reached (rules : Rules) (table : List ℕ) (s : Store) : Type 0 where
   pub calls : List Call
   pub order : List ℕ
   pub plain : Plain
-  pub inv : Inv now s olds calls order plain
+  pub inv : Inv (startOf (rules .given)) now s olds calls order plain
   pub within : Within (s .site .B) s
   pub byHigh : StoreByHigh s
   pub fits : SiteFits rules table (s .site)
@@ -119,7 +119,7 @@ reached-apply {first} {table} rules s R b = (
     order = order;
     plain = A .kept .p;
     inv =
-        subst (λ (q : Store). Inv (R .now + 1) q (A .kept .olds) calls order (A .kept .p)) (up-inj (A .store) (F .0) (sym (A .is) ∙ F .1))
+        subst (λ (q : Store). Inv (startOf (first .given)) (R .now + 1) q (A .kept .olds) calls order (A .kept .p)) (up-inj (A .store) (F .0) (sym (A .is) ∙ F .1))
         (A .kept .inv);
     within = subst (λ (q : Site). Within (q .B) (F .0)) (sym (F .2)) (F .3);
     byHigh = F .4;
@@ -127,7 +127,7 @@ reached-apply {first} {table} rules s R b = (
   },
 )
   where
-    A : Holds (R .now) s (decode b) (R .calls) (R .order) (apply rules (up s) b)
+    A : Holds (startOf (first .given)) (R .now) s (decode b) (R .calls) (R .order) (apply rules (up s) b)
     A = apply-holds (R .now) s (R .olds) (R .calls) (R .order) (R .plain) (R .inv) rules b
 
     calls : List Call
@@ -154,7 +154,7 @@ all-start b (suc n) h = (h, all-start b n h)
 
 -- the store that an accepted setup leaves
 pub reached-start : (rules : Rules) → Allowed rules → {lent : Lent} {hub : Hub} (A : Accepted rules lent hub)
-    → Reached rules (lent .table) (fresh (rules .batch (A .sizes .P)) (A .sizes) (rowsOf (rules .list)) (lent .table) (lent .row))
+    → Reached rules (lent .table) (madeBy rules (A .sizes) lent)
 unfolding fresh
 reached-start rules allowed A =
     let size = allowed (A .sizes .P) (A .fits .one≤P) (A .fits .P≤16) in
@@ -163,7 +163,7 @@ reached-start rules allowed A =
       olds = _;
       calls = [];
       order = [];
-      plain = plain₀;
+      plain = plain₀ (startOf (rules .given));
       inv = accepted-inv rules A;
       within = record { workers = all-start (rules .batch (A .sizes .P)) (A .sizes .P) (size .0); pools = tt };
       byHigh = record { queued = tt; workers = start-byHigh _ (A .sizes .P) };
@@ -188,7 +188,7 @@ pub reached : (row : Lent) (setup : Ruled) → Allowed (setup .rules) → applyR
 reached row b allowed e bs =
     let A = accepts (b .rules) row (b .bytes) e in
     subst (λ (q : Hub). Throughout (ReachedHub (b .rules) (row .table)) (events q bs)) (sym (A .is))
-    (reached-all bs (fresh (b .rules .batch (A .sizes .P)) (A .sizes) (rowsOf (b .rules .list)) (row .table) (row .row)) (reached-start (b .rules) allowed A))
+    (reached-all bs (madeBy (b .rules) (A .sizes) row) (reached-start (b .rules) allowed A))
 
 ------------------------------------------------------------------------
 -- What specs/Reached.antt claims
@@ -213,7 +213,7 @@ module _ (b : ℕ) where
   pools-few (l ∷ q) t = omega (arith, t .0 .0, pools-few q (t .1))
 
 -- the sums of a total
-module _ {now : ℕ} {s : Store} {olds : List (List ℕ)} {h : List Call} {o : List ℕ} {p : Plain} (I : Inv now s olds h o p) where
+module _ {start : ℕ → Content} {now : ℕ} {s : Store} {olds : List (List ℕ)} {h : List Call} {o : List ℕ} {p : Plain} (I : Inv start now s olds h o p) where
   summed-fits : (w r : ℕ) (y : Purpose) → Summed (s .site .rows) p w r y → TotalFits (s .site .rows) y
   summed-fits w r Single a = tt
   summed-fits w r (Marked m) a = tt

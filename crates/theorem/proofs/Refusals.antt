@@ -99,7 +99,7 @@ Ends h d a = EndsWell h d (a .answer) (a .hub)
 setup-well : (rules : Rules) (row : Lent) (z : Sizes) → Ends (blank row) (Asks (SetUp z)) (setUp rules (blank row) z)
 unfolding setUp takesStep occurrences
 setup-well rules row z =
-    cond-both (Ends (blank row) (Asks (SetUp z))) (inRanges z && leb (z .N) (length (row .row)) && listFits (z .V') (rules .list)) _ _ (λ e. tt)
+    cond-both (Ends (blank row) (Asks (SetUp z))) (inRanges z && leb (z .N) (length (row .row)) && listFits (z .V') (rules .given .totals)) _ _ (λ e. tt)
     (λ e. on-reading (blank row) (Asks (SetUp z)) 5 refl (omega arith))
 
 begin-well : (rules : Rules) (s : Store) (w : ℕ) (c : Operation) → Ends (up s) (Asks (Begin w c)) (begin rules s w c)

@@ -16,8 +16,8 @@ use Rattle.model.specs.Rules.{Rules}
 use Rattle.model.specs.Answer.{Ok, Applied}
 use Rattle.model.specs.Totals.{follow}
 use Rattle.model.specs.Record.{Sizes, SetUp, Begin, Step, Decoded, Asks, Refuses, decode, rowsOf, listFits}
-use Rattle.model.specs.Apply.{refuse, inRanges, firstSlots, fresh, setUp, obey, applyDecoded, apply}
-use Rattle.model.specs.Demand.{plain₀, occurrences, Ordered, ByEnds, RegistersAgree}
+use Rattle.model.specs.Apply.{madeBy, refuse, inRanges, firstSlots, fresh, setUp, obey, applyDecoded, apply}
+use Rattle.model.specs.Demand.{startOf, plain₀, occurrences, Ordered, ByEnds, RegistersAgree}
 use Rattle.model.specs.Reached.{sumBy}
 use Rattle.model.proofs.Basic.{hit-eq, hit-other, lt-cases, eq-cases, cond-both, and-both}
 use Rattle.theorem.proofs.Linear.{Lin, after}
@@ -102,7 +102,7 @@ module _ (size : ℕ) (z : Sizes) (rows : List ℕ) (table : List ℕ) (row : Li
   abbrev olds : List (List ℕ)
   olds = replicate v []
 
-  pub start-inv : Inv 0 (fresh size z rows table row) olds [] [] plain₀
+  pub start-inv : Inv (λ r. none) 0 (fresh size z rows table row) olds [] [] (plain₀ (λ r. none))
   unfolding fresh occurrences sumBy cnt
   start-inv =
       record {
@@ -124,7 +124,7 @@ module _ (size : ℕ) (z : Sizes) (rows : List ℕ) (table : List ℕ) (row : Li
             (ap (λ (z : Slot). z .high) (at r b), inl (omega (arith, ap (λ (z : Slot). z .low) (at r b)), ap (λ (z : Slot). z .value) (at r b), tt));
         queue = tt;
         workers =
-            λ w b. subst (Works (ctx (fresh size z rows table row) olds) [] [] plain₀ w) (sym (getD-replicate p w startWorker startWorker b))
+            λ w b. subst (Works (ctx (fresh size z rows table row) olds) [] [] (plain₀ (λ r. none)) w) (sym (getD-replicate p w startWorker startWorker b))
             (record {
               pool = tt;
               announced = inl refl;
@@ -197,7 +197,7 @@ module _ (size : ℕ) (z : Sizes) (rows : List ℕ) (table : List ℕ) (row : Li
       at : (r : ℕ) → r < v → nth (firstSlots v (take n row)) r ≡ record { value = none; low = 0; high = absent; older = absent; newer = absent }
       at r b = first-at v (take n row) r b (omega (arith, length-take-le n row long))
 
-      first-lin : Lin rows 0 [] [] plain₀
+      first-lin : Lin rows (λ r. none) 0 [] [] (plain₀ (λ r. none))
       first-lin =
           record {
             isOrder =
@@ -252,10 +252,10 @@ in-ranges z e =
 -- a record that a hub not yet set up answers `ok` is a setup: its store is fresh, with sizes in their ranges
 pub record Accepted (rules : Rules) (lent : Lent) (hub : Hub) : Type 0 where
   pub sizes : Sizes
-  pub is : hub ≡ up (fresh (rules .batch (sizes .P)) sizes (rowsOf (rules .list)) (lent .table) (lent .row))
+  pub is : hub ≡ up (madeBy rules sizes lent)
   pub long : sizes .N ≤ length (lent .row)
   pub fits : InRanges sizes
-  pub rows : follow (sizes .V') 0 0 (rowsOf (rules .list)) ≡ true
+  pub rows : follow (sizes .V') 0 0 (rowsOf (rules .given .totals)) ≡ true
 
 abbrev Accepts : Rules → Lent → Applied → Type 0
 Accepts rules lent a = a .answer ≡ Ok → Accepted rules lent (a .hub)
@@ -266,7 +266,7 @@ refuses rules lent h k e = absurd (let z : _≡_ {A = ℕ} 0 1 = cc in omega ari
 obeys : (rules : Rules) (lent : Lent) (d : Decoded) → Accepts rules lent (applyDecoded rules (blank lent) d)
 unfolding applyDecoded obey setUp listFits
 obeys rules lent (Asks (SetUp z)) =
-    cond-both (Accepts rules lent) (inRanges z && leb (z .N) (length (lent .row)) && listFits (z .V') (rules .list)) _ _
+    cond-both (Accepts rules lent) (inRanges z && leb (z .N) (length (lent .row)) && listFits (z .V') (rules .given .totals)) _ _
     (λ e o.
     let t = and-both (inRanges z && leb (z .N) (length (lent .row))) _ e in
     let w = and-both (inRanges z) (leb (z .N) (length (lent .row))) (t .0) in
@@ -275,7 +275,7 @@ obeys rules lent (Asks (SetUp z)) =
       is = refl;
       long = Tests.leb-true (z .N) (length (lent .row)) (w .1);
       fits = in-ranges z (w .0);
-      rows = and-both (eqb (length (rules .list) % 4) 0) _ (t .1) .1;
+      rows = and-both (eqb (length (rules .given .totals) % 4) 0) _ (t .1) .1;
     })
     (λ e. refuses rules lent (blank lent) 5)
 obeys rules lent (Asks (Begin w o)) = refuses rules lent (blank lent) 8
@@ -289,6 +289,6 @@ accepts rules lent b = obeys rules lent (decode b)
 
 -- its store meets the invariant
 pub accepted-inv : (rules : Rules) {lent : Lent} {hub : Hub} (A : Accepted rules lent hub)
-    → Inv 0 (fresh (rules .batch (A .sizes .P)) (A .sizes) (rowsOf (rules .list)) (lent .table) (lent .row)) (replicate (A .sizes .V') []) [] [] plain₀
+    → Inv (startOf (rules .given)) 0 (madeBy rules (A .sizes) lent) (replicate (A .sizes .V') []) [] [] (plain₀ (startOf (rules .given)))
 accepted-inv rules {lent} A =
-    start-inv (rules .batch (A .sizes .P)) (A .sizes) (rowsOf (rules .list)) (lent .table) (lent .row) (A .rows) (A .long) (A .fits .V≤N) (A .fits .N≤2048) (omega (arith, A .fits .clock≤last))
+    start-inv (rules .batch (A .sizes .P)) (A .sizes) (rowsOf (rules .given .totals)) (lent .table) (lent .row) (A .rows) (A .long) (A .fits .V≤N) (A .fits .N≤2048) (omega (arith, A .fits .clock≤last))

@@ -57,14 +57,14 @@ next-high s t x c [] a h n = absurd a
 next-high s t x c (d ∷ l) a h n =
     ⊎-elim (λ u. absurd (n (u .0))) (λ u. All-get (Past s t) l (a .3) c (omega (arith, hit-other d c (u .0))) .1) (eq-cases d c)
 
-pub record Stamped (now : ℕ) (s : Store) (r : ℕ) (olds : List (List ℕ)) (h : List Call) (o₀ : List ℕ) : Type 0 where
+pub record Stamped (start : ℕ → Content) (now : ℕ) (s : Store) (r : ℕ) (olds : List (List ℕ)) (h : List Call) (o₀ : List ℕ) : Type 0 where
   pub o : List ℕ
   pub grown : o ≡ o₀ ++ changeEffects h s (stamp s r)
   pub p : Plain
-  pub inv : Inv now (stamp s r) olds h o p
+  pub inv : Inv start now (stamp s r) olds h o p
   pub low : nth (stamp s r .slots) (newestOf s r) .low ≤ s .clock
 
-module _ (now : ℕ) (s : Store) (olds : List (List ℕ)) (h : List Call) (o : List ℕ) (p : Plain) (I : Inv now s olds h o p) (r : ℕ)
+module _ {start : ℕ → Content} (now : ℕ) (s : Store) (olds : List (List ℕ)) (h : List Call) (o : List ℕ) (p : Plain) (I : Inv start now s olds h o p) (r : ℕ)
     (b : r < s .site .V') where
   abbrev n : ℕ
   n = newestOf s r
@@ -79,7 +79,7 @@ module _ (now : ℕ) (s : Store) (olds : List (List ℕ)) (h : List Call) (o : L
   x = ctx s olds
 
   -- the newest version has a low: nothing changes
-  stamp-had : nth sl n .low ≢ absent → Stamped now s r olds h o
+  stamp-had : nth sl n .low ≢ absent → Stamped start now s r olds h o
   unfolding stamp
   stamp-had e =
       record {
@@ -88,7 +88,7 @@ module _ (now : ℕ) (s : Store) (olds : List (List ℕ)) (h : List Call) (o : L
             sym (append-nil o) ∙ ap (λ (q : List ℕ). o ++ q)
             (sym (change-none h s (stamp s r) refl (λ v q c z y. ap (λ (i : Store). nth (i .slots) c .high) same)));
         p = p;
-        inv = subst (λ (q : Store). Inv now q olds h o p) (sym same) I;
+        inv = subst (λ (q : Store). Inv start now q olds h o p) (sym same) I;
         low = subst (λ (q : Store). nth (q .slots) n .low ≤ ck) (sym same) (⊎-elim (λ u. u .0) (λ u. absurd (e (u .0))) (I .stamps r b .1));
       }
     where
@@ -173,10 +173,10 @@ module _ (now : ℕ) (s : Store) (olds : List (List ℕ)) (h : List Call) (o : L
       g .3,
     )
 
-    lin : Lin (s .site .rows) now h o′ p′
+    lin : Lin (s .site .rows) start now h o′ p′
     unfolding feed atEnd
     lin =
-        subst (λ (q : Plain). Lin (s .site .rows) now h o′ q) (ap (λ (q : Operation). feed p (callAt h k .worker) q) kCall)
+        subst (λ (q : Plain). Lin (s .site .rows) start now h o′ q) (ap (λ (q : Operation). feed p (callAt h k .worker) q) kCall)
         (lin-effect (I .linear) k (kOpen .within) (kOpen .unfinished) kNot (ap atEnd kCall))
 
     fine-own : Fine sl′ ck (p′ .registers r) (chain x r)
@@ -328,7 +328,7 @@ module _ (now : ℕ) (s : Store) (olds : List (List ℕ)) (h : List Call) (o : L
         yes : takes s s′ w ≡ true
         yes = rw (dw, Tests.eq-eqb (nth sl c .high) absent hc, Tests.ne-eqb (nth sl′ c .high) absent (λ z. omega (arith, z, high-c, I .clockFits)))
 
-    stamp-new : Stamped now s r olds h o
+    stamp-new : Stamped start now s r olds h o
     unfolding stamp
     stamp-new =
         record {
@@ -360,10 +360,10 @@ module _ (now : ℕ) (s : Store) (olds : List (List ℕ)) (h : List Call) (o : L
           low = omega (arith, low-n);
         }
 
-  pub stamp-inv : Stamped now s r olds h o
+  pub stamp-inv : Stamped start now s r olds h o
   stamp-inv = ⊎-elim (λ u. new (u .0)) (λ u. stamp-had (u .0)) (eq-cases (nth sl n .low) absent)
     where
-      new : nth sl n .low ≡ absent → Stamped now s r olds h o
+      new : nth sl n .low ≡ absent → Stamped start now s r olds h o
       new e =
           let a = I .stamper r b e in
           let f = subst (Current x h o (a .0) (workerAt s (a .0) .announced)) (a .3) (I .workers (a .0) (a .1) .current) in

@@ -27,8 +27,8 @@ use Rattle.theorem.proofs.Places.{Kept, none-more, place-inv, doing-is,
 use Rattle.theorem.proofs.Places.{shown-kept}
 
 -- the covered version is stamped: on to the hand-in
-cover-on : (now : ℕ) (s : Store) (olds : List (List ℕ)) (h : List Call) (o : List ℕ) (p : Plain) → Inv now s olds h o p → (w : ℕ) → w < s .site .P
-    → (r c : ℕ) → workerAt s w .doing ≡ PutStamp r c → nth (s .slots) c .high ≤ s .clock → Kept now (place s w (PutHandIn r c)) h o
+cover-on : {start : ℕ → Content} (now : ℕ) (s : Store) (olds : List (List ℕ)) (h : List Call) (o : List ℕ) (p : Plain) → Inv start now s olds h o p → (w : ℕ) → w < s .site .P
+    → (r c : ℕ) → workerAt s w .doing ≡ PutStamp r c → nth (s .slots) c .high ≤ s .clock → Kept start now (place s w (PutHandIn r c)) h o
 cover-on now s olds h o p I w wb r c e hi =
     let d = doing-is now s olds h o p I w wb (PutStamp r c) e in
     let a = cur-is now s olds h o p I w wb (PutStamp r c) e in
@@ -38,10 +38,10 @@ cover-on now s olds h o p I w wb r c e hi =
     (d .0, d .1, d .2, hi)
     (a .0, a .1, ((r, a .2 .0, a .2 .1), ⊎-elim (λ u. absurd (omega (arith, u .0, hi, I .clockFits))) (λ u. u .1) (a .2 .2)))
 
-module _ (now : ℕ) (s : Store) (olds : List (List ℕ)) (h : List Call) (o : List ℕ) (p : Plain) (I : Inv now s olds h o p) (w : ℕ)
+module _ {start : ℕ → Content} (now : ℕ) (s : Store) (olds : List (List ℕ)) (h : List Call) (o : List ℕ) (p : Plain) (I : Inv start now s olds h o p) (w : ℕ)
     (wb : w < s .site .P) where
   pub cover-kept : (r c : ℕ) → workerAt s w .doing ≡ PutStamp r c
-      → Kept now (place (cond (eqb (slotAt s c .high) absent) (stamp s r) s) w (PutHandIn r c)) h
+      → Kept start now (place (cond (eqb (slotAt s c .high) absent) (stamp s r) s) w (PutHandIn r c)) h
       (o ++ changeEffects h s (cond (eqb (slotAt s c .high) absent) (stamp s r) s))
   unfolding stamp
   cover-kept r c e = ⊎-elim (λ u. rw (u .1) first) (λ u. rw (u .1) (second (u .0))) (eq-cases (slotAt s c .high) absent)
@@ -49,28 +49,28 @@ module _ (now : ℕ) (s : Store) (olds : List (List ℕ)) (h : List Call) (o : L
       d : PlaceHolds (ctx s olds) p w (workerAt s w .announced) (PutStamp r c)
       d = doing-is now s olds h o p I w wb (PutStamp r c) e
 
-      T : Stamped now s r olds h o
+      T : Stamped start now s r olds h o
       T = stamp-inv now s olds h o p I r (d .0)
 
-      first : Kept now (place (stamp s r) w (PutHandIn r c)) h (o ++ changeEffects h s (stamp s r))
+      first : Kept start now (place (stamp s r) w (PutHandIn r c)) h (o ++ changeEffects h s (stamp s r))
       first =
-          subst (Kept now (place (stamp s r) w (PutHandIn r c)) h) (T .grown)
+          subst (Kept start now (place (stamp s r) w (PutHandIn r c)) h) (T .grown)
           (cover-on now (stamp s r) olds h (T .o) (T .p) (T .inv) w wb r c e
           (⊎-elim (λ u. All-get (Past (stamp s r .slots) (s .clock)) (old (ctx s olds) r) (u .2) c (d .2) .1)
           (λ u. absurd (omega (arith, T .low, u .0, I .clockFits))) (T .inv .stamps r (d .0) .1)))
 
-      second : slotAt s c .high ≢ absent → Kept now (place s w (PutHandIn r c)) h (o ++ changeEffects h s s)
+      second : slotAt s c .high ≢ absent → Kept start now (place s w (PutHandIn r c)) h (o ++ changeEffects h s s)
       second n =
           none-more o (changeEffects h s s) (change-none h s s refl (λ v q i z y. refl))
           (cover-on now s olds h o p I w wb r c e (fine-high (s .slots) (s .clock) (p .registers r) (newestOf s r) c (old (ctx s olds) r)
           (I .stamps r (d .0)) (d .2) n))
 
   pub enter-kept : (g : Goal) → workerAt s w .doing ≡ ReadEnter g → markRefusal s (needFor (g .purpose)) ≡ none
-      → Kept now (place (stamp s (g .register)) w (ReadStand g (newestOf s (g .register)))) h (o ++ changeEffects h s (stamp s (g .register)))
+      → Kept start now (place (stamp s (g .register)) w (ReadStand g (newestOf s (g .register)))) h (o ++ changeEffects h s (stamp s (g .register)))
   unfolding stamp
   enter-kept g e q =
       let a = cur-is now (stamp s r) olds h (T .o) (T .p) (T .inv) w wb (ReadEnter g) e in
-      subst (Kept now (place (stamp s r) w (ReadStand g (newestOf s r))) h) (T .grown)
+      subst (Kept start now (place (stamp s r) w (ReadStand g (newestOf s r))) h) (T .grown)
       (place-inv now (stamp s r) olds h (T .o) (T .p) (T .inv) w wb (ReadEnter g) (ReadStand g (newestOf s r)) e (λ i. refl)
       (calm now (stamp s r) olds h (T .o) (T .p) (T .inv) w wb (ReadEnter g) tt e)
       h (T .o) (T .p) (hist-skip now w h (T .o) (T .p) (T .inv .linear)) refl (λ m. refl)
@@ -83,7 +83,7 @@ module _ (now : ℕ) (s : Store) (olds : List (List ℕ)) (h : List Call) (o : L
       d : PlaceHolds (ctx s olds) p w (workerAt s w .announced) (ReadEnter g)
       d = doing-is now s olds h o p I w wb (ReadEnter g) e
 
-      T : Stamped now s r olds h o
+      T : Stamped start now s r olds h o
       T = stamp-inv now s olds h o p I r (d .0)
 
       D : PlaceHolds (ctx (stamp s r) olds) (T .p) w (workerAt s w .announced) (ReadEnter g)
@@ -99,14 +99,14 @@ module _ (now : ℕ) (s : Store) (olds : List (List ℕ)) (h : List Call) (o : L
       S = source now (stamp s r) olds h (T .o) (T .p) (T .inv) w wb (g .purpose) (d .1) (same-refusal (g .purpose) ∙ q)
 
   pub show-kept : (r : ℕ) → workerAt s w .doing ≡ GetShow r
-      → Kept now (place (stamp s r) w Idle) (map (endFor now w (answerFor (slotAt s (newestOf s r) .value))) h)
+      → Kept start now (place (stamp s r) w Idle) (map (endFor now w (answerFor (slotAt s (newestOf s r) .value))) h)
       (o ++ (changeEffects h s (stamp s r) ++ endEffects h w (answerFor (slotAt s (newestOf s r) .value))))
   unfolding stamp shows
   show-kept r e =
       let a = cur-is now (stamp s r) olds h (T .o) (T .p) (T .inv) w wb (GetShow r) e in
-      subst (Kept now (place (stamp s r) w Idle) (map (endFor now w (answerFor v)) h))
+      subst (Kept start now (place (stamp s r) w Idle) (map (endFor now w (answerFor v)) h))
       (append-assoc o (changeEffects h s (stamp s r)) (endEffects h w (answerFor v)))
-      (subst (λ (q : List ℕ). Kept now (place (stamp s r) w Idle) (map (endFor now w (answerFor v)) h) (q ++ endEffects h w (answerFor v))) (T .grown)
+      (subst (λ (q : List ℕ). Kept start now (place (stamp s r) w Idle) (map (endFor now w (answerFor v)) h) (q ++ endEffects h w (answerFor v))) (T .grown)
       (shown-kept now (stamp s r) olds h (T .o) (T .p) (T .inv) w wb (GetShow r) e tt (λ i. refl) (d .1) (a .0) (a .1) (a .2 .1)
       (subst Looks (sym (a .2 .0)) (looks-get r)) (answerFor v) (answerFor-tells v)
       (rw (a .2 .0) (ap (λ (q : Content). some (answerFor q)) (sym val)))))
@@ -117,7 +117,7 @@ module _ (now : ℕ) (s : Store) (olds : List (List ℕ)) (h : List Call) (o : L
       d : PlaceHolds (ctx s olds) p w (workerAt s w .announced) (GetShow r)
       d = doing-is now s olds h o p I w wb (GetShow r) e
 
-      T : Stamped now s r olds h o
+      T : Stamped start now s r olds h o
       T = stamp-inv now s olds h o p I r (d .0)
 
       val : v ≡ T .p .registers r

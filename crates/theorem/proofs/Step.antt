@@ -10,7 +10,7 @@ use lib.Dec.{ltb, leb, eqb}
 use lib.ListN.{length}
 use lib.Seq.{getD-set-same}
 use borrow.Author.Tests as Tests
-use Rattle.model.specs.Store.{absent, Reading, Slot, Range, OpenAnnounce, OpenPass, CloseWithdraw, MarkKeep, MarkRelease, Purpose, countOf}
+use Rattle.model.specs.Store.{Content, absent, Reading, Slot, Range, OpenAnnounce, OpenPass, CloseWithdraw, MarkKeep, MarkRelease, Purpose, countOf}
 use Rattle.model.specs.Store.{Single, Marked, Totaling, Goal, Doing, Idle, PutPublish, PutStamp, PutHandIn, FlushTake, FlushRead}
 use Rattle.model.specs.Store.{FlushFree, OnTime, ReadEnter, ReadStand, GetShow, Store, workerAt, slotAt, newestOf, held, rangeOf}
 use Rattle.model.specs.Store.{withWorker, place, up}
@@ -46,8 +46,8 @@ use Rattle.theorem.proofs.Tick.{pass-kept}
 abbrev pub seen : ℕ → ℕ → Answer → List Call → List Call
 seen now w a h = cond (said a .ends) (map (endFor now w a) h) h
 
-pub record After (now : ℕ) (s : Store) (w : ℕ) (h : List Call) (o : List ℕ) (t : Stepped) : Type 0 where
-  pub kept : Kept now (t .store) (seen now w (t .answer) h) (o ++ (changeEffects h s (t .store) ++ endEffects h w (t .answer)))
+pub record After (start : ℕ → Content) (now : ℕ) (s : Store) (w : ℕ) (h : List Call) (o : List ℕ) (t : Stepped) : Type 0 where
+  pub kept : Kept start now (t .store) (seen now w (t .answer) h) (o ++ (changeEffects h s (t .store) ++ endEffects h w (t .answer)))
   pub safe : FreesNothingNeeded (up s) (t .answer)
   pub frees : (c : ℕ) → t .answer ≡ Freed c → (occurrences c (s .free) ≡ 0) × (0 < occurrences c (t .store .free))
   pub stays : (c : ℕ) → 0 < occurrences c (s .free) → (0 < occurrences c (t .store .free)) ⊎ TookIn c w (up s) (t .answer) (up (t .store))
@@ -60,9 +60,9 @@ abbrev pub NotFreed : Answer → Type 0
 NotFreed a = IsNone (said a .freed)
 
 -- a step that frees nothing and takes no slot
-quiet : {now : ℕ} {s : Store} {w : ℕ} {h : List Call} {o : List ℕ} {t : Stepped}
-    → Kept now (t .store) (seen now w (t .answer) h) (o ++ (changeEffects h s (t .store) ++ endEffects h w (t .answer)))
-    → t .store .free ≡ s .free → NotFreed (t .answer) → After now s w h o t
+quiet : {start : ℕ → Content} {now : ℕ} {s : Store} {w : ℕ} {h : List Call} {o : List ℕ} {t : Stepped}
+    → Kept start now (t .store) (seen now w (t .answer) h) (o ++ (changeEffects h s (t .store) ++ endEffects h w (t .answer)))
+    → t .store .free ≡ s .free → NotFreed (t .answer) → After start now s w h o t
 quiet K e n =
     record {
       kept = K;
@@ -75,38 +75,38 @@ quiet K e n =
 pub change-still : (h : List Call) (s t : Store) → t .clock ≡ s .clock → t .slots ≡ s .slots → changeEffects h s t ≡ []
 change-still h s t k e = change-none h s t k (λ v r c z y. ap (λ (l : List Slot). nth l c .high) e)
 
-module _ {now : ℕ} (s : Store) {w : ℕ} {h : List Call} {o : List ℕ} where
+module _ {start : ℕ → Content} {now : ℕ} (s : Store) {w : ℕ} {h : List Call} {o : List ℕ} where
   -- no put is stamped and no time passed, and the operation that ends, if any, takes effect
-  ended : (t : Store) (a : Answer) → t .clock ≡ s .clock → t .slots ≡ s .slots → Kept now t (seen now w a h) (o ++ endEffects h w a)
-      → t .free ≡ s .free → NotFreed a → After now s w h o (record { store = t; answer = a })
+  ended : (t : Store) (a : Answer) → t .clock ≡ s .clock → t .slots ≡ s .slots → Kept start now t (seen now w a h) (o ++ endEffects h w a)
+      → t .free ≡ s .free → NotFreed a → After start now s w h o (record { store = t; answer = a })
   ended t a k l K e n =
-      quiet (subst (λ (q : List ℕ). Kept now t (seen now w a h) (o ++ (q ++ endEffects h w a))) (sym (change-still h s t k l)) K) e n
+      quiet (subst (λ (q : List ℕ). Kept start now t (seen now w a h) (o ++ (q ++ endEffects h w a))) (sym (change-still h s t k l)) K) e n
 
   -- nothing takes effect
-  plain : (t : Store) (a : Answer) → t .clock ≡ s .clock → t .slots ≡ s .slots → endEffects h w a ≡ [] → Kept now t (seen now w a h) o
-      → t .free ≡ s .free → NotFreed a → After now s w h o (record { store = t; answer = a })
+  plain : (t : Store) (a : Answer) → t .clock ≡ s .clock → t .slots ≡ s .slots → endEffects h w a ≡ [] → Kept start now t (seen now w a h) o
+      → t .free ≡ s .free → NotFreed a → After start now s w h o (record { store = t; answer = a })
   plain t a k l y K e n = ended t a k l (none-more o (endEffects h w a) y K) e n
 
   -- only puts and opens take effect
-  spreads : (t : Store) (a : Answer) → endEffects h w a ≡ [] → Kept now t (seen now w a h) (o ++ changeEffects h s t) → t .free ≡ s .free
-      → NotFreed a → After now s w h o (record { store = t; answer = a })
+  spreads : (t : Store) (a : Answer) → endEffects h w a ≡ [] → Kept start now t (seen now w a h) (o ++ changeEffects h s t) → t .free ≡ s .free
+      → NotFreed a → After start now s w h o (record { store = t; answer = a })
   spreads t a y K e n =
-      quiet (subst (λ (q : List ℕ). Kept now t (seen now w a h) (o ++ q))
+      quiet (subst (λ (q : List ℕ). Kept start now t (seen now w a h) (o ++ q))
       (sym (ap (λ (q : List ℕ). changeEffects h s t ++ q) y ∙ append-nil (changeEffects h s t))) K) e n
 
   -- a step that shows something
-  shows-it : (a : Answer) → Tells a → (t : Store) → Kept now t (map (endFor now w a) h) (o ++ (changeEffects h s t ++ endEffects h w a))
-      → t .free ≡ s .free → After now s w h o (record { store = t; answer = a })
+  shows-it : (a : Answer) → Tells a → (t : Store) → Kept start now t (map (endFor now w a) h) (o ++ (changeEffects h s t ++ endEffects h w a))
+      → t .free ≡ s .free → After start now s w h o (record { store = t; answer = a })
   shows-it a T t K e =
-      quiet (subst (λ (b : Bool). Kept now t (cond b (map (endFor now w a) h) h) (o ++ (changeEffects h s t ++ endEffects h w a)))
+      quiet (subst (λ (b : Bool). Kept start now t (cond b (map (endFor now w a) h) h) (o ++ (changeEffects h s t ++ endEffects h w a)))
       (sym (T .ends)) K) e (subst IsNone (sym (T .freed)) tt)
 
   -- and no more than that
-  shows-only : (a : Answer) → Tells a → Kept now (place s w Idle) (map (endFor now w a) h) (o ++ endEffects h w a)
-      → After now s w h o (record { store = place s w Idle; answer = a })
+  shows-only : (a : Answer) → Tells a → Kept start now (place s w Idle) (map (endFor now w a) h) (o ++ endEffects h w a)
+      → After start now s w h o (record { store = place s w Idle; answer = a })
   shows-only a T K =
       shows-it a T (place s w Idle)
-      (subst (λ (q : List ℕ). Kept now (place s w Idle) (map (endFor now w a) h) (o ++ (q ++ endEffects h w a)))
+      (subst (λ (q : List ℕ). Kept start now (place s w Idle) (map (endFor now w a) h) (o ++ (q ++ endEffects h w a)))
       (sym (change-still h s (place s w Idle) refl refl)) K) refl
 
 own-going : (h : List Call) (w : ℕ) → endEffects h w Going ≡ []
@@ -121,7 +121,7 @@ pub own-refused : (h : List Call) (w k : ℕ) → endEffects h w (No k) ≡ []
 unfolding endEffects
 own-refused h w k = refl
 
-pub inv-skip : (now : ℕ) (s : Store) (olds : List (List ℕ)) (h : List Call) (o : List ℕ) (p : Plain) → Inv now s olds h o p → Kept now s h o
+pub inv-skip : {start : ℕ → Content} (now : ℕ) (s : Store) (olds : List (List ℕ)) (h : List Call) (o : List ℕ) (p : Plain) → Inv start now s olds h o p → Kept start now s h o
 inv-skip now s olds h o p I =
     record {
       olds = olds;
@@ -151,22 +151,22 @@ inv-skip now s olds h o p I =
     }
 
 -- a step record of a worker that performs no operation, refused on reading
-pub no-step : (now : ℕ) (s : Store) (olds : List (List ℕ)) (h : List Call) (o : List ℕ) (p : Plain) → Inv now s olds h o p
-    → (w k : ℕ) → NoneRunning h w → Kept now s (map (endFor now w (No k)) h) o
-no-step now s olds h o p I w k f = subst (λ (q : List Call). Kept now s q o) (sym (ended-none now w (No k) h f)) (inv-skip now s olds h o p I)
+pub no-step : {start : ℕ → Content} (now : ℕ) (s : Store) (olds : List (List ℕ)) (h : List Call) (o : List ℕ) (p : Plain) → Inv start now s olds h o p
+    → (w k : ℕ) → NoneRunning h w → Kept start now s (map (endFor now w (No k)) h) o
+no-step {start} now s olds h o p I w k f = subst (λ (q : List Call). Kept start now s q o) (sym (ended-none now w (No k) h f)) (inv-skip now s olds h o p I)
 
-module _ (now : ℕ) (s : Store) (olds : List (List ℕ)) (h : List Call) (o : List ℕ) (p : Plain) (I : Inv now s olds h o p) (w : ℕ)
+module _ {start : ℕ → Content} (now : ℕ) (s : Store) (olds : List (List ℕ)) (h : List Call) (o : List ℕ) (p : Plain) (I : Inv start now s olds h o p) (w : ℕ)
     (wb : w < s .site .P) where
-  put-after : (r : ℕ) (y : Reading) → workerAt s w .doing ≡ PutPublish r y → (l : List ℕ) → s .free ≡ l → After now s w h o (putPublish s w r y l)
+  put-after : (r : ℕ) (y : Reading) → workerAt s w .doing ≡ PutPublish r y → (l : List ℕ) → s .free ≡ l → After start now s w h o (putPublish s w r y l)
   unfolding putPublish stamp occurrences
   put-after r y e [] fr = plain s (place s w Idle) (No 14) refl refl (own-refused h w 14) (refuse-put now s olds h o p I w wb r y e) refl tt
   put-after r y e (f ∷ fs) fr =
       record {
         kept =
-            subst (λ (q : List ℕ). Kept now t h (o ++ (changeEffects h s t ++ q))) (sym (own-going h w))
-            (subst (λ (q : List ℕ). Kept now t h (o ++ q)) (sym (append-nil (changeEffects h s t)))
-            (subst (λ (q : List ℕ). Kept now t h (o ++ q)) (sym same)
-            (subst (Kept now t h) (T .grown) (link-kept now (stamp s r) olds h (T .o) (T .p) (T .inv) w wb r b y e (T .low) f fs fr))));
+            subst (λ (q : List ℕ). Kept start now t h (o ++ (changeEffects h s t ++ q))) (sym (own-going h w))
+            (subst (λ (q : List ℕ). Kept start now t h (o ++ q)) (sym (append-nil (changeEffects h s t)))
+            (subst (λ (q : List ℕ). Kept start now t h (o ++ q)) (sym same)
+            (subst (Kept start now t h) (T .grown) (link-kept now (stamp s r) olds h (T .o) (T .p) (T .inv) w wb r b y e (T .low) f fs fr))));
         safe = λ c z. absurd (subst NotFreed z tt);
         frees = λ c z. absurd (subst NotFreed z tt);
         stays = λ c z.
@@ -179,7 +179,7 @@ module _ (now : ℕ) (s : Store) (olds : List (List ℕ)) (h : List Call) (o : L
       b : r < s .site .V'
       b = doing-is now s olds h o p I w wb (PutPublish r y) e .0
 
-      T : Stamped now s r olds h o
+      T : Stamped start now s r olds h o
       T = stamp-inv now s olds h o p I r b
 
       t : Store
@@ -207,11 +207,11 @@ module _ (now : ℕ) (s : Store) (olds : List (List ℕ)) (h : List Call) (o : L
   free-pick true r = refl
   free-pick false r = refl
 
-  hand-after : (r c : ℕ) → workerAt s w .doing ≡ PutHandIn r c → After now s w h o (putHandIn s w c)
+  hand-after : (r c : ℕ) → workerAt s w .doing ≡ PutHandIn r c → After start now s w h o (putHandIn s w c)
   unfolding putHandIn
   hand-after r c e = go (eqb (length (workerAt s w .pool ++ (rangeOf s c ∷ []))) (s .site .B))
     where
-      go : (full : Bool) → After now s w h o
+      go : (full : Bool) → After start now s w h o
           (record {
             store = withWorker s w (record {
               doing = cond full FlushTake Idle;
@@ -232,7 +232,7 @@ module _ (now : ℕ) (s : Store) (olds : List (List ℕ)) (h : List Call) (o : L
           ended s (withWorker s w (record { doing = Idle; announced = workerAt s w .announced; pool = workerAt s w .pool ++ (rangeOf s c ∷ []) }))
           Done refl refl (hand-done now s olds h o p I w wb r c e) refl tt
 
-  give-after : (m : List Range) → workerAt s w .doing ≡ FlushFree m → After now s w h o (flushFree s w m)
+  give-after : (m : List Range) → workerAt s w .doing ≡ FlushFree m → After start now s w h o (flushFree s w m)
   unfolding flushFree occurrences rangeOf
   give-after [] e = ended s (place s w Idle) Done refl refl (flush-done now s olds h o p I w wb e) refl tt
   give-after (ρ ∷ l) e =
@@ -259,13 +259,13 @@ module _ (now : ℕ) (s : Store) (olds : List (List ℕ)) (h : List Call) (o : L
       }
 
   found-after : (g : Goal) (c : ℕ) → workerAt s w .doing ≡ ReadStand g c → slotAt s c .low ≤ timeFor (s .marks) (workerAt s w .announced) (g .purpose)
-      → (y : Purpose) → g .purpose ≡ y → After now s w h o (found s w y (slotAt s c .value))
+      → (y : Purpose) → g .purpose ≡ y → After start now s w h o (found s w y (slotAt s c .value))
   unfolding found totalFound
   found-after g c e z Single q = shows-only s _ (answerFor-tells _) (found-kept now s olds h o p I w wb g c e z q)
   found-after g c e z (Marked m) q = shows-only s _ (answerFor-tells _) (found-marked now s olds h o p I w wb g c e z m q)
   found-after g c e z (Totaling j i y) q =
-      cond-both (After now s w h o) (leb (countOf (slotAt s c .value)) twelveDigits) _ _
-      (λ few. cond-both (After now s w h o) (goesOn (s .site .rows) j i) _ _
+      cond-both (After start now s w h o) (leb (countOf (slotAt s c .value)) twelveDigits) _ _
+      (λ few. cond-both (After start now s w h o) (goesOn (s .site .rows) j i) _ _
       (λ n. plain s _ Going refl refl (own-going h w)
       (next-kept now s olds h o p I w wb g c e j i y q z (Tests.leb-true (countOf (slotAt s c .value)) twelveDigits few) n) refl tt)
       (λ n. shows-only s _ (signed-tells _) (total-kept now s olds h o p I w wb g c e j i y q z n)))
@@ -274,10 +274,10 @@ module _ (now : ℕ) (s : Store) (olds : List (List ℕ)) (h : List Call) (o : L
   -- an operation on a mark is refused
   stopped : (k : ℕ) (d : Doing) → workerAt s w .doing ≡ d → Plainly now s olds h o p I w wb d → ((c : ℕ) → inDoing c d ≡ 0)
       → Settled (ctx s olds) (workerAt s w .announced) → ((j : ℕ) × Running h w j × (occurrences j o ≡ 0))
-      → After now s w h o (record { store = place s w Idle; answer = No k })
+      → After start now s w h o (record { store = place s w Idle; answer = No k })
   stopped k d e pl n st a = plain s _ (No k) refl refl (own-refused h w k) (refuse-kept now s olds h o p I w wb k d e pl n st a) refl tt
 
-  pub step-after : (d : Doing) → workerAt s w .doing ≡ d → After now s w h o (stepAt s w d)
+  pub step-after : (d : Doing) → workerAt s w .doing ≡ d → After start now s w h o (stepAt s w d)
   unfolding stepAt timeStep putStamp flushTake flushRead flushSplit openAnnounce openPass readEnter readStand getShow closeWithdraw markKeep markRelease stamp
   step-after Idle e =
       plain s s (No 11) refl refl (own-refused h w 11) (no-step now s olds h o p I w 11 (cur-is now s olds h o p I w wb Idle e)) refl tt
@@ -287,35 +287,35 @@ module _ (now : ℕ) (s : Store) (olds : List (List ℕ)) (h : List Call) (o : L
   step-after (PutHandIn r c) e = hand-after r c e
   step-after FlushTake e = plain s _ Going refl refl (own-going h w) (take-kept now s olds h o p I w wb e) refl tt
   step-after (FlushRead m ts) e =
-      cond-both (After now s w h o) (leb (length ts) (s .site .P)) _ _
+      cond-both (After start now s w h o) (leb (length ts) (s .site .P)) _ _
       (λ u. plain s _ Going refl refl (own-going h w) (ask-kept now s olds h o p I w wb m ts e (Tests.leb-true (length ts) (s .site .P) u)) refl tt)
       (λ u. plain s _ Going refl refl (own-going h w) (split-kept now s olds h o p I w wb m ts e (s .site .B)
       (Tests.leb-false (length ts) (s .site .P) u)) refl tt)
   step-after (FlushFree m) e = give-after m e
   step-after (OnTime OpenAnnounce) e =
-      cond-both (After now s w h o) (eqb (s .clock) 4294967295) _ _
+      cond-both (After start now s w h o) (eqb (s .clock) 4294967295) _ _
       (λ u. plain s _ (No 15) refl refl (own-refused h w 15) (refuse-open now s olds h o p I w wb e) refl tt)
       (λ u. plain s _ Going refl refl (own-going h w) (announce-kept now s olds h o p I w wb e (Tests.eqb-false (s .clock) 4294967295 u)) refl tt)
   step-after (OnTime OpenPass) e = quiet (pass-kept now s olds h o p I w wb e) refl tt
   step-after (ReadEnter g) e =
-      stopped-by (After now s w h o) _ s w _
+      stopped-by (After start now s w h o) _ s w _
       (λ k u. stopped k (ReadEnter g) e tt (λ i. refl) (sourced-settled (ctx s olds) (ctx s olds) _ (g .purpose) (doing-is now s olds h o p I w wb (ReadEnter g) e .1))
       (let a = cur-is now s olds h o p I w wb (ReadEnter g) e in (a .0, a .1, a .2 .1)))
       (λ u. spreads s _ Going (own-going h w) (enter-kept now s olds h o p I w wb g e u) refl tt)
   step-after (ReadStand g c) e =
       let a = timeFor (s .marks) (workerAt s w .announced) (g .purpose) in
-      cond-both (After now s w h o) (leb (slotAt s c .low) a) _ _
+      cond-both (After start now s w h o) (leb (slotAt s c .low) a) _ _
       (λ u. found-after g c e (Tests.leb-true (slotAt s c .low) a u) (g .purpose) refl)
       (λ u. plain s _ Going refl refl (own-going h w) (on-kept now s olds h o p I w wb g c e (Tests.leb-false (slotAt s c .low) a u)) refl tt)
   step-after (OnTime CloseWithdraw) e = ended s _ Done refl refl (withdraw-kept now s olds h o p I w wb e) refl tt
   step-after (OnTime (MarkKeep m)) e =
       let d = doing-is now s olds h o p I w wb (OnTime (MarkKeep m)) e in
       let a = cur-is now s olds h o p I w wb (OnTime (MarkKeep m)) e in
-      stopped-by (After now s w h o) _ s w _ (λ k u. stopped k (OnTime (MarkKeep m)) e tt (λ i. refl) (inr (d .1)) (a .0, a .1, a .2 .1))
+      stopped-by (After start now s w h o) _ s w _ (λ k u. stopped k (OnTime (MarkKeep m)) e tt (λ i. refl) (inr (d .1)) (a .0, a .1, a .2 .1))
       (λ u. ended s _ Done refl refl (keep-kept now s olds h o p I w wb m e u) refl tt)
   step-after (OnTime (MarkRelease m)) e =
       let d = doing-is now s olds h o p I w wb (OnTime (MarkRelease m)) e in
       let a = cur-is now s olds h o p I w wb (OnTime (MarkRelease m)) e in
-      stopped-by (After now s w h o) _ s w _ (λ k u. stopped k (OnTime (MarkRelease m)) e tt (λ i. refl) (d .1) (a .0, a .1, a .2 .1))
+      stopped-by (After start now s w h o) _ s w _ (λ k u. stopped k (OnTime (MarkRelease m)) e tt (λ i. refl) (d .1) (a .0, a .1, a .2 .1))
       (λ u. ended s _ Done refl refl (release-kept now s olds h o p I w wb m e u) refl tt)
   step-after (GetShow r) e = shows-it s _ (answerFor-tells _) (place (stamp s r) w Idle) (show-kept now s olds h o p I w wb r e) refl

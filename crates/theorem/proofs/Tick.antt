@@ -78,7 +78,7 @@ fits-tick x x′ k es en t c n n′ q d v =
     high : (e : ℕ) → nth (x′ .slots) e .high ≡ nth (x .slots) e .high
     high e = ap (λ (l : List Slot). nth l e .high) es
 
-module _ (now : ℕ) (s : Store) (olds : List (List ℕ)) (h : List Call) (o : List ℕ) (p : Plain) (I : Inv now s olds h o p) where
+module _ {start : ℕ → Content} (now : ℕ) (s : Store) (olds : List (List ℕ)) (h : List Call) (o : List ℕ) (p : Plain) (I : Inv start now s olds h o p) where
   abbrev x : Ctx
   x = ctx s olds
 
@@ -128,7 +128,7 @@ module _ (now : ℕ) (s : Store) (olds : List (List ℕ)) (h : List Call) (o : L
     pub o′ : List ℕ
     pub grown : o′ ≡ o ++ map (runningOf h) (filterBelow (takes s s⁺) m)
     pub p′ : Plain
-    pub linear : Lin (s .site .rows) now h o′ p′
+    pub linear : Lin (s .site .rows) start now h o′ p′
     pub registers : (r : ℕ) → p′ .registers r ≡ p .registers r
     pub kept : (m : ℕ) → p′ .kept m ≡ p .kept m
     pub did : (v : ℕ) → v < s .site .P → v < m → Ready v
@@ -180,7 +180,7 @@ module _ (now : ℕ) (s : Store) (olds : List (List ℕ)) (h : List Call) (o : L
                 ∙ ap (λ (t : Bool). o ++ map (runningOf h) (filterBelow (takes s s⁺) m ++ cond t (m ∷ []) [])) (sym (takes-ready m g));
             p′ = p⁺;
             linear =
-                subst (λ (q : Plain). Lin (s .site .rows) now h o⁺ q) (ap (λ (i : ℕ). feed (T .p′) i (callAt h k .operation)) (K .own) ∙ ap (feed (T .p′) m) (F .0))
+                subst (λ (q : Plain). Lin (s .site .rows) start now h o⁺ q) (ap (λ (i : ℕ). feed (T .p′) i (callAt h k .operation)) (K .own) ∙ ap (feed (T .p′) m) (F .0))
                 (lin-effect (T .linear) k (K .within) (K .unfinished) k-not (not-at-end (F .0)));
             registers = λ r. regs⁺ (T .p′) r ∙ T .registers r;
             kept = λ i. kept⁺ (T .p′) i ∙ T .kept i;
@@ -244,7 +244,7 @@ module _ (now : ℕ) (s : Store) (olds : List (List ℕ)) (h : List Call) (o : L
           far v n j J i = n (sym (J .own) ∙ ap (λ (q : ℕ). callAt h q .worker) (sym i) ∙ K .own)
 
   -- the clock passes its time
-  tick-inv : s .clock < 4294967295 → (o′ : List ℕ) × (p′ : Plain) × Inv now (withClock s (s .clock + 1)) olds h o′ p′
+  tick-inv : s .clock < 4294967295 → (o′ : List ℕ) × (p′ : Plain) × Inv start now (withClock s (s .clock + 1)) olds h o′ p′
       × (o′ ≡ o ++ changeEffects h s (withClock s (s .clock + 1)))
   tick-inv b = (
     T .o′,
@@ -347,9 +347,9 @@ module _ (now : ℕ) (s : Store) (olds : List (List ℕ)) (h : List Call) (o : L
               (Z .current)
 
 -- the open's second step, with the clock past its time
-done-kept : (now : ℕ) (s : Store) (olds : List (List ℕ)) (h : List Call) (o : List ℕ) (p : Plain) → Inv now s olds h o p → (w : ℕ) → w < s .site .P
+done-kept : {start : ℕ → Content} (now : ℕ) (s : Store) (olds : List (List ℕ)) (h : List Call) (o : List ℕ) (p : Plain) → Inv start now s olds h o p → (w : ℕ) → w < s .site .P
     → workerAt s w .doing ≡ OnTime OpenPass → workerAt s w .announced < s .clock
-    → Kept now (place s w Idle) (map (endFor now w (At (workerAt s w .announced))) h) (o ++ endEffects h w (At (workerAt s w .announced)))
+    → Kept start now (place s w Idle) (map (endFor now w (At (workerAt s w .announced))) h) (o ++ endEffects h w (At (workerAt s w .announced)))
 unfolding atEnd
 done-kept now s olds h o p I w wb e b =
     let a = cur-is now s olds h o p I w wb (OnTime OpenPass) e in
@@ -360,31 +360,31 @@ done-kept now s olds h o p I w wb e b =
     (λ q. subst (λ (c : Operation). Agrees c (FinishedAt now (At (workerAt s w .announced))) q) (sym (a .2 .0)) tt))
     refl (λ m. refl) (inr b) (end-shut now w h o p (I .linear) (At (workerAt s w .announced)) (a .0) (a .1)))
 
-pub pass-kept : (now : ℕ) (s : Store) (olds : List (List ℕ)) (h : List Call) (o : List ℕ) (p : Plain) → Inv now s olds h o p → (w : ℕ)
+pub pass-kept : {start : ℕ → Content} (now : ℕ) (s : Store) (olds : List (List ℕ)) (h : List Call) (o : List ℕ) (p : Plain) → Inv start now s olds h o p → (w : ℕ)
     → w < s .site .P
     → workerAt s w .doing ≡ OnTime OpenPass
-    → Kept now (place (withClock s (cond (eqb (s .clock) (workerAt s w .announced)) (s .clock + 1) (s .clock))) w Idle)
+    → Kept start now (place (withClock s (cond (eqb (s .clock) (workerAt s w .announced)) (s .clock + 1) (s .clock))) w Idle)
     (map (endFor now w (At (workerAt s w .announced))) h)
     (o ++ (changeEffects h s (withClock s (cond (eqb (s .clock) (workerAt s w .announced)) (s .clock + 1) (s .clock)))
     ++ endEffects h w (At (workerAt s w .announced))))
-pass-kept now s olds h o p I w wb e =
+pass-kept {start} now s olds h o p I w wb e =
     let d = doing-is now s olds h o p I w wb (OnTime OpenPass) e in
     ⊎-elim
     (λ u.
     let T = tick-inv now s olds h o p I (omega (arith, u .0, d .1)) in
-    subst (λ (t : Bool). Kept now (place (withClock s (cond t (s .clock + 1) (s .clock))) w Idle)
+    subst (λ (t : Bool). Kept start now (place (withClock s (cond t (s .clock + 1) (s .clock))) w Idle)
     (map (endFor now w (At (workerAt s w .announced))) h)
     (o ++ (changeEffects h s (withClock s (cond t (s .clock + 1) (s .clock))) ++ endEffects h w (At (workerAt s w .announced))))) (sym (u .1))
-    (subst (Kept now (place (withClock s (s .clock + 1)) w Idle) (map (endFor now w (At (workerAt s w .announced))) h))
+    (subst (Kept start now (place (withClock s (s .clock + 1)) w Idle) (map (endFor now w (At (workerAt s w .announced))) h))
     (append-assoc o (changeEffects h s (withClock s (s .clock + 1))) (endEffects h w (At (workerAt s w .announced))))
-    (subst (λ (q : List ℕ). Kept now (place (withClock s (s .clock + 1)) w Idle) (map (endFor now w (At (workerAt s w .announced))) h)
+    (subst (λ (q : List ℕ). Kept start now (place (withClock s (s .clock + 1)) w Idle) (map (endFor now w (At (workerAt s w .announced))) h)
     (q ++ endEffects h w (At (workerAt s w .announced)))) (T .3)
     (done-kept now (withClock s (s .clock + 1)) olds h (T .0) (T .1) (T .2) w wb e (omega (arith, u .0))))))
     (λ u.
-    subst (λ (t : Bool). Kept now (place (withClock s (cond t (s .clock + 1) (s .clock))) w Idle)
+    subst (λ (t : Bool). Kept start now (place (withClock s (cond t (s .clock + 1) (s .clock))) w Idle)
     (map (endFor now w (At (workerAt s w .announced))) h)
     (o ++ (changeEffects h s (withClock s (cond t (s .clock + 1) (s .clock))) ++ endEffects h w (At (workerAt s w .announced))))) (sym (u .1))
-    (subst (λ (q : List ℕ). Kept now (place s w Idle) (map (endFor now w (At (workerAt s w .announced))) h)
+    (subst (λ (q : List ℕ). Kept start now (place s w Idle) (map (endFor now w (At (workerAt s w .announced))) h)
     (o ++ (q ++ endEffects h w (At (workerAt s w .announced))))) (sym (change-none h s s refl (λ v q c z y. refl)))
     (done-kept now s olds h o p I w wb e (omega (arith, d .0, u .0)))))
     (eq-cases (s .clock) (workerAt s w .announced))

@@ -6,7 +6,7 @@ use mathlib.Core.List.{List, [], _∷_}
 use Prim.Native.Nat.{ℕ, zero, suc, _+_, _≤_, _<_}
 use native.Mathlib.Omega.{arith}
 use lib.ListN.{length}
-use Rattle.model.specs.Store.{Range, Worker, Store}
+use Rattle.model.specs.Store.{Content, Range, Worker, Store}
 use Rattle.model.specs.About.{Hand, Empty, Covered, Merged, Needless, about}
 use Rattle.model.specs.Demand.{Call, Plain, occurrences}
 use Rattle.model.specs.Reached.{sumBy, inHand, versionsHeld}
@@ -132,7 +132,7 @@ ones (suc m) = omega (arith, ones m)
 sumTo-below : (n : ℕ) → sumTo n (λ c. below c n) ≡ n
 sumTo-below n = sumTo-same n (λ c. below c n) (λ c. 1) (λ c z. ⊎-elim (λ u. u .1) (λ u. absurd (omega (arith, z, u .0))) (below-is c n)) ∙ ones n
 
-pub total : {now : ℕ} {s : Store} {olds : List (List ℕ)} {h : List Call} {o : List ℕ} {p : Plain} → Inv now s olds h o p
+pub total : {start : ℕ → Content} {now : ℕ} {s : Store} {olds : List (List ℕ)} {h : List Call} {o : List ℕ} {p : Plain} → Inv start now s olds h o p
     → sumBy versionsHeld (s .workers) + sumBy length (s .queue) + (length (s .free) + s .site .V') ≡ s .site .N
 total {s = s} I =
     omega (

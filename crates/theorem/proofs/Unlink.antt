@@ -72,7 +72,7 @@ doing-off c q x x′ p w t d m s a =
     (λ u. subst (PlaceHolds x′ p w t) (sym (u .1 c q)) (doing-map x x′ p p w t refl d (λ g i z. refl) (m (subst IsNowhere (sym (u .0)) tt)) a))
     (off-cases d)
 
-module _ (now : ℕ) (s : Store) (olds : List (List ℕ)) (h : List Call) (o : List ℕ) (p : Plain) (I : Inv now s olds h o p) (w : ℕ)
+module _ {start : ℕ → Content} (now : ℕ) (s : Store) (olds : List (List ℕ)) (h : List Call) (o : List ℕ) (p : Plain) (I : Inv start now s olds h o p) (w : ℕ)
     (wb : w < s .site .P)
     (ρ : Range) (l : List Range) (e : workerAt s w .doing ≡ FlushFree (ρ ∷ l)) where
   abbrev c : ℕ
@@ -413,7 +413,7 @@ module _ (now : ℕ) (s : Store) (olds : List (List ℕ)) (h : List Call) (o : L
         ))
         (eq-cases c i)
 
-    pub unlink-here : Kept now freed-store h o
+    pub unlink-here : Kept start now freed-store h o
     unfolding occurrences workerOff moveOff
     unlink-here =
         record {
@@ -472,5 +472,5 @@ module _ (now : ℕ) (s : Store) (olds : List (List ℕ)) (h : List Call) (o : L
         apart : (i q : ℕ) → PutStamp q i ≡ FlushFree (ρ ∷ l) → ⊥
         apart i q z = let k : _≡_ {A = ℕ} 0 1 = cc in omega arith
 
-  pub unlink-kept : Kept now freed-store h o
+  pub unlink-kept : Kept start now freed-store h o
   unlink-kept = let a = pend-chain I c c-pend in unlink-here (a .0) (a .1) (a .2)

@@ -21,7 +21,7 @@ use Rattle.theorem.proofs.Invariant.{Ctx, ctx, chain, pendW, pend, Good
 use Rattle.theorem.proofs.Transport.{Came, stays, Moves, same-copy, doing-map, fits-map, current-map}
 use Rattle.theorem.proofs.History.{Hist}
 
-module _ (now : ℕ) (s : Store) (olds : List (List ℕ)) (h : List Call) (o : List ℕ) (p : Plain) (I : Inv now s olds h o p) (w : ℕ)
+module _ {start : ℕ → Content} (now : ℕ) (s : Store) (olds : List (List ℕ)) (h : List Call) (o : List ℕ) (p : Plain) (I : Inv start now s olds h o p) (w : ℕ)
     (wb : w < s .site .P)
     (y : Worker) (q : List (List Range)) (ms : List ℕ) where
   abbrev pub after : Store
@@ -75,14 +75,14 @@ module _ (now : ℕ) (s : Store) (olds : List (List ℕ)) (h : List Call) (o : L
         → All (All (Good x)) q
         → ((v : ℕ) → Came x x′ v)
         → ((r c : ℕ) → workerAt s w .doing ≡ PutStamp r c → nth (s .slots) c .high ≡ absent → ⊥)
-        → Hist (s .site .rows) now′ w h o p h′ o′ p′
+        → Hist (s .site .rows) start now′ w h o p h′ o′ p′
         → length ms ≡ markCount
         → ((m : ℕ) → m < markCount → MarkHolds x′ p′ m)
         → ((v : ℕ) → v < s .site .P → v ≢ w → (g : Goal) (c : ℕ) → workerAt s v .doing ≡ ReadStand g c
         → (timeIn x′ (workerAt s v .announced) (g .purpose) ≡ timeIn x (workerAt s v .announced) (g .purpose))
         × (copyFor p′ v (g .purpose) ≡ copyFor p v (g .purpose)))
         → Works x′ h′ o′ p′ w y
-        → Inv now′ after olds h′ o′ p′
+        → Inv start now′ after olds h′ o′ p′
     marked-inv pe gq came nc H lm mk rd own =
         record {
           workersLength = length-set (s .workers) w y ∙ I .workersLength;
@@ -159,7 +159,7 @@ module _ (now : ℕ) (s : Store) (olds : List (List ℕ)) (h : List Call) (o : L
                 }
 
 -- the marks stay, and the copies under them
-module _ (now : ℕ) (s : Store) (olds : List (List ℕ)) (h : List Call) (o : List ℕ) (p : Plain) (I : Inv now s olds h o p) (w : ℕ)
+module _ {start : ℕ → Content} (now : ℕ) (s : Store) (olds : List (List ℕ)) (h : List Call) (o : List ℕ) (p : Plain) (I : Inv start now s olds h o p) (w : ℕ)
     (wb : w < s .site .P)
     (y : Worker) (q : List (List Range)) where
   abbrev z : Ctx
@@ -182,10 +182,10 @@ module _ (now : ℕ) (s : Store) (olds : List (List ℕ)) (h : List Call) (o : L
         → All (All (Good z)) q
         → (y .announced ≡ workerAt s w .announced) ⊎ ((y .announced ≡ absent) ⊎ (s .clock ≤ y .announced))
         → ((r c : ℕ) → workerAt s w .doing ≡ PutStamp r c → nth (s .slots) c .high ≡ absent → ⊥)
-        → Hist (s .site .rows) now′ w h o p h′ o′ p′
+        → Hist (s .site .rows) start now′ w h o p h′ o′ p′
         → ((m : ℕ) → p′ .kept m ≡ p .kept m)
         → Works z′ h′ o′ p′ w y
-        → Inv now′ (withQueue (withWorker s w y) q) olds h′ o′ p′
+        → Inv start now′ (withQueue (withWorker s w y) q) olds h′ o′ p′
     work-inv pe gq ti nc H kp own =
         marked-inv now s olds h o p I w wb y q (s .marks) now′ h′ o′ p′ pe gq (came ti) nc H (I .marksLength)
         (λ m b. ⊎-elim (λ u. inl (u .0, kp m ∙ u .1)) (λ u. inr (u .0, u .1, kp m ∙ u .2, u .3)) (I .marks m b))

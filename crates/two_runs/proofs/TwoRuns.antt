@@ -9,17 +9,17 @@ use mathlib.Core.Option.{Option, none, some}
 use Prim.Native.Nat.{ℕ, _+_, _<_}
 use lib.Dec.{ltb}
 use borrow.Author.Tests as Tests
-use Rattle.model.specs.Store.{absent, lastStatus, markCount, Slot, Doing, Worker, Store, Hub, up, workerAt, withSlots, withWorkers, place}
+use Rattle.model.specs.Store.{Content, absent, lastStatus, markCount, Slot, Doing, Worker, Store, Hub, up, workerAt, withSlots, withWorkers, place}
 use Rattle.model.specs.About.{about}
 use Rattle.model.specs.Marks.{MarkNeed, markOf, markRefusal}
 use Rattle.model.specs.Rights.{allowed}
 use Rattle.model.specs.Rules.{Rules, Ruled}
 use Rattle.model.specs.Answer.{Answer, Ok, Applied, said}
 use Rattle.model.specs.Steps.{stepAt}
-use Rattle.model.specs.Record.{Operation, Put, SetUp, Begin, Step, Decoded, Asks, Refuses, decode, rowsOf}
-use Rattle.model.specs.Apply.{refuse, unless, fresh, setUp, TimeNeed, Terms, terms, namedBelow, groupThere, valueWithin, statusKnown, mayOpen, mayUseTime, isIdle}
+use Rattle.model.specs.Record.{Operation, Put, SetUp, Begin, Step, Decoded, Asks, Refuses, decode}
+use Rattle.model.specs.Apply.{madeBy, refuse, unless, setUp, TimeNeed, Terms, terms, namedBelow, groupThere, valueWithin, statusKnown, mayOpen, mayUseTime, isIdle}
 use Rattle.model.specs.Apply.{refusedBy, begin, step, obey, applyDecoded, apply, applyRuled}
-use Rattle.model.specs.Demand.{events, Call, Unfinished, endFor, Plain, plain₀, observe, effects, stepEffects, changeEffects, endEffects}
+use Rattle.model.specs.Demand.{events, Call, Unfinished, endFor, Plain, startOf, plain₀, observe, effects, stepEffects, changeEffects, endEffects}
 use Rattle.two_runs.specs.TwoRuns.{Pairwise, PutsAlike, Alike, looksAt, looksBy, withoutValue, placeWith, barePlace, bareWorker, bareSlot, bare}
 use Rattle.two_runs.specs.TwoRuns.{SameButValues, SameAnswers, TwoRuns}
 use Rattle.theorem.proofs.Invariant.{Inv}
@@ -124,9 +124,9 @@ module _ (r : ℕ) (s : Store) (l : List Slot) (ws : List Worker) (sl : map bare
           ∙ looks-like r (s .site .rows) (readingOf e) (sumOf e) (workerAt s w .doing))
       go (Refuses k) = refl
 
-  module _ (now : ℕ) (h h′ : List Call) (C : AlikeCalls r h h′) (o : List ℕ)
-      (olds : List (List ℕ)) (p : Plain) (I : Inv now s olds h o p)
-      (olds′ : List (List ℕ)) (p′ : Plain) (I′ : Inv now (withWorkers (withSlots s l) ws) olds′ h′ o p′) where
+  module _ {start : ℕ → Content} (now : ℕ) (h h′ : List Call) (C : AlikeCalls r h h′) (o : List ℕ)
+      (olds : List (List ℕ)) (p : Plain) (I : Inv start now s olds h o p)
+      (olds′ : List (List ℕ)) (p′ : Plain) (I′ : Inv start now (withWorkers (withSlots s l) ws) olds′ h′ o p′) where
     step-same : (w : ℕ) → Same (looksBy r (up s) (Asks (Step w))) (step s w) (step t w)
     unfolding step
     step-same w =
@@ -220,16 +220,16 @@ module _ (r now : ℕ) (h h′ : List Call) (C : AlikeCalls r h h′) (a a′ : 
 rebuilt : (s s′ : Store) → bare s ≡ bare s′ → withWorkers (withSlots s (s′ .slots)) (s′ .workers) ≡ s′
 rebuilt s s′ e = ap (λ (q : Store). withWorkers (withSlots q (s′ .slots)) (s′ .workers)) e
 
-run : (r : ℕ) (bs bs′ : List Ruled) → Pairwise (Alike r) bs bs′ → (now : ℕ) (s s′ : Store) → bare s ≡ bare s′
+run : {start : ℕ → Content} (r : ℕ) (bs bs′ : List Ruled) → Pairwise (Alike r) bs bs′ → (now : ℕ) (s s′ : Store) → bare s ≡ bare s′
     → (h h′ : List Call) → AlikeCalls r h h′ → (o : List ℕ)
-    → (olds : List (List ℕ)) (p : Plain) → Inv now s olds h o p
-    → (olds′ : List (List ℕ)) (p′ : Plain) → Inv now s′ olds′ h′ o p′
+    → (olds : List (List ℕ)) (p : Plain) → Inv start now s olds h o p
+    → (olds′ : List (List ℕ)) (p′ : Plain) → Inv start now s′ olds′ h′ o p′
     → Pairwise (SameAnswers r) (events (up s) bs) (events (up s′) bs′)
 unfolding events
 run r [] [] B now s s′ e h h′ C o olds p I olds′ p′ I′ = tt
 run r [] (b′ ∷ bs′) B now s s′ e h h′ C o olds p I olds′ p′ I′ = absurd B
 run r (b ∷ bs) [] B now s s′ e h h′ C o olds p I olds′ p′ I′ = absurd B
-run r (b ∷ bs) (b′ ∷ bs′) B now s s′ e h h′ C o olds p I olds′ p′ I′ = (
+run {start} r (b ∷ bs) (b′ ∷ bs′) B now s s′ e h h′ C o olds p I olds′ p′ I′ = (
   record { before = e; after = L .hubs; looks = looks; equal = L .equal; alike = L .answers },
   subst (λ (q : Hub). Pairwise (SameAnswers r) (events (applyRuled (up s) b .hub) bs) (events q bs′)) (sym (A′ .is))
       (subst (λ (q : Hub). Pairwise (SameAnswers r) (events q bs) (events (up (A′ .store)) bs′)) (sym (A .is))
@@ -237,7 +237,7 @@ run r (b ∷ bs) (b′ ∷ bs′) B now s s′ e h h′ C o olds p I olds′ p�
       (observe-like r now h h′ C a a′ says (b .rules) d d′ D)
       (o ++ effects h d (up s) a (up (A .store)))
       (A .kept .olds) (A .kept .p) (A .kept .inv) (A′ .kept .olds) (A′ .kept .p)
-      (subst (λ (q : List ℕ). Inv (now + 1) (A′ .store) (A′ .kept .olds) (observe now d′ a′ h′) q (A′ .kept .p)) (sym order) (A′ .kept .inv)))),
+      (subst (λ (q : List ℕ). Inv start (now + 1) (A′ .store) (A′ .kept .olds) (observe now d′ a′ h′) q (A′ .kept .p)) (sym order) (A′ .kept .inv)))),
 )
   where
     d : Decoded
@@ -252,10 +252,10 @@ run r (b ∷ bs) (b′ ∷ bs′) B now s s′ e h h′ C o olds p I olds′ p�
     a′ : Answer
     a′ = applyRuled (up s′) b′ .answer
 
-    A : Holds now s d h o (applyRuled (up s) b)
+    A : Holds start now s d h o (applyRuled (up s) b)
     A = apply-holds now s olds h o p I (b .rules) (b .bytes)
 
-    A′ : Holds now s′ d′ h′ o (applyRuled (up s′) b′)
+    A′ : Holds start now s′ d′ h′ o (applyRuled (up s′) b′)
     A′ = apply-holds now s′ olds′ h′ o p′ I′ (b′ .rules) (b′ .bytes)
 
     D : AlikeDecoded r (b .rules) d d′
@@ -275,7 +275,7 @@ run r (b ∷ bs) (b′ ∷ bs′) B now s s′ e h h′ C o olds p I olds′ p�
         unfold apply in
         subst (λ (q : Rules). Same (looksBy r (up s) d) (applyRuled (up s) b) (apply q (up s′) (b′ .bytes))) (B .0 .rules)
         (subst
-        (λ (q : Store). Inv now q olds′ h′ o p′ → Same (looksBy r (up s) d) (applyRuled (up s) b) (apply (b .rules) (up q) (b′ .bytes)))
+        (λ (q : Store). Inv start now q olds′ h′ o p′ → Same (looksBy r (up s) d) (applyRuled (up s) b) (apply (b .rules) (up q) (b′ .bytes)))
         (rebuilt s s′ e)
         (λ J. decoded-same r s (s′ .slots) (s′ .workers) sl sw now h h′ C o olds p I olds′ p′ J (b .rules) d d′ D) I′)
 
@@ -297,7 +297,7 @@ run r (b ∷ bs) (b′ ∷ bs′) B now s s′ e h h′ C o olds p I olds′ p�
 pub two-runs : TwoRuns
 two-runs row b e r bs bs′ B =
     let A = accepts (b .rules) row (b .bytes) e in
-    let s = fresh (b .rules .batch (A .sizes .P)) (A .sizes) (rowsOf (b .rules .list)) (row .table) (row .row) in
+    let s = madeBy (b .rules) (A .sizes) row in
     let I = accepted-inv (b .rules) A in
     subst (λ (q : Hub). Pairwise (SameAnswers r) (events q bs) (events q bs′)) (sym (A .is))
-    (run r bs bs′ B 0 s s refl [] [] tt [] _ plain₀ I _ plain₀ I)
+    (run r bs bs′ B 0 s s refl [] [] tt [] _ (plain₀ (startOf (b .rules .given))) I _ (plain₀ (startOf (b .rules .given))) I)

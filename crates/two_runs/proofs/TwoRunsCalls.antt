@@ -257,5 +257,5 @@ after-like r h h′ C p p′ P (i ∷ o) =
     (feed-like r p p′ P (callAt h i .worker) _ _ (c .operation))) o
 
 -- from the start on
-pub plain-like : (r : ℕ) (h h′ : List Call) → AlikeCalls r h h′ → (o : List ℕ) → AlikePlain r (after h plain₀ o) (after h′ plain₀ o)
-plain-like r h h′ C o = after-like r h h′ C plain₀ plain₀ (record { registers = λ q. inl refl; copy = λ w. tt; kept = λ m. tt }) o
+pub plain-like : (r : ℕ) (start : ℕ → Content) (h h′ : List Call) → AlikeCalls r h h′ → (o : List ℕ) → AlikePlain r (after h (plain₀ start) o) (after h′ (plain₀ start) o)
+plain-like r start h h′ C o = after-like r h h′ C (plain₀ start) (plain₀ start) (record { registers = λ q. inl refl; copy = λ w. tt; kept = λ m. tt }) o

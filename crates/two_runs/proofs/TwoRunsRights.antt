@@ -7,15 +7,15 @@ use Prim.Native.Nat.{ℕ, _+_}
 use native.Mathlib.Omega.{arith}
 use lib.Dec.{eqb}
 use borrow.Author.Tests as Tests
-use Rattle.model.specs.Store.{Site, Store, Hub, blank, up}
+use Rattle.model.specs.Store.{Content, Site, Store, Hub, blank, up}
 use Rattle.model.specs.Totals.{registerOf, ofGroup}
 use Rattle.model.specs.Rights.{ToRead, eachOf, mayOn, mayOnEach, allowed}
 use Rattle.model.specs.Rules.{Rules, Ruled}
 use Rattle.model.specs.Answer.{Answer, Ok, Applied, No}
 use Rattle.model.specs.Record.{Operation, Put, Open, Read, Close, Get, Collect, Total, Mark, Release, MarkedRead, SetUp, Begin, Step}
-use Rattle.model.specs.Record.{Decoded, Asks, Refuses, decode, rowsOf}
-use Rattle.model.specs.Apply.{terms, begin, fresh, obey, applyDecoded, apply, applyRuled}
-use Rattle.model.specs.Demand.{Event, events, Call, observe, effects, Plain, plain₀, All, rowsIn}
+use Rattle.model.specs.Record.{Decoded, Asks, Refuses, decode}
+use Rattle.model.specs.Apply.{madeBy, terms, begin, obey, applyDecoded, apply, applyRuled}
+use Rattle.model.specs.Demand.{Event, events, Call, observe, effects, Plain, startOf, plain₀, All, rowsIn}
 use Rattle.model.proofs.Basic.{and-both}
 use Rattle.theorem.proofs.Begin.{begin-by}
 use Rattle.theorem.proofs.Invariant.{Inv}
@@ -78,11 +78,11 @@ keeps rules s w r (Asks (Step v)) not-r = tt
 keeps rules s w r (Refuses k) not-r = tt
 
 -- all records
-all-keep : (r w : ℕ) (bs : List Ruled) (now : ℕ) (s : Store) (olds : List (List ℕ)) (h : List Call) (o : List ℕ) (p : Plain) → Inv now s olds h o p
+all-keep : {start : ℕ → Content} (r w : ℕ) (bs : List Ruled) (now : ℕ) (s : Store) (olds : List (List ℕ)) (h : List Call) (o : List ℕ) (p : Plain) → Inv start now s olds h o p
     → WithoutRead (s .site .table) w r → All (λ e. KeepsOff r (s .site .rows) w (decode (e .bytes)) (e .answer)) (events (up s) bs)
 unfolding events apply
 all-keep r w [] now s olds h o p I not-r = tt
-all-keep r w (b ∷ bs) now s olds h o p I not-r = (
+all-keep {start} r w (b ∷ bs) now s olds h o p I not-r = (
   keeps (b .rules) s w r (decode (b .bytes)) not-r,
   subst (λ (q : Hub). All (λ e. KeepsOff r (s .site .rows) w (decode (e .bytes)) (e .answer)) (events q bs)) (sym (A .is))
       (subst (λ (q : Site). All (λ e. KeepsOff r (q .rows) w (decode (e .bytes)) (e .answer)) (events (up (A .store)) bs)) (A .site)
@@ -96,7 +96,7 @@ all-keep r w (b ∷ bs) now s olds h o p I not-r = (
     a : Answer
     a = applyRuled (up s) b .answer
 
-    A : Holds now s d h o (applyRuled (up s) b)
+    A : Holds start now s d h o (applyRuled (up s) b)
     A = apply-holds now s olds h o p I (b .rules) (b .bytes)
 
 pub same-without-read : SameWithoutRead
@@ -108,6 +108,6 @@ same-without-read row b e r bs bs′ B w not-r = same-for-worker row b e r bs bs
     kept : All (λ v. KeepsOff r (rowsIn (applyRuled (blank row) b .hub)) w (decode (v .bytes)) (v .answer)) (events (applyRuled (blank row) b .hub) bs)
     kept =
         subst (λ (q : Hub). WithoutRead (tableIn q) w r → All (λ v. KeepsOff r (rowsIn q) w (decode (v .bytes)) (v .answer)) (events q bs)) (sym (A .is))
-        (all-keep r w bs 0 (fresh (b .rules .batch (A .sizes .P)) (A .sizes) (rowsOf (b .rules .list)) (row .table) (row .row)) _ [] [] plain₀
+        (all-keep r w bs 0 (madeBy (b .rules) (A .sizes) row) _ [] [] (plain₀ (startOf (b .rules .given)))
         (accepted-inv (b .rules) A))
         not-r

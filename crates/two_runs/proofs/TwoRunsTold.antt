@@ -91,16 +91,16 @@ copies : (r : ℕ) (c c′ : Option (ℕ → Content)) (f f′ : ℕ → Content
 copies r c c′ f f′ a e e′ = rw (e, e′) at a
 
 -- what a get of register q shows
-get-value : (now : ℕ) (s : Store) (olds : List (List ℕ)) (h : List Call) (o : List ℕ) (p : Plain) → Inv now s olds h o p → (q : ℕ) → q < s .site .V'
-    → slotAt s (newestOf s q) .value ≡ after h plain₀ (o ++ changeEffects h s (stamp s q)) .registers q
+get-value : {start : ℕ → Content} (now : ℕ) (s : Store) (olds : List (List ℕ)) (h : List Call) (o : List ℕ) (p : Plain) → Inv start now s olds h o p → (q : ℕ) → q < s .site .V'
+    → slotAt s (newestOf s q) .value ≡ after h (plain₀ start) (o ++ changeEffects h s (stamp s q)) .registers q
 unfolding stamp
-get-value now s olds h o p I q b =
+get-value {start} now s olds h o p I q b =
     sym (stamp-value (s .slots) (newestOf s q) (s .clock) (newestOf s q))
     ∙ ⊎-elim (λ u. u .1) (λ u. absurd (omega (arith, T .low, u .0, I .clockFits))) (T .inv .stamps q b .1)
     ∙ ap (λ (y : Plain). y .registers q) (sym (T .inv .linear .come))
-    ∙ ap (λ (k : List ℕ). after h plain₀ k .registers q) (T .grown)
+    ∙ ap (λ (k : List ℕ). after h (plain₀ start) k .registers q) (T .grown)
   where
-    T : Stamped now s q olds h o
+    T : Stamped start now s q olds h o
     T = stamp-inv now s olds h o p I q b
 
 ------------------------------------------------------------------------
@@ -108,9 +108,9 @@ get-value now s olds h o p I q b =
 
 module _ (r : ℕ) (s : Store) (l : List Slot) (ws : List Worker) (sl : map bareSlot (s .slots) ≡ map bareSlot l)
     (sw : map bareWorker (s .workers) ≡ map bareWorker ws)
-    (now : ℕ) (h h′ : List Call) (C : AlikeCalls r h h′) (o : List ℕ)
-    (olds : List (List ℕ)) (p : Plain) (I : Inv now s olds h o p)
-    (olds′ : List (List ℕ)) (p′ : Plain) (I′ : Inv now (withWorkers (withSlots s l) ws) olds′ h′ o p′)
+    {start : ℕ → Content} (now : ℕ) (h h′ : List Call) (C : AlikeCalls r h h′) (o : List ℕ)
+    (olds : List (List ℕ)) (p : Plain) (I : Inv start now s olds h o p)
+    (olds′ : List (List ℕ)) (p′ : Plain) (I′ : Inv start now (withWorkers (withSlots s l) ws) olds′ h′ o p′)
     (w : ℕ) (wb : w < s .site .P) where
   abbrev t : Store
   t = withWorkers (withSlots s l) ws
@@ -119,7 +119,7 @@ module _ (r : ℕ) (s : Store) (l : List Slot) (ws : List Worker) (sl : map bare
   rows = s .site .rows
 
   plains : AlikePlain r p p′
-  plains = subst (AlikePlain r p) (I′ .linear .come) (subst (λ (k : Plain). AlikePlain r k (after h′ plain₀ o)) (I .linear .come) (plain-like r h h′ C o))
+  plains = subst (AlikePlain r p) (I′ .linear .come) (subst (λ (k : Plain). AlikePlain r k (after h′ (plain₀ start) o)) (I .linear .come) (plain-like r start h h′ C o))
 
   read-copies : (y : Sum) (u : Purpose) → AlikeCopy r (copyFor p w u) (copyFor p′ w (purposeWith y u))
   read-copies y Single = plains .copy w
@@ -187,7 +187,7 @@ module _ (r : ℕ) (s : Store) (l : List Slot) (ws : List Worker) (sl : map bare
         get-value now t olds′ h′ o p′ I′ q (doing-is now t olds′ h′ o p′ I′ w wb (GetShow q) e′ .0),
         ← same,
       )
-      (plain-like r h h′ C (o ++ changeEffects h s (stamp s q)) .registers q))
+      (plain-like r start h h′ C (o ++ changeEffects h s (stamp s q)) .registers q))
     where
       same : changeEffects h s (stamp s q) ≡ changeEffects h′ t (stamp t q)
       same =

@@ -9,15 +9,15 @@ use native.Mathlib.Omega.{arith}
 use lib.Dec.{eqb}
 use lib.ListN.{List·getD-eq-default}
 use borrow.Author.Tests as Tests
-use Rattle.model.specs.Store.{OpenAnnounce, OpenPass, CloseWithdraw, MarkKeep, MarkRelease, Purpose, Single, Marked, Totaling, Doing, Idle}
+use Rattle.model.specs.Store.{Content, OpenAnnounce, OpenPass, CloseWithdraw, MarkKeep, MarkRelease, Purpose, Single, Marked, Totaling, Doing, Idle}
 use Rattle.model.specs.Store.{PutPublish, PutStamp, PutHandIn, FlushTake, FlushRead, FlushFree, OnTime, ReadEnter, ReadStand, GetShow}
 use Rattle.model.specs.Store.{startWorker, Site, Store, Hub, blank, up, workerAt}
 use Rattle.model.specs.About.{about}
 use Rattle.model.specs.Rules.{Rules, Ruled}
 use Rattle.model.specs.Answer.{Answer, Ok, Going, Freed, At, Value, None, Below, Done, No, said}
-use Rattle.model.specs.Record.{Operation, SetUp, Begin, Step, Decoded, Asks, Refuses, decode, rowsOf}
-use Rattle.model.specs.Apply.{fresh, applyRuled}
-use Rattle.model.specs.Demand.{Event, events, Call, Unfinished, callAt, endFor, observe, effects, Plain, plain₀, All, occurrences, rowsIn}
+use Rattle.model.specs.Record.{Operation, SetUp, Begin, Step, Decoded, Asks, Refuses, decode}
+use Rattle.model.specs.Apply.{madeBy, applyRuled}
+use Rattle.model.specs.Demand.{Event, events, Call, Unfinished, callAt, endFor, observe, effects, Plain, startOf, plain₀, All, occurrences, rowsIn}
 use Rattle.two_runs.specs.TwoRuns.{Pairwise, Alike, looksFor, looksAt, looksBy, SameAnswers, looksIn, KeepsOff, isOf, SameTo, told, SameForWorker}
 use Rattle.model.proofs.Basic.{lt-cases, All-at, All-append, All-map, All-through}
 use Rattle.theorem.proofs.Invariant.{Ctx, ctx, Serves, FitsFlush, FitsTime, Fits, CurrentOf, Inv}
@@ -97,7 +97,7 @@ observe-off r rows w now (Refuses j) a h k t = t
 ------------------------------------------------------------------------
 -- So its place does
 
-module _ (r w now : ℕ) (s : Store) (olds : List (List ℕ)) (h : List Call) (o : List ℕ) (p : Plain) (I : Inv now s olds h o p)
+module _ {start : ℕ → Content} (r w now : ℕ) (s : Store) (olds : List (List ℕ)) (h : List Call) (o : List ℕ) (p : Plain) (I : Inv start now s olds h o p)
     (H : All (CallOff r (s .site .rows) w) h) where
   abbrev rows : List ℕ
   rows = s .site .rows
@@ -134,11 +134,11 @@ Off r w e = isOf w (decode (e .bytes)) ≡ true → looksBy r (e .before) (decod
 abbrev Keeping : ℕ → List ℕ → ℕ → Event → Type 0
 Keeping r rows w e = KeepsOff r rows w (decode (e .bytes)) (e .answer)
 
-all-off : (r w : ℕ) (bs : List Ruled) (now : ℕ) (s : Store) (olds : List (List ℕ)) (h : List Call) (o : List ℕ) (p : Plain) → Inv now s olds h o p
+all-off : {start : ℕ → Content} (r w : ℕ) (bs : List Ruled) (now : ℕ) (s : Store) (olds : List (List ℕ)) (h : List Call) (o : List ℕ) (p : Plain) → Inv start now s olds h o p
     → All (CallOff r (s .site .rows) w) h → All (Keeping r (s .site .rows) w) (events (up s) bs) → All (Off r w) (events (up s) bs)
 unfolding events
 all-off r w [] now s olds h o p I H K = tt
-all-off r w (b ∷ bs) now s olds h o p I H K = (
+all-off {start} r w (b ∷ bs) now s olds h o p I H K = (
   record-off r w now s olds h o p I H (decode (b .bytes)),
   subst (λ (q : Hub). All (Off r w) (events q bs)) (sym (A .is))
       (all-off r w bs (now + 1) (A .store) (A .kept .olds) h′ (o ++ effects h d (up s) a (up (A .store))) (A .kept .p) (A .kept .inv)
@@ -153,7 +153,7 @@ all-off r w (b ∷ bs) now s olds h o p I H K = (
     a : Answer
     a = applyRuled (up s) b .answer
 
-    A : Holds now s d h o (applyRuled (up s) b)
+    A : Holds start now s d h o (applyRuled (up s) b)
     A = apply-holds now s olds h o p I (b .rules) (b .bytes)
 
     h′ : List Call
@@ -184,5 +184,5 @@ same-for-worker row b e r bs bs′ B w K = same-list r w bs bs′ B _ _ (two-run
     off : All (Off r w) (events (applyRuled (blank row) b .hub) bs)
     off =
         subst (λ (q : Hub). All (Keeping r (rowsIn q) w) (events q bs) → All (Off r w) (events q bs)) (sym (A .is))
-        (all-off r w bs 0 (fresh (b .rules .batch (A .sizes .P)) (A .sizes) (rowsOf (b .rules .list)) (row .table) (row .row)) _ [] [] plain₀ (accepted-inv (b .rules) A) tt)
+        (all-off r w bs 0 (madeBy (b .rules) (A .sizes) row) _ [] [] (plain₀ (startOf (b .rules .given))) (accepted-inv (b .rules) A) tt)
         K

@@ -37,10 +37,10 @@ use Rattle.unseen.specs.Unseen.{OtherValue, Differ, Unseen}
 ------------------------------------------------------------------------
 -- Records that differ as the model has it
 
-alike : (r : ℕ) (e e′ : Exchange) → Differ r e e′ → Alike r (under (inForce (e .list)) (e .bytes)) (under (inForce (e′ .list)) (e′ .bytes))
+alike : (r : ℕ) (e e′ : Exchange) → Differ r e e′ → Alike r (under (inForce (e .given)) (e .bytes)) (under (inForce (e′ .given)) (e′ .bytes))
 alike r e e′ D =
     record {
-      rules = ap inForce (D .list);
+      rules = ap inForce (D .given);
       bytes =
           ⊎-elim inl
           (λ u. inr (record {
@@ -107,7 +107,7 @@ module _ (r w : ℕ) (x : Lent) where
   same-or-ok : (rules : Rules) (d : Decoded) → SameOrOk (applyDecoded rules (blank x) d)
   unfolding applyDecoded obey setUp
   same-or-ok rules (Asks (SetUp z)) =
-      cond-both SameOrOk (inRanges z && leb (z .N) (length (x .row)) && listFits (z .V') (rules .list)) _ _ (λ e. inr refl) (λ e. inl refl)
+      cond-both SameOrOk (inRanges z && leb (z .N) (length (x .row)) && listFits (z .V') (rules .given .totals)) _ _ (λ e. inr refl) (λ e. inl refl)
   same-or-ok rules (Asks (Begin v o)) = inl refl
   same-or-ok rules (Asks (Step v)) = inl refl
   same-or-ok rules (Refuses k) = inl refl

@@ -27,9 +27,9 @@ pub record OtherValue (r : ℕ) (d d′ : Decoded) : Type 0 where
   pub known : first .status ≤ lastStatus
   pub known′ : second .status ≤ lastStatus
 
--- Else the records are the same, and the same list of totals is lent.
+-- Else the records are the same, and the same is given for a setup.
 pub record Differ (r : ℕ) (e e′ : Exchange) : Type 0 where
-  pub list : e .list ≡ e′ .list
+  pub given : e .given ≡ e′ .given
   pub bytes : (e .bytes ≡ e′ .bytes) ⊎ OtherValue r (decode (e .bytes)) (decode (e′ .bytes))
 
 -- Who sees nothing: on memory that records left, or that is not set up and on which a setup may come among the records, every worker to whom the table

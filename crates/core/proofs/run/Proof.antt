@@ -6,6 +6,7 @@ use native.Mathlib.Omega.{arith}
 use lib.ListN.{length, length-set}
 use borrow.Author.Needs.{needs}
 use Rattle.model.specs.Record as Model
+use Rattle.model.specs.Rules.{ofTotals}
 use Rattle.state.specs.declared.Hub.{Hub}
 use Rattle.state.specs.State.{withWorkersIn, withWindowIn}
 use Rattle.simulation.specs.Shell.{offWorker}
@@ -30,7 +31,7 @@ abbrev μ-loop2 : tie.MeasureT-loop2
 abbrev Inv-loop : tie.InvT-loop
 Inv-loop row₀ list bytes count kinds₀ numbers₀ newest₀ free₀ queue₀ lens₀ merged₀ linked up₀ hub₀ window₀ last₀ needed₀ local₀ joined₀ k₀
     row kinds numbers newest free queue lens merged up hub window last needed local joined k =
-    SoFar (stateOf up₀ (withWindowIn hub₀ window₀) row₀ newest₀ free₀ queue₀ lens₀ merged₀ kinds₀ numbers₀ last₀) list bytes count k
+    SoFar (stateOf up₀ (withWindowIn hub₀ window₀) row₀ newest₀ free₀ queue₀ lens₀ merged₀ kinds₀ numbers₀ last₀) (ofTotals list) bytes count k
     (stateOf up (withWindowIn hub window) row newest free queue lens merged kinds numbers last)
 
 abbrev μ-loop : tie.MeasureT-loop

@@ -1,6 +1,7 @@
 -- `log_part` meets its contract: the bytes that it hands on are those of the records for whose lines there is room.
 use Prim.Native.Nat.{_-_}
 use native.Mathlib.Omega.{arith}
+use Rattle.model.specs.Rules.{ofTotals}
 use Rattle.logs.proofs.Part.{handed-on, part-logged}
 use borrow.Author.Needs.{needs}
 use Rattle.logs.proofs.log_part.Statement.{statement}
@@ -44,7 +45,7 @@ returns c =
     let x = f .before .before .before .before .before .before .args in
     let e = w .write-lines .ensures in
     let b = f .fitting .result - 0 in
-    (part-logged _ _ _ (handed-on (x .list .now) (x .bytes .now) (x .text .now) b (omega (arith, f .fitting .ensures)) (a .apply-words .ensures)) e, e .inside)
+    (part-logged _ _ _ (handed-on (ofTotals (x .list .now)) (x .bytes .now) (x .text .now) b (omega (arith, f .fitting .ensures)) (a .apply-words .ensures)) e, e .inside)
 
 pub log-part-spec : {M : Type 1} → statement M
 log-part-spec =
