@@ -24,12 +24,11 @@ use Rattle.worker.specs.declared.Doing.{Doing}
 use Rattle.worker.specs.declared.Doing.the-variants.{Idle, FlushRead, FlushFree}
 use Rattle.worker.specs.declared.Pool.{Pool}
 use Rattle.worker.specs.declared.Worker.{Worker}
+use Rattle.places.specs.About.{aboutOf}
 use Rattle.pools.specs.Placed.{placed}
 use Rattle.worker.specs.Rep.{poolRep}
 use Rattle.worker.proofs.Rep.{padded-nil}
 use Rattle.marks.specs.Marks.{readNext}
-use Rattle.record.specs.declared.Decoded.{Decoded}
-use Rattle.record.specs.Meaning.{decodedOf}
 use Rattle.state.specs.declared.Hub.{Hub}
 use Rattle.state.specs.State.{freshHub, siteMade, nobody, workerIn, atPlace, withWorkersIn, withClockIn, withFreeIn, withWindowIn, withTimesIn}
 use Rattle.state.specs.State.{withMarksIn, withReadingIn, tableKept}
@@ -37,9 +36,9 @@ use Rattle.arrays.specs.Arrays.{short, fillTo}
 use Rattle.versions.specs.Versions.{slotIn, rowOf}
 use Rattle.gate.specs.declared.Gate.{Gate}
 use Rattle.gate.specs.declared.Gate.the-variants.{Refuse, Make, Start, Go}
-use Rattle.gate.specs.Gate.{decodedRep, decodedIn, gateOf, whoOf}
-use Rattle.gate.proofs.Decoded.{decoded-back}
-use Rattle.gate.proofs.Named.{Names, Named, named, byte-names}
+use Rattle.gate.specs.Gate.{hasTime}
+use Rattle.decision.specs.Decision.{gateOf}
+use Rattle.decision.proofs.Named.{Named, named, decode-names}
 use Rattle.ready.specs.Ready.{readyOf}
 use Rattle.announcing.specs.declared.Outcome.{Outcome}
 use Rattle.step.specs.declared.Next.{Next}
@@ -98,16 +97,15 @@ emptyPool = record { slots = replicate 64 0; lows = replicate 64 0; highs = repl
 empty-is : poolRep [] ≡ emptyPool
 empty-is i = record { slots = padded-nil 64 i; lows = padded-nil 64 i; highs = padded-nil 64 i; len = 0 }
 
--- What is known once record k is decided: it reads as r, its byte 1 modulo sixteen is w, and g is the decision.
-pub record Decides (S : State) (given : Given) (bytes : List ℕ) (count k : ℕ) (T : State) (r : Decoded) (w : ℕ) (g : Gate) : Type 0 where
+-- What is known once record k is decided: its byte 1 modulo sixteen is w, and g is the decision.
+pub record Decides (S : State) (given : Given) (bytes : List ℕ) (count k : ℕ) (T : State) (w : ℕ) (g : Gate) : Type 0 where
   pub soFar : SoFar S given bytes count k T
   pub more : k < count
-  pub reads : decodedOf r ≡ Model.decode (recordAt bytes k)
   pub worker : w ≡ getD (recordAt bytes k) 1 0 % 16
   pub decided : g
-      ≡ gateOf r (T .up) (T .memory .hub .site .p) (T .memory .hub .site .v) (length (T .memory .slots)) (workerIn (T .memory .hub) w .doing)
-      (workerIn (T .memory .hub) w .announced) (given .totals) (rowsKept (T .memory .hub)) (T .memory .hub .marks) (marksRead (T .memory .hub))
-      (tableKept (T .memory .hub))
+      ≡ gateOf (Model.decode (recordAt bytes k)) (T .up) (T .memory .hub .site .p) (T .memory .hub .site .v) (length (T .memory .slots))
+      (aboutOf (workerIn (T .memory .hub) w .doing) .idle) (hasTime (workerIn (T .memory .hub) w .announced)) (given .totals) (rowsKept (T .memory .hub))
+      (T .memory .hub .marks) (marksRead (T .memory .hub)) (tableKept (T .memory .hub))
 
 -- the worker's number by the record's bytes
 pub named-by : {v : ℕ} {b c : List ℕ} → v ≡ getD b 1 0 → b ≡ c → v % 16 ≡ getD c 1 0 % 16
@@ -115,27 +113,25 @@ named-by e f = ap (λ (z : ℕ). z % 16) e ∙ ap (λ (d : List ℕ). getD d 1 0
 
 -- by what the loop's locals and its calls are known to be
 pub deciding : (row : List (List ℕ)) {S : State} {given : Given} {bytes : List ℕ} {count k : ℕ} {up : Bool} {h : Hub}
-    {newest free queue lens merged kinds numbers : List ℕ} {last : Answer} {r : Decoded} {w : ℕ} {g : Gate}
+    {newest free queue lens merged kinds numbers : List ℕ} {last : Answer} {r : Model.Decoded} {w : ℕ} {g : Gate}
     → SoFar S given bytes count k (stateOf up h row newest free queue lens merged kinds numbers last) → k < count
-    → decodedOf r ≡ Model.decode (recordAt bytes k) → w ≡ getD (recordAt bytes k) 1 0 % 16
-    → g ≡ gateOf r up (h .site .p) (h .site .v) (length row) (getD (h .workers) w nobody .doing) (getD (h .workers) w nobody .announced) (given .totals) (rowsKept h)
-    (h .marks) (marksRead h) (tableKept h)
-    → Decides S given bytes count k (stateOf up h row newest free queue lens merged kinds numbers last) r w g
-deciding row {given = given} {up = up} {h = h} {r = r} {w = w} R more reads worker decided =
+    → r ≡ Model.decode (recordAt bytes k) → w ≡ getD (recordAt bytes k) 1 0 % 16
+    → g
+    ≡ gateOf r up (h .site .p) (h .site .v) (length row) (aboutOf (getD (h .workers) w nobody .doing) .idle)
+    (hasTime (getD (h .workers) w nobody .announced)) (given .totals) (rowsKept h) (h .marks) (marksRead h) (tableKept h)
+    → Decides S given bytes count k (stateOf up h row newest free queue lens merged kinds numbers last) w g
+deciding row {given = given} {up = up} {h = h} {w = w} R more reads worker decided =
     record {
       soFar = R;
       more = more;
-      reads = reads;
       worker = worker;
       decided =
           decided
-          ∙ ap (λ (n : ℕ). gateOf r up (h .site .p) (h .site .v) n (getD (h .workers) w nobody .doing) (getD (h .workers) w nobody .announced) (given .totals) (rowsKept h)
-          (h .marks) (marksRead h) (tableKept h))
-          (sym (length-map row _));
+          ∙ (λ i. gateOf (reads i) up (h .site .p) (h .site .v) (sym (length-map row slotIn) i) (aboutOf (getD (h .workers) w nobody .doing) .idle)
+          (hasTime (getD (h .workers) w nobody .announced)) (given .totals) (rowsKept h) (h .marks) (marksRead h) (tableKept h));
     }
 
-module _ {S : State} {given : Given} {bytes : List ℕ} {count k : ℕ} {T : State} {r : Decoded} {w : ℕ} {g : Gate}
-    (D : Decides S given bytes count k T r w g) where
+module _ {S : State} {given : Given} {bytes : List ℕ} {count k : ℕ} {T : State} {w : ℕ} {g : Gate} (D : Decides S given bytes count k T w g) where
   abbrev m : Memory
   m = T .memory
 
@@ -155,27 +151,19 @@ module _ {S : State} {given : Given} {bytes : List ℕ} {count k : ℕ} {T : Sta
   abbrev u : ℕ
   u = getD b 1 0
 
-  names : Names r u
-  names = byte-names r b (D .reads)
-
-  read-as : r ≡ decodedIn b
-  read-as = decoded-back r ∙ ap decodedRep (D .reads)
-
   -- the decision is the definition's
   gate : gateIn (T .up) m given b ≡ g
   gate =
-      let by : Decoded → ℕ → Gate = λ z v. gateOf z (T .up) (h .site .p) (h .site .v) (length (m .slots)) (workerIn h v .doing) (workerIn h v .announced) (given .totals)
-      (rowsKept h) (h .marks) (marksRead h) (tableKept h) in
-      sym (D .decided
-      ∙ ap (by r) (D .worker)
-      ∙ gate-at h r u names (T .up) (length (m .slots)) (given .totals) (R .few)
-      ∙ ap (λ (z : Decoded). by z (whoOf z)) read-as)
+      let by : ℕ → Gate = λ v. gateOf (Model.decode b) (T .up) (h .site .p) (h .site .v) (length (m .slots)) (aboutOf (workerIn h v .doing) .idle)
+      (hasTime (workerIn h v .announced)) (given .totals) (rowsKept h) (h .marks) (marksRead h) (tableKept h) in
+      sym (D .decided ∙ ap by (D .worker) ∙ gate-at h (Model.decode b) u (decode-names b) (T .up) (length (m .slots)) (given .totals) (R .few))
 
   -- what it says of the worker
   says : Named (T .up) u (h .site .p) (length (m .slots)) g
   says =
       subst (Named (T .up) u (h .site .p) (length (m .slots))) (sym (D .decided))
-      (named r u names (T .up) (h .site .p) (h .site .v) (length (m .slots)) (x .doing) (x .announced) (given .totals) (rowsKept h) (h .marks) (marksRead h) (tableKept h))
+      (named (Model.decode b) u (decode-names b) (T .up) (h .site .p) (h .site .v) (length (m .slots)) (aboutOf (x .doing) .idle)
+      (hasTime (x .announced)) (given .totals) (rowsKept h) (h .marks) (marksRead h) (tableKept h))
 
   -- the answer y is written
   abbrev pub Wrote : Answer → List ℕ → List ℕ → Answer → Type 0

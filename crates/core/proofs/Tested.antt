@@ -6,10 +6,12 @@ use mathlib.Core.List.{List}
 use Prim.Native.Nat.{ℕ, _≤_}
 use native.Mathlib.Omega.{arith}
 use lib.Dec.{leb}
-use borrow.Author.Tests.{leb-true}
+use Rattle.model.specs.Record.{Sizes}
+use Rattle.model.specs.Apply.{inRanges}
+use Rattle.model.proofs.Setup.{InRanges, in-ranges}
 use Rattle.state.specs.declared.Hub.{Hub}
 use Rattle.state.specs.State.{tableSound}
-use Rattle.gate.specs.Gate.{sizesOk}
+use Rattle.decision.specs.Decision.{sizesOk}
 use Rattle.ready.specs.Ready.{sizesFit, scansFit, readyOf}
 use Rattle.ready.proofs.Sizes.{sizes-tell}
 
@@ -29,11 +31,7 @@ ready-few h newest free queue lens merged linked long e =
     sizes-tell h long (passed (sizesFit h long) _ scans) .p .1
 
 pub sizes-few : (p v n k long : ℕ) → sizesOk p v n k long ≡ true → (p ≤ 16) × (n ≤ 2048) × (v ≤ n)
-unfolding sizesOk
 sizes-few p v n k long e =
-    let a = both (leb 1 p && leb p 16 && (leb 1 v && leb v 256)) (leb v n && leb n 2048 && (leb 1 k && leb n long)) e in
-    let b = both (leb 1 p && leb p 16) (leb 1 v && leb v 256) (a .0) in
-    let c = both (leb 1 p) (leb p 16) (b .0) in
-    let d = both (leb v n && leb n 2048) (leb 1 k && leb n long) (a .1) in
-    let f = both (leb v n) (leb n 2048) (d .0) in
-    (leb-true p 16 (c .1), leb-true n 2048 (f .1), leb-true v n (f .0))
+    let z : Sizes = record { P = p; V' = v; N = n; clock = k } in
+    let I = in-ranges z (both (inRanges z) (leb n long) e .0) in
+    (I .P≤16, I .N≤2048, I .V≤N)

@@ -127,7 +127,7 @@ pub fn run(
         let d = x.doing;
         let t = x.announced;
         let r = record::decode(rec);
-        let g = gate::gate_for(
+        let g = decision::gate_for(
             r,
             up,
             hub.site.p,

@@ -23,7 +23,7 @@ use Rattle.model.specs.Runs as Scripts
 
 -- a name whose unfolding unfolds the whole model
 unfoldable wholeModel : Rules.Rules → Store.Lent → List ℕ → List ℕ
-unfolding Store.upFrom Store.rangeOf Marks.isRead Marks.markRefusal Steps.stoppedBy Steps.markKeep Steps.markRelease Apply.refusedBy Demand.noCopy Batch.batchOf Row.writeRow Rights.anyOf Rights.eachOf Rights.tableStands Rights.tableOf Rights.tableFits Apply.giveTable Versions.stampSlots Versions.stamp Versions.linkSlots Versions.unlinkSlots Ranges.needs Ranges.needed Ranges.filter Ranges.mergeInto Ranges.merge Ranges.firstTwo Ranges.neededPools Ranges.joining Ranges.queuedPool Steps.putPublish Steps.putStamp Steps.putHandIn Steps.flushTake Steps.readTimes Steps.flushSplit Steps.flushRead Steps.moveOff Steps.workerOff Steps.flushFree Steps.openAnnounce Steps.openPass Steps.answerFor Steps.signed Steps.totalFound Steps.found Steps.readEnter Steps.readStand Steps.getShow Steps.closeWithdraw Steps.timeStep Steps.stepAt Record.zeros Record.commandOf Record.unusedZero Record.decode Record.cut Record.recordsOf Record.rowsOf Record.listFits Totals.follow Totals.ofGroup Totals.firstOf Apply.inRanges Apply.firstSlots Apply.fresh Apply.setUp Apply.begin Apply.step Apply.obey Apply.applyDecoded Apply.apply Apply.hubAfter Apply.answersTo Log.text Log.digits Log.decimal Log.words Log.line Log.lines Log.logOf Cases.recordOf Cases.clockOf Cases.slotsOf Cases.joined Demand.events Demand.endOnce Demand.endFor Demand.observe Demand.isUnfinished Demand.runningOf Demand.filterBelow Demand.atEnd Demand.endEffects Demand.stepEffects Demand.effects Demand.order Demand.inCopy Demand.sumOver Demand.shows Demand.history Demand.feed Scripts.shownAlong
+unfolding Store.upFrom Store.rangeOf Marks.isRead Marks.markRefusal Steps.stoppedBy Steps.markKeep Steps.markRelease Apply.refusal Apply.refusedBy Demand.noCopy Batch.batchOf Row.writeRow Rights.anyOf Rights.eachOf Rights.tableStands Rights.tableOf Rights.tableFits Apply.giveTable Versions.stampSlots Versions.stamp Versions.linkSlots Versions.unlinkSlots Ranges.needs Ranges.needed Ranges.filter Ranges.mergeInto Ranges.merge Ranges.firstTwo Ranges.neededPools Ranges.joining Ranges.queuedPool Steps.putPublish Steps.putStamp Steps.putHandIn Steps.flushTake Steps.readTimes Steps.flushSplit Steps.flushRead Steps.moveOff Steps.workerOff Steps.flushFree Steps.openAnnounce Steps.openPass Steps.answerFor Steps.signed Steps.totalFound Steps.found Steps.readEnter Steps.readStand Steps.getShow Steps.closeWithdraw Steps.timeStep Steps.stepAt Record.zeros Record.commandOf Record.unusedZero Record.decode Record.cut Record.recordsOf Record.rowsOf Record.listFits Totals.follow Totals.ofGroup Totals.firstOf Apply.inRanges Apply.firstSlots Apply.fresh Apply.setUp Apply.begin Apply.step Apply.obey Apply.applyDecoded Apply.apply Apply.hubAfter Apply.answersTo Log.text Log.digits Log.decimal Log.words Log.line Log.lines Log.logOf Cases.recordOf Cases.clockOf Cases.slotsOf Cases.joined Demand.events Demand.endOnce Demand.endFor Demand.observe Demand.isUnfinished Demand.runningOf Demand.filterBelow Demand.atEnd Demand.endEffects Demand.stepEffects Demand.effects Demand.order Demand.inCopy Demand.sumOver Demand.shows Demand.history Demand.feed Scripts.shownAlong
 wholeModel = Log.logOf
 
 pub stars : Stars

@@ -4,13 +4,13 @@ use mathlib.Core.Bool.{Bool, true, false, cond, not, _&&_}
 use mathlib.Core.List.{List, [], _∷_, map}
 use mathlib.Core.Option.{Option, none, some}
 use Prim.Native.Nat.{ℕ, zero, suc, _-_}
-use lib.Dec.{ltb, leb}
+use lib.Dec.{ltb, leb, eqb}
 use lib.ListN.{length, take, replicate}
 use Rattle.model.specs.Store.{absent, lastClock, Reading, lastStatus, Slot, markCount, OpenAnnounce, CloseWithdraw, MarkKeep, MarkRelease}
 use Rattle.model.specs.Store.{Single, Marked, Doing, PutPublish, FlushTake, OnTime, ReadEnter, GetShow, startWorker, Store, Hub}
 use Rattle.model.specs.Store.{Lent, blank, up, upFrom, workerAt, place}
 use Rattle.model.specs.About.{about}
-use Rattle.model.specs.Marks.{MarkNeed, NoMark, EmptyMark, HeldMark, UnreadMark, markOf, markRefusal}
+use Rattle.model.specs.Marks.{MarkNeed, NoMark, EmptyMark, HeldMark, UnreadMark, markOf, markRefusal, numberOf}
 use Rattle.model.specs.Rules.{Rules, Ruled}
 use Rattle.model.specs.Totals.{registerOf, ofGroup, sum₀, firstOf}
 use Rattle.model.specs.Rights.{ToPut, ToRead, ToCollect, ToMark, Needed, NoRight, OnThese, InAny, OnAll, allowed, tableOf, tableFits}
@@ -199,27 +199,56 @@ mayUseTime OwnTime has = has
 abbrev pub isIdle : Doing → Bool
 isIdle d = about d .idle
 
--- 19, 20, 21: refused where there is such a refusal, else what follows
-unfoldable pub refusedBy : Option ℕ → Hub → Applied → Applied
-refusedBy none h next = next
-refusedBy (some k) h next = refuse h k
+-- What the begin of an operation by a worker below P is decided by: V, the rows of totals and of rights, whether the worker is idle and has a
+-- time, and the number of the refusal that a need of a mark meets, 0 where there is none.
+pub record Seen : Type 0 where
+  pub V' : ℕ
+  pub rows : List ℕ
+  pub table : List ℕ
+  pub idle : Bool
+  pub has : Bool
+  pub marked : MarkNeed → ℕ
 
--- H7.1: 3 worker not below P; 4; 17; 16; 25; 23; 10; 12; 13; 19, 20 or 21; else begun (H4.1)
+-- H7.3: k where the test fails, else what follows
+abbrev pub tested : Bool → ℕ → ℕ → ℕ
+tested test k next = cond test next k
+
+-- H7.1: the refusal that the begin meets, in this order: 4; 17; 16; 25; 23; 10; 12; 13; 19, 20 or 21; and 0 where there is none
+unfoldable pub refusal : Option ℕ → Seen → ℕ → Operation → ℕ
+refusal limit y w o =
+    let x = terms (y .rows) o in
+    tested (namedBelow (y .V') (x .register)) 4
+    (tested (namedBelow markCount (markOf (x .mark))) 4
+    (tested (groupThere (y .rows) (x .group)) 17
+    (tested (valueWithin limit (x .value)) 16
+    (tested (statusKnown (x .value)) 25
+    (tested (allowed (y .table) (y .V') w (x .right)) 23
+    (tested (y .idle) 10
+    (tested (mayOpen (x .time) (y .has)) 12
+    (tested (mayUseTime (x .time) (y .has)) 13
+    (y .marked (x .mark))))))))))
+
+-- what worker w's begin is decided by in a store
+abbrev pub seen : Store → ℕ → Seen
+seen s w =
+    record {
+      V' = s .site .V';
+      rows = s .site .rows;
+      table = s .site .table;
+      idle = isIdle (workerAt s w .doing);
+      has = ltb (workerAt s w .announced) absent;
+      marked = λ y. numberOf (markRefusal s y);
+    }
+
+-- refused with such a number, where it is one, else what follows
+unfoldable pub refusedBy : ℕ → Hub → Applied → Applied
+refusedBy k h next = cond (eqb k 0) next (refuse h k)
+
+-- H7.1: 3 worker not below P; those of a begin; else begun (H4.1)
 unfoldable pub begin : Rules → Store → ℕ → Operation → Applied
 begin rules s w o =
-    let has = ltb (workerAt s w .announced) absent in
-    let x = terms (s .site .rows) o in
-    let begun : Applied = record { hub = up (place s w (x .first)); answer = Ok } in
-    unless (ltb w (s .site .P)) (up s) 3
-    (unless (namedBelow (s .site .V') (x .register) && namedBelow markCount (markOf (x .mark))) (up s) 4
-    (unless (groupThere (s .site .rows) (x .group)) (up s) 17
-    (unless (valueWithin (rules .limit) (x .value)) (up s) 16
-    (unless (statusKnown (x .value)) (up s) 25
-    (unless (allowed (s .site .table) (s .site .V') w (x .right)) (up s) 23
-    (unless (isIdle (workerAt s w .doing)) (up s) 10
-    (unless (mayOpen (x .time) has) (up s) 12
-    (unless (mayUseTime (x .time) has) (up s) 13
-    (refusedBy (markRefusal s (x .mark)) (up s) begun)))))))))
+    let begun : Applied = record { hub = up (place s w (terms (s .site .rows) o .first)); answer = Ok } in
+    unless (ltb w (s .site .P)) (up s) 3 (refusedBy (refusal (rules .limit) (seen s w) w o) (up s) begun)
 
 ------------------------------------------------------------------------
 -- A step

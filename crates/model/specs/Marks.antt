@@ -46,6 +46,11 @@ markRefusal s (EmptyMark m) = cond (ltb (markAt s m) absent) (some 19) none
 markRefusal s (HeldMark m) = cond (ltb (markAt s m) absent) none (some 20)
 markRefusal s (UnreadMark m) = cond (ltb (markAt s m) absent) (cond (isRead m (s .workers)) (some 21) none) (some 20)
 
+-- the number of a refusal, 0 where there is none
+abbrev pub numberOf : Option ℕ → ℕ
+numberOf none = 0
+numberOf (some k) = k
+
 -- what a read asks of a mark: one as of a mark, that it holds a time
 abbrev pub needFor : Purpose → MarkNeed
 needFor Single = NoMark

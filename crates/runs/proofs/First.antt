@@ -13,10 +13,12 @@ use Rattle.model.specs.Record.{number, zeros, Command, SetUp, Begin, Step, Put,
 use Rattle.model.specs.Record.{MarkedRead}
 use Rattle.model.specs.Record.{Decoded, Asks, Refuses, commandOf, unusedZero, decode}
 use Rattle.values.specs.declared.Answer.{Answer}
+use Rattle.places.specs.About.{aboutOf}
 use Rattle.state.specs.State.{workerIn, tableKept}
 use Rattle.gate.specs.declared.Gate.{Gate}
-use Rattle.gate.specs.Gate.{decodedRep, gateOf, whoOf}
-use Rattle.simulation.specs.Memory.{Memory, Result}
+use Rattle.gate.specs.Gate.{hasTime}
+use Rattle.decision.specs.Decision.{gateOf, whoOf}
+use Rattle.simulation.specs.Memory.{Memory}
 use Rattle.simulation.specs.Left.{ready}
 use Rattle.simulation.specs.Shell.{rowsKept, marksRead, obeyIn, doneAs, doneOf}
 use Rattle.simulation.specs.Loop.{after, next, Ran}
@@ -94,8 +96,8 @@ decode-first b = by-length b (ltb (length b) 16) refl
 -- ---- what a record does, and what the first record of a buffer does
 abbrev gateBy : Bool → Memory → Given → Decoded → Gate
 gateBy up m given d =
-    let x = workerIn (m .hub) (whoOf (decodedRep d)) in
-    gateOf (decodedRep d) up (m .hub .site .p) (m .hub .site .v) (length (m .slots)) (x .doing) (x .announced) (given .totals) (rowsKept (m .hub))
+    let x = workerIn (m .hub) (whoOf d) in
+    gateOf d up (m .hub .site .p) (m .hub .site .v) (length (m .slots)) (aboutOf (x .doing) .idle) (hasTime (x .announced)) (given .totals) (rowsKept (m .hub))
     (m .hub .marks) (marksRead (m .hub)) (tableKept (m .hub))
 
 done-first : (up : Bool) (m : Memory) (given : Given) (b : List ℕ) → doneAs up m given (take 16 b) ≡ doneAs up m given b

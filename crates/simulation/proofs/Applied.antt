@@ -1,7 +1,7 @@
 -- What the loop leaves of a buffer is what the contract of the public functions says: the answers in the two rows, each record on any memory, and
 -- on memory that holds a hub what the model does.
 use mathlib.Core.Path.{_≡_, refl, sym, ap, _∙_, subst}
-use mathlib.Core.Bool.{Bool, _||_, _&&_}
+use mathlib.Core.Bool.{Bool, _||_}
 use mathlib.Core.List.{List, map}
 use Prim.Native.Nat.{ℕ, zero, suc, _+_, _<_}
 use native.Mathlib.Omega.{arith}
@@ -20,14 +20,14 @@ use Rattle.model.proofs.Basic.{cond-both}
 use Rattle.values.specs.Meaning.{answerOf}
 use Rattle.values.specs.declared.Answer.{Answer}
 use Rattle.answers.specs.Numbers.{kindOf, numberOf, answerFrom}
-use Rattle.worker.specs.declared.Announced.{Announced}
-use Rattle.worker.specs.declared.Doing.{Doing}
 use Rattle.worker.specs.declared.Worker.{Worker}
+use Rattle.places.specs.About.{aboutOf}
 use Rattle.state.specs.State.{workerIn, tableKept}
 use Rattle.arrays.specs.Arrays.{fillTo}
 use Rattle.gate.specs.declared.Gate.{Gate}
-use Rattle.gate.specs.Gate.{operationRep, decodedRep, decodedIn, sizesOk, gateOf, whoOf}
+use Rattle.gate.specs.Gate.{hasTime}
 use Rattle.gate.proofs.Tests.{begin-gate-by}
+use Rattle.decision.specs.Decision.{setupOk, gateOf, whoOf}
 use Rattle.simulation.specs.Memory.{Memory}
 use Rattle.simulation.specs.Left.{Sized}
 use Rattle.simulation.specs.Shell.{rowsKept, marksRead, obeyIn, gateIn, doneAs}
@@ -84,17 +84,17 @@ module _ (m : Memory) (given : Given) where
   abbrev SetsUp : Record.Decoded → Gate → Type 0
   SetsUp r g = makes g ≡ setsUp r (said (answerOf (obeyIn m given g .answer)) .ok)
 
-  gate-sets-up : (r : Record.Decoded) (up : Bool) (p v long : ℕ) (d : Doing) (t : Announced) (rows marks reading table : List ℕ)
-      → SetsUp r (gateOf (decodedRep r) up p v long d t (given .totals) rows marks reading table)
+  gate-sets-up : (r : Record.Decoded) (up : Bool) (p v long : ℕ) (idle has : Bool) (rows marks reading table : List ℕ)
+      → SetsUp r (gateOf r up p v long idle has (given .totals) rows marks reading table)
   unfolding gateOf setsUp obeyIn
-  gate-sets-up (Record.Refuses k) up p v long d t rows marks reading table = refl
-  gate-sets-up (Asks (SetUp z)) up p v long d t rows marks reading table =
+  gate-sets-up (Record.Refuses k) up p v long idle has rows marks reading table = refl
+  gate-sets-up (Asks (SetUp z)) up p v long idle has rows marks reading table =
       let N : Gate → Type 0 = SetsUp (Asks (SetUp z)) in
-      cond-both N up _ _ (λ e. refl) (λ e. cond-both N (sizesOk (z .P) (z .V') (z .N) (z .clock) long && Record.listFits (z .V') (given .totals)) _ _ (λ e. refl) (λ e. refl))
-  gate-sets-up (Asks (Record.Begin w o)) up p v long d t rows marks reading table =
+      cond-both N up _ _ (λ e. refl) (λ e. cond-both N (setupOk (z .P) (z .V') (z .N) (z .clock) long (given .totals)) _ _ (λ e. refl) (λ e. refl))
+  gate-sets-up (Asks (Record.Begin w o)) up p v long idle has rows marks reading table =
       let N : Gate → Type 0 = SetsUp (Asks (Record.Begin w o)) in
-      cond-both N up _ _ (λ e. begin-gate-by N p v w (operationRep o) d t rows marks reading table (λ k f. refl) (λ f. refl)) (λ e. refl)
-  gate-sets-up (Asks (Record.Step w)) up p v long d t rows marks reading table =
+      cond-both N up _ _ (λ e. begin-gate-by N p v w o idle has rows marks reading table (λ k f. refl) (λ f. refl)) (λ e. refl)
+  gate-sets-up (Asks (Record.Step w)) up p v long idle has rows marks reading table =
       let N : Gate → Type 0 = SetsUp (Asks (Record.Step w)) in
       cond-both N up _ _ (λ e. cond-both N (ltb w p) _ _ (λ e. refl) (λ e. refl)) (λ e. refl)
 
@@ -105,9 +105,9 @@ module _ (m : Memory) (given : Given) (bytes : List ℕ) where
   flag-is k =
       let s : State = stateAt m given bytes k in
       let x : Memory = s .memory in
-      let w : Worker = workerIn (x .hub) (whoOf (decodedIn (recordAt bytes k))) in
+      let w : Worker = workerIn (x .hub) (whoOf (decode (recordAt bytes k))) in
       ap (λ (t : Bool). s .up || t)
-      (gate-sets-up x given (decode (recordAt bytes k)) (s .up) (x .hub .site .p) (x .hub .site .v) (length (x .slots)) (w .doing) (w .announced)
+      (gate-sets-up x given (decode (recordAt bytes k)) (s .up) (x .hub .site .p) (x .hub .site .v) (length (x .slots)) (aboutOf (w .doing) .idle) (hasTime (w .announced))
       (rowsKept (x .hub)) (x .hub .marks) (marksRead (x .hub)) (tableKept (x .hub)))
 
   any-at : (k : ℕ)

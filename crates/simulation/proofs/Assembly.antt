@@ -21,8 +21,7 @@ use Rattle.state.specs.State.{workerIn}
 use Rattle.queue.specs.State.{Begins}
 use Rattle.gate.specs.declared.Gate.{Gate}
 use Rattle.gate.specs.declared.Gate.the-variants.{Refuse, Make, Start, Go}
-use Rattle.gate.specs.Gate.{decodedIn}
-use Rattle.simulation.specs.Memory.{Memory, lentIn, hubRep, write, writeHub, Result}
+use Rattle.simulation.specs.Memory.{Memory, lentIn, hubRep, write, writeHub}
 use Rattle.simulation.specs.Left.{LeftByRecords, Left, Sized, ready}
 use Rattle.simulation.specs.Shell.{goIn, obeyIn, gateIn, doneAs, doneOf}
 use Rattle.simulation.specs.Holds.{Holds}
@@ -35,7 +34,7 @@ use Rattle.simulation.proofs.Laid.{hub-is, worker-at, write-kept}
 use Rattle.simulation.proofs.Gates.{gateBy, Means, Stepping, gate-left}
 use Rattle.simulation.proofs.Refuse.{Follows, refused}
 use Rattle.simulation.proofs.Begin.{begun}
-use Rattle.simulation.proofs.Setup.{clock-fits, follows-blank}
+use Rattle.simulation.proofs.Setup.{follows-blank}
 use Rattle.simulation.proofs.Ends.{on-any}
 use Rattle.simulation.proofs.Again.{as-model}
 
@@ -66,7 +65,7 @@ module _ (m : Memory) (given : Given) (b : List ℕ) (Z : Sized m) (bytes : Byte
   unfolding apply
   done-blank =
       done-by (blank (lentIn m)) m given b (apply (inForce given) (blank (lentIn m)) b) _ (ap (λ (t : Bool). gateIn t m given b) e)
-      (follows-blank m Z given (decode b) (clock-fits b bytes))
+      (follows-blank m Z given (decode b))
 
 ------------------------------------------------------------------------
 -- Memory that records left
@@ -88,8 +87,8 @@ module _ (steps : StepsSimulate) where
     a = apply (inForce given) (up s) b
 
     -- the record's decision, for the store and for the memory
-    gate-is : gateIn (ready m) m given b ≡ gateBy (decodedIn b) true (length (m .slots)) given (hubRep s (m .hub))
-    gate-is = λ i. gateBy (decodedIn b) (left-ready m L Z i) (length (m .slots)) given (hub-is s m laid i)
+    gate-is : gateIn (ready m) m given b ≡ gateBy (decode b) true (length (m .slots)) given (hubRep s (m .hub))
+    gate-is = λ i. gateBy (decode b) (left-ready m L Z i) (length (m .slots)) given (hub-is s m laid i)
 
     -- the next store is sound
     next-sound : (t : Store) → a .hub ≡ up t → Sound t

@@ -1,52 +1,51 @@
--- The decision on a record is the model's, for a store in memory: the code's tests are the model's, one by one and in the same order. A
--- worker's record is looked at only where the worker is below P, and there it is the model's worker in memory.
+-- The decision on a record is the model's, for a store in memory. The tests of a begin are the model's own, of what memory has; a worker's record is
+-- looked at only where the worker is below P, and there it is the model's worker in memory.
 use mathlib.Core.Path.{_≡_, refl, sym, ap, subst, _∙_}
-use mathlib.Core.Bool.{Bool, true, false, true≢false, cond, _&&_}
+use mathlib.Core.Bool.{Bool, true, false, true≢false, cond}
 use mathlib.Core.List.{List, map}
-use mathlib.Core.Option.{Option, none, some}
 use Prim.Native.Nat.{ℕ, _<_}
-use native.Mathlib.Omega.{arith}
-use lib.Dec.{ltb, eqb}
+use lib.Dec.{ltb}
 use lib.ListN.{length, replicate, length-map}
 use Rattle.lists.proofs.Over.{take-over}
-use borrow.Author.Tests.{ltb-true, ne-eqb}
+use borrow.Author.Tests.{ltb-true}
 use Rattle.model.specs.Store as Model
 use Rattle.model.specs.Store.{Store, up, absent, markCount, workerAt, place}
 use Rattle.model.specs.Marks as Mark
-use Rattle.model.specs.Marks.{markRefusal}
+use Rattle.model.specs.Marks.{markRefusal, numberOf}
 use Rattle.model.specs.Rights.{allowed}
 use Rattle.model.specs.Rules.{Given, inForce}
 use Rattle.model.specs.Answer.{Ok, Stepped, Applied}
 use Rattle.model.specs.Record as Record
 use Rattle.model.specs.Steps.{stepAt}
-use Rattle.model.specs.Apply.{refuse, Terms, terms, namedBelow, groupThere, valueWithin, statusKnown, isIdle, mayOpen, mayUseTime, setUp, refusedBy}
-use Rattle.model.specs.Apply.{begin, step, obey, applyDecoded}
-use Rattle.model.proofs.Basic.{and-both}
+use Rattle.model.specs.Demand.{occurrences}
+use Rattle.model.specs.Refusals.{onReading}
+use Rattle.model.specs.Apply.{refuse, Terms, terms, namedBelow, groupThere, valueWithin, statusKnown, isIdle, mayOpen, mayUseTime, tested, Seen}
+use Rattle.model.specs.Apply.{refusal, seen, refusedBy, setUp, begin, step, obey, applyDecoded}
+use Rattle.model.proofs.Begin.{of-marks, refusal-by, not-zero, marked-by}
 use Rattle.theorem.proofs.View.{idle-is}
+use Rattle.worker.specs.declared.Doing.{Doing}
 use Rattle.worker.specs.declared.Worker.{Worker}
 use Rattle.worker.specs.Rep.{doingRep, workerRep}
-use Rattle.record.specs.declared.Decoded.{Decoded}
 use Rattle.state.specs.declared.Hub.{Hub}
 use Rattle.state.specs.State.{workerIn, tableKept}
-use Rattle.rights.specs.Needs.{neededIn}
 use Rattle.places.specs.About.{aboutOf}
-use Rattle.gate.specs.declared.Terms as Code
+use Rattle.marks.specs.Marks.{refusalIn}
 use Rattle.gate.specs.declared.Gate.{Gate}
 use Rattle.gate.specs.declared.Gate.the-variants.{Refuse, Make, Start, Go}
-use Rattle.gate.specs.Gate.{operationRep, decodedRep, termsOf, markOf, namedOk, groupOk, valueOk, statusOk, openOk, timeOk, beginGate, gateOf, whoOf}
-use Rattle.marks.specs.Marks.{refusalIn}
+use Rattle.gate.specs.Gate.{hasTime, markNeedRep, seenOf, startedBy, started, beginGate}
+use Rattle.decision.specs.Decision.{gateOf, whoOf}
 use Rattle.simulation.specs.Memory.{readOf, hubRep}
 use Rattle.simulation.specs.Shell.{rowsKept, marksRead}
 use Rattle.simulation.proofs.Laws.{worker-in}
-use Rattle.simulation.proofs.Facts.{same-facts, termsRep, same-terms, same-right, same-names, same-group, same-value, same-status, same-open, same-use}
+use Rattle.simulation.proofs.Facts.{same-facts, has-time}
 use Rattle.simulation.proofs.Sound.{Sound}
-use Rattle.simulation.proofs.Marks.{numberOf, UnreadIn, refusal-same, Numbered, numbered}
+use Rattle.simulation.proofs.Marks.{UnreadIn, refusal-same}
 
 -- the gate of a record that was read as r, by whether the memory is ready, the length of the row, the list that is lent, and the hub by value
-abbrev pub gateBy : Decoded → Bool → ℕ → Given → Hub → Gate
+abbrev pub gateBy : Record.Decoded → Bool → ℕ → Given → Hub → Gate
 gateBy r ready long given h =
-    gateOf r ready (h .site .p) (h .site .v) long (workerIn h (whoOf r) .doing) (workerIn h (whoOf r) .announced) (given .totals) (rowsKept h)
-    (h .marks) (marksRead h) (tableKept h)
+    let x = workerIn h (whoOf r) in
+    gateOf r ready (h .site .p) (h .site .v) long (aboutOf (x .doing) .idle) (hasTime (x .announced)) (given .totals) (rowsKept h) (h .marks) (marksRead h) (tableKept h)
 
 -- a begin of operation o by worker w in the store s is accepted
 pub record Begun (s : Store) (w : ℕ) (o : Record.Operation) (a : Applied) : Type 0 where
@@ -117,99 +116,69 @@ module _ (s : Store) (S : Sound s) (k : Hub) (given : Given) where
   abbrev x : ℕ → Worker
   x w = workerIn (hubRep s k) w
 
-  begins : (w : ℕ) (o : Record.Operation)
-      → Means s (beginGate (s .site .P) (s .site .V') w (operationRep o) (workerIn (hubRep s k) w .doing) (workerIn (hubRep s k) w .announced) rows
-      (s .marks) reading table)
-      (begin (inForce given) s w o)
-  unfolding beginGate begin refusedBy
+  -- what memory has for the begin of worker w
+  abbrev seenIn : ℕ → Seen
+  seenIn w = seenOf (s .site .V') rows table (aboutOf (x w .doing) .idle) (hasTime (x w .announced)) (s .marks) reading
+
+  -- a test that both make, and what follows where it is passed
+  behind : (t : Bool) (n i j : ℕ) → (t ≡ true → i ≡ j) → tested t n i ≡ tested t n j
+  behind true n i j f = f refl
+  behind false n i j f = refl
+
+  same-refusal : (w : ℕ) (o : Record.Operation) → ltb w (s .site .P) ≡ true
+      → refusal (inForce given .limit) (seenIn w) w o ≡ refusal (inForce given .limit) (seen s w) w o
+  unfolding refusal
+  same-refusal w o i =
+      let a : Terms = terms rows o in
+      let y : Model.Worker = workerAt s w in
+      let idle : aboutOf (x w .doing) .idle ≡ isIdle (y .doing) =
+      ap (λ (z : Worker). aboutOf (z .doing) .idle) (who-is w i) ∙ same-facts (y .doing) .0 in
+      let has : hasTime (x w .announced) ≡ ltb (y .announced) absent =
+      ap (λ (z : Worker). hasTime (z .announced)) (who-is w i) ∙ has-time (y .announced) in
+      ap (tested (namedBelow (s .site .V') (a .register)) 4)
+      (behind (namedBelow markCount (Mark.markOf (a .mark))) 4 _ _
+      (λ e.
+      let marked : refusalIn (markNeedRep (a .mark)) (s .marks) reading ≡ numberOf (markRefusal s (a .mark)) =
+      refusal-same s S (a .mark) (unread-in (a .mark) e) in
+      λ j.
+      tested (groupThere rows (a .group)) 17
+      (tested (valueWithin (inForce given .limit) (a .value)) 16
+      (tested (statusKnown (a .value)) 25
+      (tested (allowed table (s .site .V') w (a .right)) 23
+      (tested (idle j) 10 (tested (mayOpen (a .time) (has j)) 12 (tested (mayUseTime (a .time) (has j)) 13 (marked j)))))))))
+
+  begins : (w : ℕ) (o : Record.Operation) → Means s (beginGate (s .site .P) (seenIn w) w o) (begin (inForce given) s w o)
+  unfolding beginGate started begin refusedBy
   begins w o =
-      subst (λ (z : Code.Terms). M (chosen z) (begin (inForce given) s w o)) (sym (same-terms rows (S .bounds .rows .1) o))
-      (both M (ltb w (s .site .P)) (ltb w (s .site .P)) _ _ _ _ refl
-      (λ i. both M (namedOk (z .register) (s .site .V') && namedOk (markOf (z .mark)) markCount)
-      (namedBelow (s .site .V') (a .register) && namedBelow markCount (Mark.markOf (a .mark))) _ _ _ _ (same-names (a .register) (a .mark) (s .site .V'))
-      (λ r. both M (groupOk (z .row) rows) (groupThere rows (a .group)) _ _ _ _ (same-group rows (a .group))
-      (λ g. both M (valueOk (z .value)) (valueWithin (inForce given .limit) (a .value)) _ _ _ _ (same-value given (a .value))
-      (λ v. both M (statusOk (z .value)) (statusKnown (a .value)) _ _ _ _ (same-status (a .value))
-      (λ k. both M (allowed table (s .site .V') w (neededIn (z .right) rows)) (allowed table (s .site .V') w (a .right)) _ _ _ _
-      (ap (allowed table (s .site .V') w) (same-right rows o))
-      (λ p. both M (aboutOf (x w .doing) .idle) (isIdle (y .doing))
-      _ _ _ _ (ap (λ (k : Worker). aboutOf (k .doing) .idle) (who-is w i) ∙ same-facts (y .doing) .0)
-      (λ e. both M (openOk (z .time) (x w .announced)) (mayOpen (a .time) (ltb (y .announced) absent)) _ _ _ _
-      (ap (λ (k : Worker). openOk (z .time) (k .announced)) (who-is w i) ∙ same-open (a .time) (y .announced))
-      (λ f. both M (timeOk (z .time) (x w .announced)) (mayUseTime (a .time) (ltb (y .announced) absent)) _ _ _ _
-      (ap (λ (k : Worker). timeOk (z .time) (k .announced)) (who-is w i) ∙ same-use (a .time) (y .announced))
-      (λ u. by-mark (markRefusal s (a .mark)) refl
-      (refusal-same s S (a .mark) (unread-in (a .mark) (and-both (namedBelow (s .site .V') (a .register)) _ r .1)))
-      (numbered s (a .mark)) (ltb-true w (s .site .P) i) (idle-is (y .doing) e))
-      (λ n. refl))
-      (λ n. refl))
-      (λ n. refl))
-      (λ n. refl))
-      (λ n. refl))
-      (λ n. refl))
-      (λ n. refl))
-      (λ n. refl))
-      (λ n. refl))
+      both M (ltb w (s .site .P)) (ltb w (s .site .P)) _ _ _ _ refl
+      (λ i. subst (λ (n : ℕ). M (startedBy w n d) (refusedBy (refusal (inForce given .limit) (seen s w) w o) (up s) begun)) (sym (same-refusal w o i))
+      (refusal-by (λ n. M (startedBy w n d) (refusedBy n (up s) begun)) (inForce given .limit) (seen s w) w o no
+      (λ t. marked-by (λ n. M (startedBy w n d) (refusedBy n (up s) begun)) (markRefusal s (terms rows o .mark)) (of-marks s (terms rows o .mark)) no
+      (λ e. (o, refl, record { inside = ltb-true w (s .site .P) i; idle = idle-is (workerAt s w .doing) (t .idle); is = refl })))))
+      (λ n. refl)
     where
       M : Gate → Applied → Type 0
       M = Means s
 
-      y : Model.Worker
-      y = workerAt s w
+      d : Doing
+      d = doingRep (terms rows o .first)
 
-      a : Terms
-      a = terms rows o
+      begun : Applied
+      begun = record { hub = up (place s w (terms rows o .first)); answer = Ok }
 
-      z : Code.Terms
-      z = termsRep rows (termsOf (operationRep o) rows .right) a
-
-      -- the refusal for a mark, if any
-      by-mark : (q : Option ℕ) → markRefusal s (a .mark) ≡ q → refusalIn (z .mark) (s .marks) reading ≡ numberOf (markRefusal s (a .mark))
-          → Numbered (markRefusal s (a .mark)) → w < s .site .P → workerAt s w .doing ≡ Model.Idle
-          → M (cond (eqb (refusalIn (z .mark) (s .marks) reading) 0) (Start w (z .first)) (Refuse (refusalIn (z .mark) (s .marks) reading)))
-          (refusedBy (markRefusal s (a .mark)) (up s) (record { hub = up (place s w (a .first)); answer = Ok }))
-      by-mark none e f n b d =
-          rw (f, e) (o, refl, record { inside = b; idle = d; is = refl })
-      by-mark (some j) e f n b d =
-          let c = subst Numbered e n in
-          rw (f, e, ne-eqb j 0 (λ z. omega (arith, z, c .0))) refl
-
-      -- the decision, of the terms given
-      chosen : Code.Terms → Gate
-      chosen q =
-          cond (ltb w (s .site .P))
-          (cond (namedOk (q .register) (s .site .V') && namedOk (markOf (q .mark)) markCount)
-          (cond (groupOk (q .row) rows)
-          (cond (valueOk (q .value))
-          (cond (statusOk (q .value))
-          (cond (allowed table (s .site .V') w (neededIn (q .right) rows))
-          (cond (aboutOf (x w .doing) .idle)
-          (cond (openOk (q .time) (x w .announced))
-          (cond (timeOk (q .time) (x w .announced))
-          (cond (eqb (refusalIn (q .mark) (s .marks) reading) 0) (Start w (q .first)) (Refuse (refusalIn (q .mark) (s .marks) reading)))
-          (Refuse 13))
-          (Refuse 12))
-          (Refuse 10))
-          (Refuse 23))
-          (Refuse 25))
-          (Refuse 16))
-          (Refuse 17))
-          (Refuse 4))
-          (Refuse 3)
+      no : (n : ℕ) → 0 < occurrences n onReading → M (startedBy w n d) (refusedBy n (up s) begun)
+      no n h = rw (not-zero n h) refl
 
   -- the decision on a record that was read as r is the model's
   pub gate-left : (r : Record.Decoded) (long : ℕ)
-      → Means s (gateBy (decodedRep r) true long given (hubRep s k)) (applyDecoded (inForce given) (up s) r)
+      → Means s (gateBy r true long given (hubRep s k)) (applyDecoded (inForce given) (up s) r)
   unfolding whoOf gateOf applyDecoded obey setUp step
   gate-left (Record.Refuses k) long = refl
   gate-left (Record.Asks (Record.SetUp z)) long = refl
   gate-left (Record.Asks (Record.Begin w o)) long =
-      subst (λ (l : List ℕ). Means s (beginGate (s .site .P) (s .site .V') w (operationRep o) (x w .doing) (x w .announced) l (s .marks)
-      (marksRead (hubRep s k)) (tableKept (hubRep s k))) (begin (inForce given) s w o)) (sym kept-rows)
-      (subst (λ (l : List ℕ). Means s (beginGate (s .site .P) (s .site .V') w (operationRep o) (x w .doing) (x w .announced) rows (s .marks) l
-      (tableKept (hubRep s k))) (begin (inForce given) s w o)) (sym kept-reading)
-      (subst (λ (l : List ℕ). Means s (beginGate (s .site .P) (s .site .V') w (operationRep o) (x w .doing) (x w .announced) rows (s .marks) reading l)
-      (begin (inForce given) s w o)) (sym kept-table) (begins w o)))
+      let by : List ℕ → List ℕ → List ℕ → Gate = λ l r t.
+      beginGate (s .site .P) (seenOf (s .site .V') l t (aboutOf (x w .doing) .idle) (hasTime (x w .announced)) (s .marks) r) w o in
+      subst (λ (g : Gate). Means s g (begin (inForce given) s w o)) (λ i. by (sym kept-rows i) (sym kept-reading i) (sym kept-table i)) (begins w o)
   gate-left (Record.Asks (Record.Step w)) long =
       both (Means s) (ltb w (s .site .P)) (ltb w (s .site .P)) _ _ _ _ refl
       (λ i. record { inside = ltb-true w (s .site .P) i; is = refl })

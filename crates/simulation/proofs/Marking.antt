@@ -10,7 +10,7 @@ use borrow.Author.Tests.{ne-eqb}
 use Rattle.model.specs.Store as Model
 use Rattle.model.specs.Store.{Store, absent, markCount, workerAt, withDoing, withMarks, place}
 use Rattle.model.specs.Answer as Model·Answer
-use Rattle.model.specs.Marks.{MarkNeed, EmptyMark, UnreadMark, markRefusal}
+use Rattle.model.specs.Marks.{numberOf, MarkNeed, EmptyMark, UnreadMark, markRefusal}
 use Rattle.model.specs.Steps.{timeStep, stepAt, stoppedBy, markKeep, markRelease}
 use Rattle.values.specs.declared.Answer.the-variants.{Done, No}
 use Rattle.worker.specs.declared.Doing.the-variants.{Idle}
@@ -24,13 +24,13 @@ use Rattle.step.specs.Step.{Stepped, stopped, markOrStop, stepOf}
 use Rattle.simulation.specs.Memory.{Memory, readOf, hubRep, handWords, write}
 use Rattle.simulation.specs.Left.{Sized}
 use Rattle.simulation.specs.Shell.{markedIn, nextIn, finishIn, goIn}
-use Rattle.simulation.proofs.Facts.{markNeedRep}
+use Rattle.gate.specs.Gate.{markNeedRep}
 use Rattle.simulation.proofs.Sound.{Sound}
 use Rattle.simulation.proofs.Simulates.{Simulates, recordAt, simulated}
 use Rattle.simulation.proofs.Laid.{write-kept, memory-path, hub-is, slots-is, newest-is, free-is, queue-is, lens-is, worker-put}
 use Rattle.simulation.proofs.Laid.{list-kept, place-at}
 use Rattle.simulation.proofs.Found.{stepFound, step-is, time-is}
-use Rattle.simulation.proofs.Marks.{numberOf, UnreadIn, refusal-same, Numbered, numbered}
+use Rattle.simulation.proofs.Marks.{UnreadIn, refusal-same, Numbered, numbered}
 use Rattle.simulation.proofs.Kept.{kept-sim}
 
 module _ (s : Store) (m : Memory) (w : ℕ) (S : Sound s) (Z : Sized m) (laid : m ≡ write s m) (wb : w < s .site .P) where

@@ -14,21 +14,17 @@ use borrow.Author.Tests.{eq-eqb, ne-eqb}
 use Rattle.model.specs.Store as Model
 use Rattle.model.specs.Store.{Store, absent, markCount, startWorker, workerAt, markAt}
 use Rattle.model.specs.About.{about}
-use Rattle.model.specs.Marks.{MarkNeed, NoMark, EmptyMark, HeldMark, UnreadMark, asOf, reads, isRead, markRefusal, needFor, timeFor}
+use Rattle.model.specs.Marks.{MarkNeed, NoMark, EmptyMark, HeldMark, UnreadMark, asOf, reads, isRead, markRefusal, numberOf, needFor, timeFor}
 use Rattle.model.proofs.Basic.{cond-both, eq-cases}
 use Rattle.theorem.proofs.View.{off-cases}
 use Rattle.places.specs.declared.Stance.{Stance}
 use Rattle.worker.specs.Rep.{purposeRep, doingRep, announcedRep, timeOf}
 use Rattle.marks.specs.Marks.{shownAs, readAs, readFrom, readBy, readIn, refusalIn, timeIn}
+use Rattle.gate.specs.Gate.{markNeedRep}
 use Rattle.step.specs.Step.{needOf}
 use Rattle.simulation.specs.Memory.{readOf}
-use Rattle.simulation.proofs.Facts.{stanceRep, same-facts, markNeedRep}
+use Rattle.simulation.proofs.Facts.{stanceRep, same-facts}
 use Rattle.simulation.proofs.Sound.{MarkIn, PlaceIn, Sound}
-
--- the number of a refusal, 0 where there is none
-abbrev pub numberOf : Option ℕ → ℕ
-numberOf none = 0
-numberOf (some k) = k
 
 -- of the twelve marks each is shown as another
 shown-same : (j m : ℕ) → j < markCount → m < markCount → eqb (shownAs j) (shownAs m) ≡ eqb j m

@@ -17,15 +17,15 @@ use Rattle.model.specs.Demand.{Exchange}
 use Rattle.model.proofs.Basic.{cond-both}
 use Rattle.values.specs.Meaning.{answerOf}
 use Rattle.values.specs.declared.Answer.{Answer}
-use Rattle.worker.specs.declared.Announced.{Announced}
-use Rattle.worker.specs.declared.Doing.{Doing}
 use Rattle.worker.specs.declared.Worker.{Worker}
+use Rattle.places.specs.About.{aboutOf}
 use Rattle.model.specs.Rights.{tableStands}
 use Rattle.state.specs.State.{workerIn, tableKept}
 use Rattle.simulation.proofs.Rights.{standing-stands}
 use Rattle.gate.specs.declared.Gate.{Gate}
 use Rattle.gate.specs.declared.Gate.the-variants.{Refuse, Make}
-use Rattle.gate.specs.Gate.{decodedRep, decodedIn, sizesOk, gateOf, whoOf}
+use Rattle.gate.specs.Gate.{hasTime}
+use Rattle.decision.specs.Decision.{setupOk, gateOf, whoOf}
 use Rattle.simulation.specs.Memory.{Memory}
 use Rattle.simulation.specs.Left.{Sized, ready}
 use Rattle.simulation.specs.Shell.{rowsKept, marksRead, obeyIn, gateIn, doneAs, doneOf}
@@ -53,14 +53,14 @@ answerTo m given bytes k = stateAt m given bytes (suc k) .last
 
 -- where the memory does not count as set up, nothing begins and no step is taken
 blank-gate : (P : Gate → Type 0) → ((k : ℕ) → P (Refuse k)) → ((p v n k : ℕ) → P (Make p v n k))
-    → (r : Record.Decoded) (p v long : ℕ) (d : Doing) (t : Announced) (list rows marks reading table : List ℕ)
-    → P (gateOf (decodedRep r) false p v long d t list rows marks reading table)
+    → (r : Record.Decoded) (p v long : ℕ) (idle has : Bool) (list rows marks reading table : List ℕ)
+    → P (gateOf r false p v long idle has list rows marks reading table)
 unfolding gateOf
-blank-gate P f g (Record.Refuses k) p v long d t list rows marks reading table = f k
-blank-gate P f g (Asks (SetUp z)) p v long d t list rows marks reading table =
-    cond-both P (sizesOk (z .P) (z .V') (z .N) (z .clock) long && Record.listFits (z .V') list) _ _ (λ e. g (z .P) (z .V') (z .N) (z .clock)) (λ e. f 5)
-blank-gate P f g (Asks (Record.Begin w o)) p v long d t list rows marks reading table = f 8
-blank-gate P f g (Asks (Record.Step w)) p v long d t list rows marks reading table = f 8
+blank-gate P f g (Record.Refuses k) p v long idle has list rows marks reading table = f k
+blank-gate P f g (Asks (SetUp z)) p v long idle has list rows marks reading table =
+    cond-both P (setupOk (z .P) (z .V') (z .N) (z .clock) long list) _ _ (λ e. g (z .P) (z .V') (z .N) (z .clock)) (λ e. f 5)
+blank-gate P f g (Asks (Record.Begin w o)) p v long idle has list rows marks reading table = f 8
+blank-gate P f g (Asks (Record.Step w)) p v long idle has list rows marks reading table = f 8
 
 -- a hub that records left counts as set up where memory holds it
 held-ready : (h : Model.Hub) (m : Memory) → Holds h m → Sized m → LeftHub h → ready m ≡ true
@@ -101,9 +101,9 @@ module _ (steps : StepsSimulate) (m : Memory) (given : Given) (b : List ℕ) (Z 
   flagged (up s) L =
       now-ready (up s) L (left-next (L .store) (under (inForce given) b)) ∙ sym (ap (λ (t : Bool). t || makes (gateIn (ready m) m given b)) (left-ready m L Z))
   flagged (blank row) H =
-      let x : Worker = workerIn (m .hub) (whoOf (decodedIn b)) in
+      let x : Worker = workerIn (m .hub) (whoOf (Record.decode b)) in
       blank-gate (λ (g : Gate). gateIn (ready m) m given b ≡ g → Flagged) (flag-refused row H) (flag-made row H)
-      (Record.decode b) (m .hub .site .p) (m .hub .site .v) (length (m .slots)) (x .doing) (x .announced) (given .totals) (rowsKept (m .hub))
+      (Record.decode b) (m .hub .site .p) (m .hub .site .v) (length (m .slots)) (aboutOf (x .doing) .idle) (hasTime (x .announced)) (given .totals) (rowsKept (m .hub))
       (m .hub .marks) (marksRead (m .hub)) (tableKept (m .hub))
       (ap (λ (t : Bool). gateIn t m given b) (H .0))
 

@@ -22,7 +22,7 @@ use Rattle.model.specs.Apply.{inRanges, setUp, step, obey, applyDecoded, apply}
 use Rattle.model.specs.Demand.{All}
 use Rattle.model.specs.Refusals.{onReading}
 use Rattle.model.proofs.Basic.{cond-both, All-get}
-use Rattle.theorem.proofs.Begin.{begin-by}
+use Rattle.model.proofs.Begin.{begin-by}
 use Rattle.theorem.proofs.Found.{stopped-by}
 use Rattle.values.specs.Meaning.{answerOf}
 use Rattle.values.specs.declared.Answer as Code

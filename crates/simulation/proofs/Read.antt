@@ -15,7 +15,7 @@ use Rattle.model.specs.Store.{Store, startWorker, workerAt, slotAt, newestOf, w
 use Rattle.model.specs.Answer as Model·Answer
 use Rattle.model.specs.Versions.{stampSlots, stamp}
 use Rattle.model.specs.Steps.{stepAt, stoppedBy, readEnter, readStand, getShow, answerFor, goalAt, signed, totalFound, found}
-use Rattle.model.specs.Marks.{markRefusal, needFor, timeFor}
+use Rattle.model.specs.Marks.{numberOf, markRefusal, needFor, timeFor}
 use Rattle.model.specs.Totals.{signOf, rowAt, goesOn, Sum}
 use Rattle.model.specs.Sums.{addRow}
 use Rattle.model.specs.Rules.{twelveDigits}
@@ -47,7 +47,7 @@ use Rattle.simulation.proofs.Sound.{Sound}
 use Rattle.simulation.proofs.Simulates.{Simulates}
 use Rattle.simulation.proofs.Laid.{slots-is, rows-is, place-at, among}
 use Rattle.simulation.proofs.Found.{stepFound, short-is, slot-is, newest-is, newest-short, stamp-row, time-is}
-use Rattle.simulation.proofs.Marks.{numberOf, refusal-same, Numbered, numbered, need-same, need-unread, time-same}
+use Rattle.simulation.proofs.Marks.{refusal-same, Numbered, numbered, need-same, need-unread, time-same}
 use Rattle.simulation.proofs.Contents.{answer-same, content-is}
 use Rattle.simulation.proofs.Kept.{kept-sim}
 

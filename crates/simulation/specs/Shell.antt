@@ -6,6 +6,7 @@ use Prim.Native.Nat.{ℕ, _+_, _*_, _-_, _/_, _%_}
 use lib.ListN.{length, getD, set, take, replicate}
 use Rattle.model.specs.Rules.{Given}
 use Rattle.lists.specs.Over.{over, overAt}
+use Rattle.model.specs.Record.{decode, rowsOf}
 use Rattle.values.specs.declared.Answer.{Answer}
 use Rattle.values.specs.declared.Answer.the-variants.{Ok, Going, Freed, Done, No}
 use Rattle.slots.specs.declared.Slot.{Slot}
@@ -16,6 +17,7 @@ use Rattle.worker.specs.declared.Doing.{Doing}
 use Rattle.worker.specs.declared.Doing.the-variants.{Idle, FlushRead, FlushFree}
 use Rattle.worker.specs.declared.Worker.{Worker}
 use Rattle.worker.specs.Rep.{poolRep}
+use Rattle.places.specs.About.{aboutOf}
 use Rattle.marks.specs.Marks.{readNext}
 use Rattle.state.specs.declared.Hub.{Hub}
 use Rattle.state.specs.State.{siteMade, freshHub, workerIn, atPlace, withWorkersIn, withWorkerIn, withClockIn, withFreeIn, withWindowIn, withTimesIn}
@@ -23,7 +25,8 @@ use Rattle.state.specs.State.{withMarksIn, withReadingIn, tableKept}
 use Rattle.arrays.specs.Arrays.{short, fillTo}
 use Rattle.gate.specs.declared.Gate.{Gate}
 use Rattle.gate.specs.declared.Gate.the-variants.{Refuse, Make, Start, Go}
-use Rattle.gate.specs.Gate.{decodedIn, gateOf, whoOf}
+use Rattle.gate.specs.Gate.{hasTime}
+use Rattle.decision.specs.Decision.{gateOf, whoOf}
 use Rattle.announcing.specs.declared.Outcome.{Outcome}
 use Rattle.step.specs.declared.Next.{Next}
 use Rattle.step.specs.declared.Next.the-variants.{Taken, HandIn, Take, Read, ReadMarks, Split, Free, Mark}
@@ -219,8 +222,8 @@ obeyIn m given (Go w) = goIn m w (workerIn (m .hub) w) (workerIn (m .hub) w .doi
 -- the decision, where `up` says that the memory counts as set up
 abbrev pub gateIn : Bool → Memory → Given → List ℕ → Gate
 gateIn up m given b =
-    let x = workerIn (m .hub) (whoOf (decodedIn b)) in
-    gateOf (decodedIn b) up (m .hub .site .p) (m .hub .site .v) (length (m .slots)) (x .doing) (x .announced) (given .totals) (rowsKept (m .hub))
+    let x = workerIn (m .hub) (whoOf (decode b)) in
+    gateOf (decode b) up (m .hub .site .p) (m .hub .site .v) (length (m .slots)) (aboutOf (x .doing) .idle) (hasTime (x .announced)) (given .totals) (rowsKept (m .hub))
     (m .hub .marks) (marksRead (m .hub)) (tableKept (m .hub))
 
 unfoldable pub doneAs : Bool → Memory → Given → List ℕ → Result

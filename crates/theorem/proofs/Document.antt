@@ -1,18 +1,17 @@
 -- The theorems under document 01's rules and under those in force. That their batch size is from 1 to 64 is in `Batch`;
 -- that they differ in refusal 16 alone is seen where the tests of a begin are: the rules in force have one test more.
-use mathlib.Core.Bool.{Bool, true, false, cond, _&&_}
+use mathlib.Core.Bool.{Bool, true, false, cond}
 use mathlib.Core.Path.{_≡_, refl}
-use mathlib.Core.List.{List}
 use mathlib.Core.Logic.{_⊎_, inl, inr}
 use Prim.Native.Nat.{ℕ}
 use lib.Dec.{ltb}
-use Rattle.model.specs.Store.{markCount, Hub, blank, up}
+use Rattle.model.specs.Store.{markCount, Hub, blank, up, place}
 use Rattle.model.specs.Marks.{markOf}
 use Rattle.model.specs.Batch.{batchOf}
 use Rattle.model.specs.Rules.{Given, Rules, document01, inForce, Allowed, under, allUnder}
-use Rattle.model.specs.Answer.{Applied}
+use Rattle.model.specs.Answer.{Ok, Applied}
 use Rattle.model.specs.Record.{SetUp, Begin, Step, Decoded, Asks, Refuses, decode}
-use Rattle.model.specs.Apply.{refuse, setUp, terms, namedBelow, groupThere, valueWithin, begin, obey, applyDecoded, apply}
+use Rattle.model.specs.Apply.{refuse, setUp, terms, namedBelow, groupThere, valueWithin, refusal, refusedBy, begin, obey, applyDecoded, apply}
 use Rattle.model.specs.Document.{Theorems, Document}
 use Rattle.model.proofs.Batch.{as-documented, allowed}
 use Rattle.theorem.proofs.Main.{demand}
@@ -31,26 +30,28 @@ theorems rules e =
       as-published = λ row b ok bs. as-published row (under rules b) a ok (allUnder rules bs);
     }
 
--- two lists of tests that differ in one
-one-test : (a b c d : Bool) (x₀ x₁ x₂ x₃ y : Applied)
-    → (cond a (cond b (cond c (cond d y x₃) x₂) x₁) x₀ ≡ x₃)
-    ⊎ (cond a (cond b (cond c (cond d y x₃) x₂) x₁) x₀ ≡ cond a (cond b (cond c y x₂) x₁) x₀)
-one-test true true true true x₀ x₁ x₂ x₃ y = inr refl
-one-test true true true false x₀ x₁ x₂ x₃ y = inl refl
-one-test true true false d x₀ x₁ x₂ x₃ y = inr refl
-one-test true false c d x₀ x₁ x₂ x₃ y = inr refl
-one-test false b c d x₀ x₁ x₂ x₃ y = inr refl
+-- two lists of tests that differ in one, and what is made of the number
+one-test : (f : ℕ → Applied) (a b b′ c d : Bool) (x₀ : Applied) (x₁ x₂ x₃ y : ℕ)
+    → (cond a (f (cond b (cond b′ (cond c (cond d y x₃) x₂) x₁) x₁)) x₀ ≡ f x₃)
+    ⊎ (cond a (f (cond b (cond b′ (cond c (cond d y x₃) x₂) x₁) x₁)) x₀ ≡ cond a (f (cond b (cond b′ (cond c y x₂) x₁) x₁)) x₀)
+one-test f true true true true true x₀ x₁ x₂ x₃ y = inr refl
+one-test f true true true true false x₀ x₁ x₂ x₃ y = inl refl
+one-test f true true true false d x₀ x₁ x₂ x₃ y = inr refl
+one-test f true true false c d x₀ x₁ x₂ x₃ y = inr refl
+one-test f true false b′ c d x₀ x₁ x₂ x₃ y = inr refl
+one-test f false b b′ c d x₀ x₁ x₂ x₃ y = inr refl
 
 only-16 : (g : Given) (h : Hub) (d : Decoded)
     → (applyDecoded (inForce g) h d ≡ refuse h 16) ⊎ (applyDecoded (inForce g) h d ≡ applyDecoded (document01 g) h d)
-unfolding applyDecoded obey setUp begin
+unfolding applyDecoded obey setUp begin refusal refusedBy
 only-16 g (blank row) (Asks (SetUp z)) = inr refl
 only-16 g (up s) (Asks (SetUp z)) = inr refl
 only-16 g (blank row) (Asks (Begin w o)) = inr refl
 only-16 g (up s) (Asks (Begin w o)) =
     let x = terms (s .site .rows) o in
-    one-test (ltb w (s .site .P)) (namedBelow (s .site .V') (x .register) && namedBelow markCount (markOf (x .mark))) (groupThere (s .site .rows) (x .group))
-    (valueWithin (inForce g .limit) (x .value)) _ _ _ _ _
+    let begun : Applied = record { hub = up (place s w (x .first)); answer = Ok } in
+    one-test (λ k. refusedBy k (up s) begun) (ltb w (s .site .P)) (namedBelow (s .site .V') (x .register))
+    (namedBelow markCount (markOf (x .mark))) (groupThere (s .site .rows) (x .group)) (valueWithin (inForce g .limit) (x .value)) _ _ _ _ _
 only-16 g (blank row) (Asks (Step w)) = inr refl
 only-16 g (up s) (Asks (Step w)) = inr refl
 only-16 g h (Refuses k) = inr refl

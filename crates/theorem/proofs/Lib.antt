@@ -1,6 +1,5 @@
 pub mod Found
 pub mod View
-pub mod Begin
 pub mod Linear
 pub mod Slots
 pub mod Chain

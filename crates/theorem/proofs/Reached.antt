@@ -24,7 +24,7 @@ use Rattle.model.specs.Demand.{Call, Plain, startOf, plain₀, events, observe,
 use Rattle.model.specs.Reached.{sumBy, inHand, TotalFits, TimesFit, Bounds, SoundHub, Throughout, Sound}
 use Rattle.model.specs.Figure.{HandByHigh, WorkerByHigh, StoreByHigh, FigureHub, AsPublished}
 use Rattle.model.proofs.Basic.{cond-both, All-from, All-map, All-nth, up-inj}
-use Rattle.theorem.proofs.Begin.{begin-by}
+use Rattle.model.proofs.Begin.{begin-by}
 use Rattle.model.proofs.Totals.{own-next, own-few, few, few-rows}
 use Rattle.theorem.proofs.Invariant.{ctx, Summed, PlaceHolds, Inv}
 use Rattle.theorem.proofs.View.{idle-is}
@@ -57,7 +57,7 @@ module _ {start : ℕ → Content} (now : ℕ) (s : Store) (olds : List (List �
         place s w (terms (s .site .rows) c .first),
         refl,
         refl,
-        begin-within s pos W w c (idle-is (workerAt s w .doing) (t .idle)),
+        begin-within s pos W w c (idle-is (workerAt s w .doing) (t .tests .idle)),
         begin-byHigh now s olds h o p I S w (Tests.ltb-true w (s .site .P) (t .worker)) c,
       ))
   decoded-bounded rules (Asks (Step w)) =

@@ -15,7 +15,7 @@ use Rattle.model.specs.Apply.{refuse, setUp, isIdle, terms, begin, step, takesS
 use Rattle.model.specs.Demand.{Call, observe, Performs, StepTaken, Plain, endEffects, stepEffects, effects, occurrences}
 use Rattle.model.specs.Demand.{FreesNothingNeeded, TookBy}
 use Rattle.model.proofs.Basic.{cond-both}
-use Rattle.theorem.proofs.Begin.{begin-by}
+use Rattle.model.proofs.Begin.{begin-by}
 use Rattle.theorem.proofs.Site.{SameSite, step-site}
 use Rattle.theorem.proofs.Invariant.{NoneRunning, Inv}
 use Rattle.theorem.proofs.View.{idle-is}
@@ -62,8 +62,8 @@ module _ {start : ℕ → Content} (now : ℕ) (s : Store) (olds : List (List �
         site = refl;
         kept =
             none-more o [] refl
-            (begin-kept now s olds h o p I w (Tests.ltb-true w (s .site .P) (t .worker)) c (idle-is (workerAt s w .doing) (t .idle))
-            (t .named) (t .group) (t .opens) (t .time));
+            (begin-kept now s olds h o p I w (Tests.ltb-true w (s .site .P) (t .worker)) c (idle-is (workerAt s w .doing) (t .tests .idle))
+            (t .tests .named) (t .tests .group) (t .tests .opens) (t .tests .time));
         safe = λ i z. absurd (subst NotFreed z tt);
         frees = λ i z. absurd (subst NotFreed z tt);
         stays = λ i z. inl z;

@@ -20,7 +20,7 @@ use Rattle.model.specs.Apply.{inRanges, setUp, isIdle, begin, step, takesStep, 
 use Rattle.model.specs.Demand.{occurrences}
 use Rattle.model.specs.Refusals.{onReading, atStep, idled, Refused, EndsWell, Demand1}
 use Rattle.model.proofs.Basic.{cond-both}
-use Rattle.theorem.proofs.Begin.{OfMarks, of-marks, begin-by}
+use Rattle.model.proofs.Begin.{OfMarks, of-marks, begin-by}
 use Rattle.theorem.proofs.Found.{answerFor-tells, found-by, stopped-by}
 
 -- a refusal on reading

@@ -17,7 +17,7 @@ use Rattle.model.specs.Record.{Decoded, Asks, Refuses, decode}
 use Rattle.model.specs.Apply.{madeBy, terms, begin, obey, applyDecoded, apply, applyRuled}
 use Rattle.model.specs.Demand.{Event, events, Call, observe, effects, Plain, startOf, plain₀, All, rowsIn}
 use Rattle.model.proofs.Basic.{and-both}
-use Rattle.theorem.proofs.Begin.{begin-by}
+use Rattle.model.proofs.Begin.{begin-by}
 use Rattle.theorem.proofs.Invariant.{Inv}
 use Rattle.theorem.proofs.Record.{Holds, apply-holds}
 use Rattle.theorem.proofs.Setup.{Accepted, accepts, accepted-inv}

@@ -1,319 +1,190 @@
--- `begin` meets its contract: what the tests gave stands in the definition, in the order of the refusals, and each return rewrites with those that
--- led to it.
-use mathlib.Core.Path.{_≡_}
-use mathlib.Core.Bool.{Bool, cond, _&&_}
+-- `begin` meets its contract: 3, then by the operation, whose function gives the decision; what it does not look at does not matter.
+use mathlib.Core.Path.{_≡_, refl, sym, ap, _∙_}
+use mathlib.Core.Bool.{Bool, true, cond}
+use mathlib.Core.List.{List, [], _∷_}
 use Prim.Native.Nat.{ℕ}
-use lib.Dec.{ltb, eqb}
+use lib.Dec.{ltb}
 use lib.ListN.{take}
-use borrow.Author.Tests.{eq-eqb, ne-eqb}
-use Rattle.worker.specs.declared.Doing.{Doing}
+use borrow.Author.Tests.{lt-ltb, le-ltb}
+use Rattle.model.specs.Record as Model
+use Rattle.model.specs.Rights.{NoRight, allowed}
+use Rattle.model.specs.Apply.{refusal}
+use Rattle.places.specs.About.{aboutOf}
+use Rattle.record.specs.declared.Operation.{Operation}
+use Rattle.record.specs.Meaning.{operationOf}
+use Rattle.marks.specs.Marks.{refusalIn}
 use Rattle.gate.specs.declared.Gate.{Gate}
-use Rattle.gate.specs.declared.Gate.the-variants.{Refuse, Start}
-use Rattle.gate.specs.Gate.{beginGate}
+use Rattle.gate.specs.Gate.{hasTime, seenOf, started, beginGate}
 use borrow.Author.Needs.{needs}
 use Rattle.gate.proofs.begin.Statement.{statement}
 use Rattle.gate.proofs.begin.Tie as tie
 
--- the decision from what the tests gave: the worker is below p, its register and its mark are known, its group is there, its value fits, its status
--- is known, it has the right, it is idle, it may open, it may use its time, and the refusal that its mark meets
-abbrev decided : ℕ → Doing → Bool → Bool → Bool → Bool → Bool → Bool → Bool → Bool → Bool → ℕ → Gate
-decided w d below known there fits status may idle opens uses k =
-    cond below
-    (cond known
-    (cond there
-    (cond fits
-    (cond status
-    (cond may
-    (cond idle (cond opens (cond uses (cond (eqb k 0) (Start w d) (Refuse k)) (Refuse 13)) (Refuse 12)) (Refuse 10))
-    (Refuse 23))
-    (Refuse 25))
-    (Refuse 16))
-    (Refuse 17))
-    (Refuse 4))
-    (Refuse 3)
-
-tests : (c : tie.After-refusal)
-    → let fits = c .before .before .before .before .before .before in
-    let there = fits .before in
-    let known = there .before .before .before in
-    let x = known .before .before .terms-of .result in
-    let a = known .before .before .before .args in
-    beginGate (a .p) (a .v) (a .worker) (a .o) (a .d) (a .t) (take (a .n) (a .rows .now)) (a .marks .now) (take (a .p) (a .reading .now))
-    (take (a .granted) (a .rights .now))
-    ≡ decided (a .worker) (x .first)
-    (ltb (known .before .wide8 .result) (a .p))
-    (known .named-ok .result && there .before .named-ok2 .result)
-    (there .group-ok .result)
-    (fits .value-ok .result)
-    (c .before .before .before .before .before .status-ok .result)
-    (c .before .before .before .before .is-allowed .result)
-    (c .before .before .before .about .result .idle)
-    (c .before .before .open-ok .result)
-    (c .before .time-ok .result)
-    (c .refusal .result)
+-- what the operation's function gives is the decision: the worker is below p
+decided : (c : tie.After-has-time) (o : Operation) (g : Gate)
+    → let a = c .before .before .before .before .args in
+    a .o ≡ o
+    → g
+    ≡ started (seenOf (a .v) (take (a .n) (a .rows .now)) (take (a .granted) (a .rights .now)) (c .before .is-idle .result) (c .has-time .result)
+    (a .marks .now) (take (a .p) (a .reading .now))) (a .worker) (operationOf o)
+    → g
+    ≡ beginGate (a .p) (seenOf (a .v) (take (a .n) (a .rows .now)) (take (a .granted) (a .rights .now)) (aboutOf (a .d) .idle) (hasTime (a .t))
+    (a .marks .now) (take (a .p) (a .reading .now))) (a .worker) (operationOf (a .o))
 unfolding beginGate
-tests c =
-    let fits = c .before .before .before .before .before .before in
-    let there = fits .before in
-    let known = there .before .before .before in
-    rw (
-      ← known .before .before .terms-of .ensures,
-      ← c .before .before .before .before .is-allowed .ensures,
-      ← known .before .wide8 .ensures .0,
-      ← known .named-ok .ensures,
-      ← there .before .before .mark-of .ensures,
-      ← there .before .named-ok2 .ensures,
-      ← there .group-ok .ensures,
-      ← fits .value-ok .ensures,
-      ← c .before .before .before .before .before .status-ok .ensures,
-      ← c .before .before .before .about .ensures,
-      ← c .before .before .open-ok .ensures,
-      ← c .before .time-ok .ensures,
-      ← c .refusal .ensures,
-    )
+decided c o g e f =
+    let a = c .before .before .before .before .args in
+    let wide = c .before .before .before .wide8 .ensures .0 in
+    let below : ltb (a .worker) (a .p) ≡ true = ap (λ (w : ℕ). ltb w (a .p)) (sym wide) ∙ lt-ltb _ _ (c .before .before .if1 .left) in
+    rw (e, below, ← c .before .is-idle .ensures, ← c .has-time .ensures) f
 
-terms-of-requires : tie.Need-terms-of-requires
-terms-of-requires c κs = search needs
+-- open and close need no right
+no-right : (t : List ℕ) (v w : ℕ) → allowed t v w NoRight ≡ true
+no-right [] v w = refl
+no-right (x ∷ t) v w = refl
 
 wide8-requires : tie.Need-wide8-requires
 wide8-requires c κs = search needs
 
-named-ok-requires : tie.Need-named-ok-requires
-named-ok-requires c κs = search needs
-
-mark-of-requires : tie.Need-mark-of-requires
-mark-of-requires c κs = search needs
-
-named-ok-requires-2 : tie.Need-named-ok-requires-2
-named-ok-requires-2 c κs = search needs
-
-group-ok-requires : tie.Need-group-ok-requires
-group-ok-requires c κs = search needs
-
-value-ok-requires : tie.Need-value-ok-requires
-value-ok-requires c κs = search needs
-
-status-ok-requires : tie.Need-status-ok-requires
-status-ok-requires c κs = search needs
-
-is-allowed-requires : tie.Need-is-allowed-requires
-is-allowed-requires c κs = search needs
-
-about-requires : tie.Need-about-requires
-about-requires c κs = search needs
-
-open-ok-requires : tie.Need-open-ok-requires
-open-ok-requires c κs = search needs
-
-time-ok-requires : tie.Need-time-ok-requires
-time-ok-requires c κs = search needs
-
-refusal-requires : tie.Need-refusal-requires
-refusal-requires c κs = search needs
-
 returns : tie.Need-returns
+unfolding beginGate
 returns c =
-    let uses = c .before in
-    let opens = uses .before in
-    let idle = opens .before in
-    let may = idle .before in
-    let status = may .before in
-    let fits = status .before in
-    let there = fits .before in
-    let known = there .before in
-    let below = known .before in
-    rw (
-      tests (below .before),
-      below .if1 .taken,
-      known .if2 .taken,
-      there .if3 .taken,
-      fits .if4 .taken,
-      status .if5 .taken,
-      may .if6 .taken,
-      idle .if7 .taken,
-      opens .if8 .taken,
-      uses .if9 .taken,
-      eq-eqb _ _ (c .if10 .taken),
-    )
+    let wide = c .before .wide8 .ensures .0 in
+    let above = ap (λ (w : ℕ). ltb w (c .before .before .args .p)) (sym wide) ∙ le-ltb _ _ (c .if1 .taken) in
+    rw above
+
+is-idle-requires : tie.Need-is-idle-requires
+is-idle-requires c κs = search needs
+
+has-time-requires : tie.Need-has-time-requires
+has-time-requires c κs = search needs
+
+enum-known-o : tie.Need-enum-known-o
+enum-known-o c = search needs
+
+put-requires : tie.Need-put-requires
+put-requires c κs = search needs
+
+enum-told : tie.Need-enum-told
+enum-told c = search needs
+
+open-requires : tie.Need-open-requires
+open-requires c κs = search needs
+
+enum-known-o-2 : tie.Need-enum-known-o-2
+enum-known-o-2 c = search needs
+
+read-requires : tie.Need-read-requires
+read-requires c κs = search needs
+
+enum-known-o-3 : tie.Need-enum-known-o-3
+enum-known-o-3 c = search needs
+
+marked-read-requires : tie.Need-marked-read-requires
+marked-read-requires c κs = search needs
+
+enum-told-2 : tie.Need-enum-told-2
+enum-told-2 c = search needs
+
+close-requires : tie.Need-close-requires
+close-requires c κs = search needs
+
+enum-known-o-4 : tie.Need-enum-known-o-4
+enum-known-o-4 c = search needs
+
+get-requires : tie.Need-get-requires
+get-requires c κs = search needs
+
+enum-told-3 : tie.Need-enum-told-3
+enum-told-3 c = search needs
+
+collect-requires : tie.Need-collect-requires
+collect-requires c κs = search needs
+
+enum-known-o-5 : tie.Need-enum-known-o-5
+enum-known-o-5 c = search needs
+
+total-requires : tie.Need-total-requires
+total-requires c κs = search needs
+
+enum-known-o-6 : tie.Need-enum-known-o-6
+enum-known-o-6 c = search needs
+
+mark-requires : tie.Need-mark-requires
+mark-requires c κs = search needs
+
+enum-known-o-7 : tie.Need-enum-known-o-7
+enum-known-o-7 c = search needs
+
+release-requires : tie.Need-release-requires
+release-requires c κs = search needs
 
 returns-2 : tie.Need-returns-2
-returns-2 c =
-    let uses = c .before in
-    let opens = uses .before in
-    let idle = opens .before in
-    let may = idle .before in
-    let status = may .before in
-    let fits = status .before in
-    let there = fits .before in
-    let known = there .before in
-    let below = known .before in
-    rw (
-      tests (below .before),
-      below .if1 .taken,
-      known .if2 .taken,
-      there .if3 .taken,
-      fits .if4 .taken,
-      status .if5 .taken,
-      may .if6 .taken,
-      idle .if7 .taken,
-      opens .if8 .taken,
-      uses .if9 .taken,
-      ne-eqb _ _ (c .if10 .left),
-    )
+unfolding started refusal refusalIn
+returns-2 c = decided (c .before .before .before .before) _ _ (c .before .before .o .given .1) (c .put .ensures)
 
 returns-3 : tie.Need-returns-3
-returns-3 c =
-    let opens = c .before in
-    let idle = opens .before in
-    let may = idle .before in
-    let status = may .before in
-    let fits = status .before in
-    let there = fits .before in
-    let known = there .before in
-    let below = known .before in
-    rw (
-      tests (below .before),
-      below .if1 .taken,
-      known .if2 .taken,
-      there .if3 .taken,
-      fits .if4 .taken,
-      status .if5 .taken,
-      may .if6 .taken,
-      idle .if7 .taken,
-      opens .if8 .taken,
-      c .if9 .left,
-    )
+unfolding started refusal refusalIn
+returns-3 c = decided (c .before .before .before) _ _ (c .before .enum-told .given .1) (rw (no-right _ _ _) (c .«open» .ensures))
 
 returns-4 : tie.Need-returns-4
-returns-4 c =
-    let idle = c .before in
-    let may = idle .before in
-    let status = may .before in
-    let fits = status .before in
-    let there = fits .before in
-    let known = there .before in
-    let below = known .before in
-    rw (
-      tests (below .before),
-      below .if1 .taken,
-      known .if2 .taken,
-      there .if3 .taken,
-      fits .if4 .taken,
-      status .if5 .taken,
-      may .if6 .taken,
-      idle .if7 .taken,
-      c .if8 .left,
-    )
+unfolding started refusal refusalIn
+returns-4 c = decided (c .before .before .before .before) _ _ (c .before .before .o2 .given .1) (c .read .ensures)
 
 returns-5 : tie.Need-returns-5
-returns-5 c =
-    let may = c .before in
-    let status = may .before in
-    let fits = status .before in
-    let there = fits .before in
-    let known = there .before in
-    let below = known .before in
-    rw (
-      tests (below .before),
-      below .if1 .taken,
-      known .if2 .taken,
-      there .if3 .taken,
-      fits .if4 .taken,
-      status .if5 .taken,
-      may .if6 .taken,
-      c .if7 .left,
-    )
+unfolding started refusal refusalIn
+returns-5 c = decided (c .before .before .before .before) _ _ (c .before .before .o3 .given .1) (c .marked-read .ensures)
 
 returns-6 : tie.Need-returns-6
-returns-6 c =
-    let status = c .before in
-    let fits = status .before in
-    let there = fits .before in
-    let known = there .before in
-    let below = known .before in
-    rw (
-      tests (below .before),
-      below .if1 .taken,
-      known .if2 .taken,
-      there .if3 .taken,
-      fits .if4 .taken,
-      status .if5 .taken,
-      c .if6 .left,
-    )
+unfolding started refusal refusalIn
+returns-6 c = decided (c .before .before .before) _ _ (c .before .enum-told2 .given .1) (rw (no-right _ _ _) (c .close .ensures))
 
 returns-7 : tie.Need-returns-7
-returns-7 c =
-    let fits = c .before in
-    let there = fits .before in
-    let known = there .before in
-    let below = known .before in
-    rw (
-      tests (below .before),
-      below .if1 .taken,
-      known .if2 .taken,
-      there .if3 .taken,
-      fits .if4 .taken,
-      c .if5 .left,
-    )
+unfolding started refusal refusalIn
+returns-7 c = decided (c .before .before .before .before) _ _ (c .before .before .o4 .given .1) (c .get .ensures)
 
 returns-8 : tie.Need-returns-8
-returns-8 c =
-    let there = c .before in
-    let known = there .before in
-    let below = known .before in
-    rw (
-      tests (below .before),
-      below .if1 .taken,
-      known .if2 .taken,
-      there .if3 .taken,
-      c .if4 .left,
-    )
+unfolding started refusal refusalIn
+returns-8 c = decided (c .before .before .before) _ _ (c .before .enum-told3 .given .1) (c .collect .ensures)
 
 returns-9 : tie.Need-returns-9
-returns-9 c =
-    let known = c .before in
-    let below = known .before in
-    rw (
-      tests (below .before),
-      below .if1 .taken,
-      known .if2 .taken,
-      c .if3 .left,
-    )
+unfolding started refusal refusalIn
+returns-9 c = decided (c .before .before .before .before) _ _ (c .before .before .o5 .given .1) (c .total .ensures)
 
 returns-10 : tie.Need-returns-10
-returns-10 c =
-    let below = c .before in
-    rw (
-      tests (below .before),
-      below .if1 .taken,
-      c .if2 .left,
-    )
+unfolding started refusal refusalIn
+returns-10 c = decided (c .before .before .before .before) _ _ (c .before .before .o6 .given .1) (c .mark .ensures)
 
 returns-11 : tie.Need-returns-11
-returns-11 c =
-    rw (
-      tests (c .before),
-      c .if1 .left,
-    )
+unfolding started refusal refusalIn
+returns-11 c = decided (c .before .before .before .before) _ _ (c .before .before .o7 .given .1) (c .release .ensures)
 
 pub begin-spec : {M : Type 1} → statement M
 begin-spec =
     tie.close
     (tie.spec
-    terms-of-requires
     wide8-requires
-    named-ok-requires
-    mark-of-requires
-    named-ok-requires-2
-    group-ok-requires
-    value-ok-requires
-    status-ok-requires
-    is-allowed-requires
-    about-requires
-    open-ok-requires
-    time-ok-requires
-    refusal-requires
     returns
+    is-idle-requires
+    has-time-requires
+    enum-known-o
+    put-requires
+    enum-told
+    open-requires
+    enum-known-o-2
+    read-requires
+    enum-known-o-3
+    marked-read-requires
+    enum-told-2
+    close-requires
+    enum-known-o-4
+    get-requires
+    enum-told-3
+    collect-requires
+    enum-known-o-5
+    total-requires
+    enum-known-o-6
+    mark-requires
+    enum-known-o-7
+    release-requires
     returns-2
     returns-3
     returns-4
