@@ -1,5 +1,4 @@
 pub mod Cutting
-pub mod Named
 pub mod Tested
 pub mod Moving
 pub mod Lengths

@@ -59,7 +59,6 @@ use Rattle.simulation.specs.Shell.{splitIn, freedIn, offWorker, nextIn, finishI
 use Rattle.simulation.specs.Records.{recordAt}
 use Rattle.simulation.specs.Loop.{makes, State, next, after, before, Ran}
 use Rattle.core.proofs.Lengths.{length-freed}
-use Rattle.core.proofs.Named.{gate-at}
 use Rattle.core.proofs.Tested.{sizes-few}
 
 -- the state of the loop, by its locals
@@ -156,7 +155,7 @@ module _ {S : State} {given : Given} {bytes : List ℕ} {count k : ℕ} {T : Sta
   gate =
       let by : ℕ → Gate = λ v. gateOf (Model.decode b) (T .up) (h .site .p) (h .site .v) (length (m .slots)) (aboutOf (workerIn h v .doing) .idle)
       (hasTime (workerIn h v .announced)) (given .totals) (rowsKept h) (h .marks) (marksRead h) (tableKept h) in
-      sym (D .decided ∙ ap by (D .worker) ∙ gate-at h (Model.decode b) u (decode-names b) (T .up) (length (m .slots)) (given .totals) (R .few))
+      sym (D .decided ∙ ap by (D .worker))
 
   -- what it says of the worker
   says : Named (T .up) u (h .site .p) (length (m .slots)) g

@@ -1,5 +1,5 @@
 -- What the decision on a record says of the worker: an operation begins, and a step is taken, only where the memory counts as set up and of a
--- worker below p; the record of another worker does not matter.
+-- worker below p. The worker that a record names stands in its byte 1.
 use mathlib.Core.Path.{_≡_, refl, sym, subst}
 use mathlib.Core.Bool.{Bool, true, false, cond, _&&_}
 use mathlib.Core.List.{List}
@@ -9,13 +9,12 @@ use lib.Dec.{ltb}
 use lib.ListN.{length, getD}
 use borrow.Author.Tests.{ltb-true}
 use Rattle.model.specs.Record as Model
-use Rattle.model.specs.Record.{Operation, SetUp, Begin, Step, Decoded, Asks, Refuses}
+use Rattle.model.specs.Record.{SetUp, Begin, Step, Decoded, Asks, Refuses}
 use Rattle.model.proofs.Basic.{cond-both, and-both}
 use Rattle.gate.specs.declared.Gate.{Gate}
 use Rattle.gate.specs.declared.Gate.the-variants.{Refuse, Make, Start, Go}
-use Rattle.gate.specs.Gate.{seenOf, beginGate}
 use Rattle.gate.proofs.Tests.{begin-gate-by}
-use Rattle.decision.specs.Decision.{sizesOk, gateOf, whoOf}
+use Rattle.decision.specs.Decision.{sizesOk, gateOf}
 
 -- what a gate says of the worker w that the record names
 abbrev pub Named : Bool → ℕ → ℕ → ℕ → Gate → Type 0
@@ -52,29 +51,6 @@ named (Asks (Step w)) u e false p v long idle has list rows marks reading table 
 named (Asks (Step w)) u e true p v long idle has list rows marks reading table =
     subst (λ (i : ℕ). Named true i p long (gateOf (Asks (Step w)) true p v long idle has list rows marks reading table)) e
     (named-worker w p long (Go w) (λ h. (refl, refl, h)) (ltb w p) refl)
-
-------------------------------------------------------------------------
--- The worker's record matters only there
-
-same-begin : (p v w : ℕ) (o : Operation) (idle idle′ has has′ : Bool) (rows marks reading table : List ℕ) → (w < p → (idle ≡ idle′) × (has ≡ has′))
-    → (y : Bool) → ltb w p ≡ y
-    → beginGate p (seenOf v rows table idle has marks reading) w o ≡ beginGate p (seenOf v rows table idle′ has′ marks reading) w o
-unfolding beginGate
-same-begin p v w o idle idle′ has has′ rows marks reading table f true h =
-    let s = f (ltb-true w p h) in
-    λ i. beginGate p (seenOf v rows table (s .0 i) (s .1 i) marks reading) w o
-same-begin p v w o idle idle′ has has′ rows marks reading table f false h = rw h
-
-pub same-gate : (r : Decoded) (u : ℕ) → Names r u → (up : Bool) (p v long : ℕ) (idle idle′ has has′ : Bool) (list rows marks reading table : List ℕ)
-    → (up ≡ true → u < p → whoOf r ≡ u → (idle ≡ idle′) × (has ≡ has′))
-    → gateOf r up p v long idle has list rows marks reading table ≡ gateOf r up p v long idle′ has′ list rows marks reading table
-unfolding gateOf whoOf
-same-gate (Refuses k) u n up p v long idle idle′ has has′ list rows marks reading table f = refl
-same-gate (Asks (SetUp z)) u n up p v long idle idle′ has has′ list rows marks reading table f = refl
-same-gate (Asks (Begin w o)) u n false p v long idle idle′ has has′ list rows marks reading table f = refl
-same-gate (Asks (Begin w o)) u n true p v long idle idle′ has has′ list rows marks reading table f =
-    same-begin p v w o idle idle′ has has′ rows marks reading table (λ h. f refl (subst (λ (k : ℕ). k < p) n h) n) (ltb w p) refl
-same-gate (Asks (Step w)) u n up p v long idle idle′ has has′ list rows marks reading table f = refl
 
 ------------------------------------------------------------------------
 -- The worker that a record names stands in its byte 1 (H3.3)

@@ -28,10 +28,3 @@ gateOf (Asks (Begin w o)) up p v long idle has list rows marks reading table =
     cond up (beginGate p (seenOf v rows table idle has marks reading) w o) (Refuse 8)
 gateOf (Asks (Step w)) up p v long idle has list rows marks reading table = cond up (cond (ltb w p) (Go w) (Refuse 3)) (Refuse 8)
 gateOf (Refuses k) up p v long idle has list rows marks reading table = Refuse k
-
--- the worker that a record names, 0 where it names none
-unfoldable pub whoOf : Decoded → ℕ
-whoOf (Asks (SetUp z)) = 0
-whoOf (Asks (Begin w o)) = w
-whoOf (Asks (Step w)) = w
-whoOf (Refuses k) = 0

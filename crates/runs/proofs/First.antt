@@ -2,7 +2,7 @@
 use mathlib.Core.Path.{_≡_, refl, sym, ap, _∙_}
 use mathlib.Core.Bool.{Bool, true, false, cond, _&&_}
 use mathlib.Core.List.{List}
-use Prim.Native.Nat.{ℕ, zero, suc, _+_, _≤_}
+use Prim.Native.Nat.{ℕ, zero, suc, _+_, _%_, _≤_}
 use native.Mathlib.Omega.{arith}
 use lib.Dec.{ltb, lit<, lit≤}
 use lib.ListN.{length, getD, take}
@@ -17,7 +17,7 @@ use Rattle.places.specs.About.{aboutOf}
 use Rattle.state.specs.State.{workerIn, tableKept}
 use Rattle.gate.specs.declared.Gate.{Gate}
 use Rattle.gate.specs.Gate.{hasTime}
-use Rattle.decision.specs.Decision.{gateOf, whoOf}
+use Rattle.decision.specs.Decision.{gateOf}
 use Rattle.simulation.specs.Memory.{Memory}
 use Rattle.simulation.specs.Left.{ready}
 use Rattle.simulation.specs.Shell.{rowsKept, marksRead, obeyIn, doneAs, doneOf}
@@ -94,15 +94,15 @@ pub decode-first : (b : List ℕ) → decode (take 16 b) ≡ decode b
 decode-first b = by-length b (ltb (length b) 16) refl
 
 -- ---- what a record does, and what the first record of a buffer does
-abbrev gateBy : Bool → Memory → Given → Decoded → Gate
-gateBy up m given d =
-    let x = workerIn (m .hub) (whoOf d) in
+abbrev gateBy : Bool → Memory → Given → Decoded → ℕ → Gate
+gateBy up m given d u =
+    let x = workerIn (m .hub) (u % 16) in
     gateOf d up (m .hub .site .p) (m .hub .site .v) (length (m .slots)) (aboutOf (x .doing) .idle) (hasTime (x .announced)) (given .totals) (rowsKept (m .hub))
     (m .hub .marks) (marksRead (m .hub)) (tableKept (m .hub))
 
 done-first : (up : Bool) (m : Memory) (given : Given) (b : List ℕ) → doneAs up m given (take 16 b) ≡ doneAs up m given b
 unfolding doneAs
-done-first up m given b = ap (λ (d : Decoded). obeyIn m given (gateBy up m given d)) (decode-first b)
+done-first up m given b = λ i. obeyIn m given (gateBy up m given (decode-first b i) (getD-take 16 b 1 0 (lit< tt) i))
 
 pub one-ran : {m m′ : Memory} {given : Given} {b kinds numbers kinds′ numbers′ : List ℕ} {y : Answer} → Ran m given b kinds numbers 1 m′ kinds′ numbers′ y
     → One m given b m′ y

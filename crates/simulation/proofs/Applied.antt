@@ -3,7 +3,7 @@
 use mathlib.Core.Path.{_≡_, refl, sym, ap, _∙_, subst}
 use mathlib.Core.Bool.{Bool, _||_}
 use mathlib.Core.List.{List, map}
-use Prim.Native.Nat.{ℕ, zero, suc, _+_, _<_}
+use Prim.Native.Nat.{ℕ, zero, suc, _+_, _%_, _<_}
 use native.Mathlib.Omega.{arith}
 use native.Mathlib.Numerals.{add-one}
 use lib.Dec.{ltb}
@@ -27,7 +27,7 @@ use Rattle.arrays.specs.Arrays.{fillTo}
 use Rattle.gate.specs.declared.Gate.{Gate}
 use Rattle.gate.specs.Gate.{hasTime}
 use Rattle.gate.proofs.Tests.{begin-gate-by}
-use Rattle.decision.specs.Decision.{setupOk, gateOf, whoOf}
+use Rattle.decision.specs.Decision.{setupOk, gateOf}
 use Rattle.simulation.specs.Memory.{Memory}
 use Rattle.simulation.specs.Left.{Sized}
 use Rattle.simulation.specs.Shell.{rowsKept, marksRead, obeyIn, gateIn, doneAs}
@@ -105,7 +105,7 @@ module _ (m : Memory) (given : Given) (bytes : List ℕ) where
   flag-is k =
       let s : State = stateAt m given bytes k in
       let x : Memory = s .memory in
-      let w : Worker = workerIn (x .hub) (whoOf (decode (recordAt bytes k))) in
+      let w : Worker = workerIn (x .hub) (getD (recordAt bytes k) 1 0 % 16) in
       ap (λ (t : Bool). s .up || t)
       (gate-sets-up x given (decode (recordAt bytes k)) (s .up) (x .hub .site .p) (x .hub .site .v) (length (x .slots)) (aboutOf (w .doing) .idle) (hasTime (w .announced))
       (rowsKept (x .hub)) (x .hub .marks) (marksRead (x .hub)) (tableKept (x .hub)))

@@ -4,7 +4,7 @@ use mathlib.Core.Path.{_≡_, refl, sym, ap, _∙_, subst}
 use mathlib.Core.Bool.{Bool, true, false}
 use mathlib.Core.List.{List, map}
 use Prim.Native.Nat.{ℕ, _<_}
-use lib.ListN.{length}
+use lib.ListN.{length, getD}
 use Rattle.model.specs.Store as Model
 use native.Mathlib.Omega.{arith}
 use Rattle.model.specs.Store.{Store, blank, up, workerAt}
@@ -21,6 +21,7 @@ use Rattle.state.specs.State.{workerIn}
 use Rattle.queue.specs.State.{Begins}
 use Rattle.gate.specs.declared.Gate.{Gate}
 use Rattle.gate.specs.declared.Gate.the-variants.{Refuse, Make, Start, Go}
+use Rattle.decision.proofs.Named.{decode-names}
 use Rattle.simulation.specs.Memory.{Memory, lentIn, hubRep, write, writeHub}
 use Rattle.simulation.specs.Left.{LeftByRecords, Left, Sized, ready}
 use Rattle.simulation.specs.Shell.{goIn, obeyIn, gateIn, doneAs, doneOf}
@@ -65,7 +66,7 @@ module _ (m : Memory) (given : Given) (b : List ℕ) (Z : Sized m) (bytes : Byte
   unfolding apply
   done-blank =
       done-by (blank (lentIn m)) m given b (apply (inForce given) (blank (lentIn m)) b) _ (ap (λ (t : Bool). gateIn t m given b) e)
-      (follows-blank m Z given (decode b))
+      (follows-blank m Z given (decode b) (getD b 1 0))
 
 ------------------------------------------------------------------------
 -- Memory that records left
@@ -87,8 +88,8 @@ module _ (steps : StepsSimulate) where
     a = apply (inForce given) (up s) b
 
     -- the record's decision, for the store and for the memory
-    gate-is : gateIn (ready m) m given b ≡ gateBy (decode b) true (length (m .slots)) given (hubRep s (m .hub))
-    gate-is = λ i. gateBy (decode b) (left-ready m L Z i) (length (m .slots)) given (hub-is s m laid i)
+    gate-is : gateIn (ready m) m given b ≡ gateBy (decode b) (getD b 1 0) true (length (m .slots)) given (hubRep s (m .hub))
+    gate-is = λ i. gateBy (decode b) (getD b 1 0) (left-ready m L Z i) (length (m .slots)) given (hub-is s m laid i)
 
     -- the next store is sound
     next-sound : (t : Store) → a .hub ≡ up t → Sound t
@@ -125,7 +126,7 @@ module _ (steps : StepsSimulate) where
     -- on memory that records left the code does what the model does
     pub done-left : DoneAs (up s) m given b (apply (inForce given) (up s) b)
     unfolding apply
-    done-left = done-by (up s) m given b a _ gate-is (by-gate _ (gate-left s S (m .hub) given (decode b) (length (m .slots))))
+    done-left = done-by (up s) m given b a _ gate-is (by-gate _ (gate-left s S (m .hub) given (decode b) (getD b 1 0) (decode-names b) (length (m .slots))))
     -- on memory that holds a hub
 
   done-as : (h : Model.Hub) (m : Memory) (given : Given) (b : List ℕ) → Holds h m → Sized m → Bytes b → DoneAs h m given b (apply (inForce given) h b)

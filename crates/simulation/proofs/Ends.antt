@@ -45,7 +45,7 @@ use Rattle.gate.specs.declared.Gate.{Gate}
 use Rattle.gate.specs.declared.Gate.the-variants.{Refuse, Make, Start, Go}
 use Rattle.gate.specs.Gate.{hasTime}
 use Rattle.gate.proofs.Tests.{begin-gate-by}
-use Rattle.decision.specs.Decision.{setupOk, gateOf, whoOf}
+use Rattle.decision.specs.Decision.{setupOk, gateOf}
 use Rattle.announcing.specs.declared.Outcome.{Outcome}
 use Rattle.worker.specs.declared.Sum.{Sum}
 use Rattle.total_sums.specs.Sums.{sumWith}
@@ -72,7 +72,7 @@ setup-nine : (up : Bool) (m : Memory) (given : Given) (b : List ℕ) → up ≡ 
 unfolding doneAs gateOf obeyIn
 setup-nine up m given b e z d =
     let said : Record.Decoded → Bool → Model·Answer.Answer =
-    λ r t. answerOf (obeyIn m given (gateBy r t (length (m .slots)) given (m .hub)) .answer) in
+    λ r t. answerOf (obeyIn m given (gateBy r (getD b 1 0) t (length (m .slots)) given (m .hub)) .answer) in
     λ i. said (d i) (e i)
 
 ------------------------------------------------------------------------
@@ -87,19 +87,12 @@ abbrev ReadNumbered : Record.Decoded → Type 0
 ReadNumbered (Asks c) = Unit {0}
 ReadNumbered (Record.Refuses k) = Numbered k
 
--- whether a record that reads as r takes a step, where `up` says that the memory counts as set up, of p workers, where `idle` says that the worker is idle
-abbrev Steps : Record.Decoded → Bool → ℕ → Bool → Bool
-Steps (Asks (SetUp z)) up p idle = false
-Steps (Asks (Record.Begin w o)) up p idle = false
-Steps (Asks (Record.Step w)) up p idle = up && (ltb w p && not idle)
-Steps (Record.Refuses k) up p idle = false
-
 -- the number with which the gate refuses a record that reads as r, which takes no step then, and the worker that it lets step
-abbrev GateNumbered : Record.Decoded → Bool → ℕ → Bool → Gate → Type 0
-GateNumbered r up p idle (Refuse k) = Numbered k × (Steps r up p idle ≡ false)
-GateNumbered r up p idle (Make x v n k) = Unit {0}
-GateNumbered r up p idle (Start w e) = Unit {0}
-GateNumbered r up p idle (Go w) = (r ≡ Asks (Record.Step w)) × (up ≡ true) × (ltb w p ≡ true)
+abbrev GateNumbered : Record.Decoded → Bool → Memory → Gate → Type 0
+GateNumbered r up m (Refuse k) = Numbered k × (takesStepIn up m r ≡ false)
+GateNumbered r up m (Make x v n k) = Unit {0}
+GateNumbered r up m (Start w e) = Unit {0}
+GateNumbered r up m (Go w) = (r ≡ Asks (Record.Step w)) × (up ≡ true) × (ltb w (m .hub .site .p) ≡ true)
 
 -- 6, 1 and 2
 read-numbered : (b : List ℕ) → ReadNumbered (decode b)
@@ -110,21 +103,21 @@ read-numbered b =
     (λ f. cond-both ReadNumbered (unusedZero b (commandOf b (getD b 0 0))) _ _ (λ g. tt) (λ g. omega arith)))
 
 -- 9 and 5 of a setup, 8, those of a begin, and 3 of a step
-gate-numbered : (r : Record.Decoded) → ReadNumbered r → (up : Bool) (p v long : ℕ) (idle has : Bool) (list rows marks reading table : List ℕ)
-    → GateNumbered r up p idle (gateOf r up p v long idle has list rows marks reading table)
-unfolding gateOf occurrences
-gate-numbered (Record.Refuses k) n up p v long idle has list rows marks reading table = (n, refl)
-gate-numbered (Asks (SetUp z)) n up p v long idle has list rows marks reading table =
-    let N : Gate → Type 0 = GateNumbered (Asks (SetUp z)) up p idle in
+gate-numbered : (r : Record.Decoded) → ReadNumbered r → (up : Bool) (m : Memory) (v long : ℕ) (idle has : Bool) (list rows marks reading table : List ℕ)
+    → GateNumbered r up m (gateOf r up (m .hub .site .p) v long idle has list rows marks reading table)
+unfolding gateOf takesStepIn occurrences
+gate-numbered (Record.Refuses k) n up m v long idle has list rows marks reading table = (n, refl)
+gate-numbered (Asks (SetUp z)) n up m v long idle has list rows marks reading table =
+    let N : Gate → Type 0 = GateNumbered (Asks (SetUp z)) up m in
     cond-both N up _ _ (λ e. (omega arith, refl))
     (λ e. cond-both N (setupOk (z .P) (z .V') (z .N) (z .clock) long list) _ _ (λ f. tt) (λ f. (omega arith, refl)))
-gate-numbered (Asks (Record.Begin w o)) n up p v long idle has list rows marks reading table =
-    let N : Gate → Type 0 = GateNumbered (Asks (Record.Begin w o)) up p idle in
-    cond-both N up _ _ (λ e. begin-gate-by N p v w o idle has rows marks reading table (λ k f. (f, refl)) (λ f. tt)) (λ e. (omega arith, refl))
-gate-numbered (Asks (Record.Step w)) n up p v long idle has list rows marks reading table =
-    let N : Gate → Type 0 = GateNumbered (Asks (Record.Step w)) up p idle in
+gate-numbered (Asks (Record.Begin w o)) n up m v long idle has list rows marks reading table =
+    let N : Gate → Type 0 = GateNumbered (Asks (Record.Begin w o)) up m in
+    cond-both N up _ _ (λ e. begin-gate-by N (m .hub .site .p) v w o idle has rows marks reading table (λ k f. (f, refl)) (λ f. tt)) (λ e. (omega arith, refl))
+gate-numbered (Asks (Record.Step w)) n up m v long idle has list rows marks reading table =
+    let N : Gate → Type 0 = GateNumbered (Asks (Record.Step w)) up m in
     cond-both N up _ _
-    (λ e. cond-both N (ltb w p) _ _ (λ f. (refl, e, f)) (λ f. (omega arith, rw (e, f))))
+    (λ e. cond-both N (ltb w (m .hub .site .p)) _ _ (λ f. (refl, e, f)) (λ f. (omega arith, rw (e, f))))
     (λ e. (omega arith, rw e))
 
 ------------------------------------------------------------------------
@@ -278,35 +271,26 @@ module _ (up : Bool) (m : Memory) (r : Record.Decoded) where
 
 module _ (up : Bool) (m : Memory) (given : Given) where
   -- by the decision
-  gate-ends : (r : Record.Decoded) (idle : Bool) → Steps r up (m .hub .site .p) idle ≡ takesStepIn up m r
-      → (g : Gate) → GateNumbered r up (m .hub .site .p) idle g → Ends up m r (obeyIn m given g)
+  gate-ends : (r : Record.Decoded) (g : Gate) → GateNumbered r up m g → Ends up m r (obeyIn m given g)
   unfolding obeyIn
-  gate-ends r idle e (Refuse k) n = record { number = rw (sym e ∙ n .1) (n .0); leaves = rw (sym e ∙ n .1) }
-  gate-ends r idle e (Make p v k t) n = tt
-  gate-ends r idle e (Start w f) n = tt
-  gate-ends r idle e (Go w) n = step-ends up m r w (n .0) (n .1) (n .2) (workerIn (m .hub) w .doing) refl
-
-  -- the worker whose place the decision looks at is the one that the record names
-  looks-at : (r : Record.Decoded) → Steps r up (m .hub .site .p) (aboutOf (workerIn (m .hub) (whoOf r) .doing) .idle) ≡ takesStepIn up m r
-  unfolding takesStepIn whoOf
-  looks-at (Asks (SetUp z)) = refl
-  looks-at (Asks (Record.Begin w o)) = refl
-  looks-at (Asks (Record.Step w)) = refl
-  looks-at (Record.Refuses k) = refl
+  gate-ends r (Refuse k) n = record { number = rw (n .1) (n .0); leaves = rw (n .1) }
+  gate-ends r (Make p v k t) n = tt
+  gate-ends r (Start w f) n = tt
+  gate-ends r (Go w) n = step-ends up m r w (n .0) (n .1) (n .2) (workerIn (m .hub) w .doing) refl
 
   module _ (b : List ℕ) where
     ends-well : Ends up m (decode b) (doneAs up m given b)
     unfolding doneAs
     ends-well =
-        let x : Worker = workerIn (m .hub) (whoOf (decode b)) in
-        gate-ends (decode b) (aboutOf (x .doing) .idle) (looks-at (decode b)) (gateIn up m given b)
-        (gate-numbered (decode b) (read-numbered b) up (m .hub .site .p) (m .hub .site .v) (length (m .slots)) (aboutOf (x .doing) .idle) (hasTime (x .announced)) (given .totals) (rowsKept (m .hub))
+        let x : Worker = workerIn (m .hub) (getD b 1 0 % 16) in
+        gate-ends (decode b) (gateIn up m given b)
+        (gate-numbered (decode b) (read-numbered b) up m (m .hub .site .v) (length (m .slots)) (aboutOf (x .doing) .idle) (hasTime (x .announced)) (given .totals) (rowsKept (m .hub))
         (m .hub .marks) (marksRead (m .hub)) (tableKept (m .hub)))
 
     -- a record that is refused before it is a command
     refused-read : (k : ℕ) → decode b ≡ Record.Refuses k → doneAs up m given b ≡ answered m (No k)
     unfolding doneAs gateOf obeyIn
-    refused-read k e = ap (λ (r : Record.Decoded). obeyIn m given (gateBy r up (length (m .slots)) given (m .hub))) e
+    refused-read k e = ap (λ (r : Record.Decoded). obeyIn m given (gateBy r (getD b 1 0) up (length (m .slots)) given (m .hub))) e
 
     pub on-any : OnAny up m b (doneAs up m given b .answer) (doneAs up m given b .memory)
     on-any =

@@ -3,7 +3,8 @@
 use mathlib.Core.Path.{_≡_, refl, sym, ap, subst, _∙_}
 use mathlib.Core.Bool.{Bool, true, false, true≢false, cond}
 use mathlib.Core.List.{List, map}
-use Prim.Native.Nat.{ℕ, _<_}
+use Prim.Native.Nat.{ℕ, _<_, _%_}
+use native.Mathlib.Omega.{arith}
 use lib.Dec.{ltb}
 use lib.ListN.{length, replicate, length-map}
 use Rattle.lists.proofs.Over.{take-over}
@@ -33,7 +34,8 @@ use Rattle.marks.specs.Marks.{refusalIn}
 use Rattle.gate.specs.declared.Gate.{Gate}
 use Rattle.gate.specs.declared.Gate.the-variants.{Refuse, Make, Start, Go}
 use Rattle.gate.specs.Gate.{hasTime, markNeedRep, seenOf, startedBy, started, beginGate}
-use Rattle.decision.specs.Decision.{gateOf, whoOf}
+use Rattle.decision.specs.Decision.{gateOf}
+use Rattle.decision.proofs.Named.{Names}
 use Rattle.simulation.specs.Memory.{readOf, hubRep}
 use Rattle.simulation.specs.Shell.{rowsKept, marksRead}
 use Rattle.simulation.proofs.Laws.{worker-in}
@@ -41,10 +43,11 @@ use Rattle.simulation.proofs.Facts.{same-facts, has-time}
 use Rattle.simulation.proofs.Sound.{Sound}
 use Rattle.simulation.proofs.Marks.{UnreadIn, refusal-same}
 
--- the gate of a record that was read as r, by whether the memory is ready, the length of the row, the list that is lent, and the hub by value
-abbrev pub gateBy : Record.Decoded → Bool → ℕ → Given → Hub → Gate
-gateBy r ready long given h =
-    let x = workerIn h (whoOf r) in
+-- the gate of a record that was read as r and has the byte u, by whether the memory is ready, the length of the row, the list that is lent, and the
+-- hub by value
+abbrev pub gateBy : Record.Decoded → ℕ → Bool → ℕ → Given → Hub → Gate
+gateBy r u ready long given h =
+    let x = workerIn h (u % 16) in
     gateOf r ready (h .site .p) (h .site .v) long (aboutOf (x .doing) .idle) (hasTime (x .announced)) (given .totals) (rowsKept h) (h .marks) (marksRead h) (tableKept h)
 
 -- a begin of operation o by worker w in the store s is accepted
@@ -110,31 +113,35 @@ module _ (s : Store) (S : Sound s) (k : Hub) (given : Given) where
   unread-in (Mark.UnreadMark m) e = ltb-true m markCount e
 
   -- a worker below P is the model's worker in memory
-  who-is : (w : ℕ) → ltb w (s .site .P) ≡ true → workerIn (hubRep s k) w ≡ workerRep (workerAt s w)
-  who-is w i = worker-in s w (S .bounds .workers .2) (S .bounds .workers .1) (ltb-true w (s .site .P) i)
+  who-is : (w u : ℕ) → w ≡ u → ltb w (s .site .P) ≡ true → workerIn (hubRep s k) (u % 16) ≡ workerRep (workerAt s w)
+  who-is w u n i =
+      let below = ltb-true w (s .site .P) i in
+      let few = S .bounds .workers .1 in
+      let e : u % 16 ≡ w = omega arith in
+      ap (workerIn (hubRep s k)) e ∙ worker-in s w (S .bounds .workers .2) few below
 
   abbrev x : ℕ → Worker
-  x w = workerIn (hubRep s k) w
+  x u = workerIn (hubRep s k) (u % 16)
 
-  -- what memory has for the begin of worker w
+  -- what memory has for the begin of worker u
   abbrev seenIn : ℕ → Seen
-  seenIn w = seenOf (s .site .V') rows table (aboutOf (x w .doing) .idle) (hasTime (x w .announced)) (s .marks) reading
+  seenIn u = seenOf (s .site .V') rows table (aboutOf (x u .doing) .idle) (hasTime (x u .announced)) (s .marks) reading
 
   -- a test that both make, and what follows where it is passed
   behind : (t : Bool) (n i j : ℕ) → (t ≡ true → i ≡ j) → tested t n i ≡ tested t n j
   behind true n i j f = f refl
   behind false n i j f = refl
 
-  same-refusal : (w : ℕ) (o : Record.Operation) → ltb w (s .site .P) ≡ true
-      → refusal (inForce given .limit) (seenIn w) w o ≡ refusal (inForce given .limit) (seen s w) w o
+  same-refusal : (w u : ℕ) → w ≡ u → (o : Record.Operation) → ltb w (s .site .P) ≡ true
+      → refusal (inForce given .limit) (seenIn u) w o ≡ refusal (inForce given .limit) (seen s w) w o
   unfolding refusal
-  same-refusal w o i =
+  same-refusal w u n o i =
       let a : Terms = terms rows o in
       let y : Model.Worker = workerAt s w in
-      let idle : aboutOf (x w .doing) .idle ≡ isIdle (y .doing) =
-      ap (λ (z : Worker). aboutOf (z .doing) .idle) (who-is w i) ∙ same-facts (y .doing) .0 in
-      let has : hasTime (x w .announced) ≡ ltb (y .announced) absent =
-      ap (λ (z : Worker). hasTime (z .announced)) (who-is w i) ∙ has-time (y .announced) in
+      let idle : aboutOf (x u .doing) .idle ≡ isIdle (y .doing) =
+      ap (λ (z : Worker). aboutOf (z .doing) .idle) (who-is w u n i) ∙ same-facts (y .doing) .0 in
+      let has : hasTime (x u .announced) ≡ ltb (y .announced) absent =
+      ap (λ (z : Worker). hasTime (z .announced)) (who-is w u n i) ∙ has-time (y .announced) in
       ap (tested (namedBelow (s .site .V') (a .register)) 4)
       (behind (namedBelow markCount (Mark.markOf (a .mark))) 4 _ _
       (λ e.
@@ -147,11 +154,11 @@ module _ (s : Store) (S : Sound s) (k : Hub) (given : Given) where
       (tested (allowed table (s .site .V') w (a .right)) 23
       (tested (idle j) 10 (tested (mayOpen (a .time) (has j)) 12 (tested (mayUseTime (a .time) (has j)) 13 (marked j)))))))))
 
-  begins : (w : ℕ) (o : Record.Operation) → Means s (beginGate (s .site .P) (seenIn w) w o) (begin (inForce given) s w o)
+  begins : (w u : ℕ) → w ≡ u → (o : Record.Operation) → Means s (beginGate (s .site .P) (seenIn u) w o) (begin (inForce given) s w o)
   unfolding beginGate started begin refusedBy
-  begins w o =
+  begins w u q o =
       both M (ltb w (s .site .P)) (ltb w (s .site .P)) _ _ _ _ refl
-      (λ i. subst (λ (n : ℕ). M (startedBy w n d) (refusedBy (refusal (inForce given .limit) (seen s w) w o) (up s) begun)) (sym (same-refusal w o i))
+      (λ i. subst (λ (n : ℕ). M (startedBy w n d) (refusedBy (refusal (inForce given .limit) (seen s w) w o) (up s) begun)) (sym (same-refusal w u q o i))
       (refusal-by (λ n. M (startedBy w n d) (refusedBy n (up s) begun)) (inForce given .limit) (seen s w) w o no
       (λ t. marked-by (λ n. M (startedBy w n d) (refusedBy n (up s) begun)) (markRefusal s (terms rows o .mark)) (of-marks s (terms rows o .mark)) no
       (λ e. (o, refl, record { inside = ltb-true w (s .site .P) i; idle = idle-is (workerAt s w .doing) (t .idle); is = refl })))))
@@ -170,16 +177,16 @@ module _ (s : Store) (S : Sound s) (k : Hub) (given : Given) where
       no n h = rw (not-zero n h) refl
 
   -- the decision on a record that was read as r is the model's
-  pub gate-left : (r : Record.Decoded) (long : ℕ)
-      → Means s (gateBy r true long given (hubRep s k)) (applyDecoded (inForce given) (up s) r)
-  unfolding whoOf gateOf applyDecoded obey setUp step
-  gate-left (Record.Refuses k) long = refl
-  gate-left (Record.Asks (Record.SetUp z)) long = refl
-  gate-left (Record.Asks (Record.Begin w o)) long =
+  pub gate-left : (r : Record.Decoded) (u : ℕ) → Names r u → (long : ℕ)
+      → Means s (gateBy r u true long given (hubRep s k)) (applyDecoded (inForce given) (up s) r)
+  unfolding gateOf applyDecoded obey setUp step
+  gate-left (Record.Refuses k) u n long = refl
+  gate-left (Record.Asks (Record.SetUp z)) u n long = refl
+  gate-left (Record.Asks (Record.Begin w o)) u n long =
       let by : List ℕ → List ℕ → List ℕ → Gate = λ l r t.
-      beginGate (s .site .P) (seenOf (s .site .V') l t (aboutOf (x w .doing) .idle) (hasTime (x w .announced)) (s .marks) r) w o in
-      subst (λ (g : Gate). Means s g (begin (inForce given) s w o)) (λ i. by (sym kept-rows i) (sym kept-reading i) (sym kept-table i)) (begins w o)
-  gate-left (Record.Asks (Record.Step w)) long =
+      beginGate (s .site .P) (seenOf (s .site .V') l t (aboutOf (x u .doing) .idle) (hasTime (x u .announced)) (s .marks) r) w o in
+      subst (λ (g : Gate). Means s g (begin (inForce given) s w o)) (λ i. by (sym kept-rows i) (sym kept-reading i) (sym kept-table i)) (begins w u n o)
+  gate-left (Record.Asks (Record.Step w)) u n long =
       both (Means s) (ltb w (s .site .P)) (ltb w (s .site .P)) _ _ _ _ refl
       (λ i. record { inside = ltb-true w (s .site .P) i; is = refl })
       (λ n. refl)

@@ -4,8 +4,8 @@
 use mathlib.Core.Path.{_≡_, refl, sym, ap, _∙_, subst}
 use mathlib.Core.Bool.{Bool, true, false, _||_, _&&_}
 use mathlib.Core.List.{List, [], _∷_, map}
-use Prim.Native.Nat.{ℕ, zero, suc}
-use lib.ListN.{length}
+use Prim.Native.Nat.{ℕ, zero, suc, _%_}
+use lib.ListN.{length, getD}
 use Rattle.model.specs.Store as Model
 use Rattle.model.specs.Store.{blank, up, upFrom}
 use Rattle.model.specs.Rules.{Given, inForce, under}
@@ -25,7 +25,7 @@ use Rattle.simulation.proofs.Rights.{standing-stands}
 use Rattle.gate.specs.declared.Gate.{Gate}
 use Rattle.gate.specs.declared.Gate.the-variants.{Refuse, Make}
 use Rattle.gate.specs.Gate.{hasTime}
-use Rattle.decision.specs.Decision.{setupOk, gateOf, whoOf}
+use Rattle.decision.specs.Decision.{setupOk, gateOf}
 use Rattle.simulation.specs.Memory.{Memory}
 use Rattle.simulation.specs.Left.{Sized, ready}
 use Rattle.simulation.specs.Shell.{rowsKept, marksRead, obeyIn, gateIn, doneAs, doneOf}
@@ -101,7 +101,7 @@ module _ (steps : StepsSimulate) (m : Memory) (given : Given) (b : List ℕ) (Z 
   flagged (up s) L =
       now-ready (up s) L (left-next (L .store) (under (inForce given) b)) ∙ sym (ap (λ (t : Bool). t || makes (gateIn (ready m) m given b)) (left-ready m L Z))
   flagged (blank row) H =
-      let x : Worker = workerIn (m .hub) (whoOf (Record.decode b)) in
+      let x : Worker = workerIn (m .hub) (getD b 1 0 % 16) in
       blank-gate (λ (g : Gate). gateIn (ready m) m given b ≡ g → Flagged) (flag-refused row H) (flag-made row H)
       (Record.decode b) (m .hub .site .p) (m .hub .site .v) (length (m .slots)) (aboutOf (x .doing) .idle) (hasTime (x .announced)) (given .totals) (rowsKept (m .hub))
       (m .hub .marks) (marksRead (m .hub)) (tableKept (m .hub))

@@ -21,7 +21,7 @@ use Rattle.model.proofs.Basic.{and-both}
 use Rattle.theorem.proofs.Setup.{InRanges, in-ranges}
 use Rattle.slots.specs.Slots.{slotOf}
 use Rattle.gate.specs.declared.Gate.the-variants.{Refuse, Make}
-use Rattle.decision.specs.Decision.{sizesOk, gateOf, whoOf}
+use Rattle.decision.specs.Decision.{sizesOk, gateOf}
 use Rattle.simulation.specs.Memory.{Memory, lentIn}
 use Rattle.simulation.specs.Left.{Sized}
 use Rattle.simulation.specs.Shell.{setUpIn, obeyIn}
@@ -71,10 +71,10 @@ module _ (m : Memory) (Z : Sized m) (given : Given) where
       (λ e. refused (blank lent) m 5 refl)
 
   -- the code does what the model's hub does that is not set up and whose row is lent
-  pub follows-blank : (r : Record.Decoded)
-      → Follows given (blank lent) m (gateBy r false (length (m .slots)) given (m .hub)) (applyDecoded (inForce given) (blank lent) r)
-  unfolding whoOf gateOf applyDecoded obey
-  follows-blank (Record.Refuses k) = refused (blank lent) m k refl
-  follows-blank (Record.Asks (Record.SetUp z)) = set-up z
-  follows-blank (Record.Asks (Record.Begin w o)) = refused (blank lent) m 8 refl
-  follows-blank (Record.Asks (Record.Step w)) = refused (blank lent) m 8 refl
+  pub follows-blank : (r : Record.Decoded) (u : ℕ)
+      → Follows given (blank lent) m (gateBy r u false (length (m .slots)) given (m .hub)) (applyDecoded (inForce given) (blank lent) r)
+  unfolding gateOf applyDecoded obey
+  follows-blank (Record.Refuses k) u = refused (blank lent) m k refl
+  follows-blank (Record.Asks (Record.SetUp z)) u = set-up z
+  follows-blank (Record.Asks (Record.Begin w o)) u = refused (blank lent) m 8 refl
+  follows-blank (Record.Asks (Record.Step w)) u = refused (blank lent) m 8 refl

@@ -26,7 +26,7 @@ use Rattle.arrays.specs.Arrays.{short, fillTo}
 use Rattle.gate.specs.declared.Gate.{Gate}
 use Rattle.gate.specs.declared.Gate.the-variants.{Refuse, Make, Start, Go}
 use Rattle.gate.specs.Gate.{hasTime}
-use Rattle.decision.specs.Decision.{gateOf, whoOf}
+use Rattle.decision.specs.Decision.{gateOf}
 use Rattle.announcing.specs.declared.Outcome.{Outcome}
 use Rattle.step.specs.declared.Next.{Next}
 use Rattle.step.specs.declared.Next.the-variants.{Taken, HandIn, Take, Read, ReadMarks, Split, Free, Mark}
@@ -219,10 +219,10 @@ obeyIn m given (Make p v n k) = answered (setUpIn m given p v n k) Ok
 obeyIn m given (Start w d) = answered (withRecord m w (atPlace (workerIn (m .hub) w) d)) Ok
 obeyIn m given (Go w) = goIn m w (workerIn (m .hub) w) (workerIn (m .hub) w .doing)
 
--- the decision, where `up` says that the memory counts as set up
+-- the decision, where `up` says that the memory counts as set up; the worker's record is looked at by byte 1, modulo the sixteen that there are
 abbrev pub gateIn : Bool → Memory → Given → List ℕ → Gate
 gateIn up m given b =
-    let x = workerIn (m .hub) (whoOf (decode b)) in
+    let x = workerIn (m .hub) (getD b 1 0 % 16) in
     gateOf (decode b) up (m .hub .site .p) (m .hub .site .v) (length (m .slots)) (aboutOf (x .doing) .idle) (hasTime (x .announced)) (given .totals) (rowsKept (m .hub))
     (m .hub .marks) (marksRead (m .hub)) (tableKept (m .hub))
 
