@@ -5,20 +5,20 @@ use mathlib.Core.Path.{_≡_, refl, sym, ap, _∙_, subst}
 use mathlib.Core.Bool.{Bool, true, false, cond, _&&_}
 use mathlib.Core.Logic.{_⊎_, inl, inr, ⊎-elim}
 use mathlib.Core.List.{List, [], _∷_, _++_, map}
-use mathlib.Core.Option.{Option, none, some}
 use Prim.Native.Nat.{ℕ, _+_, _<_}
-use lib.Dec.{ltb}
+use lib.Dec.{ltb, eqb}
 use borrow.Author.Tests as Tests
 use Rattle.model.specs.Store.{Content, absent, lastStatus, markCount, Slot, Doing, Worker, Store, Hub, up, workerAt, withSlots, withWorkers, place}
 use Rattle.model.specs.About.{about}
-use Rattle.model.specs.Marks.{MarkNeed, markOf, markRefusal}
+use Rattle.model.specs.Marks.{MarkNeed, markOf, markRefusal, numberOf}
 use Rattle.model.specs.Rights.{allowed}
 use Rattle.model.specs.Rules.{Rules, Ruled}
 use Rattle.model.specs.Answer.{Answer, Ok, Applied, said}
 use Rattle.model.specs.Steps.{stepAt}
 use Rattle.model.specs.Record.{Operation, Put, SetUp, Begin, Step, Decoded, Asks, Refuses, decode}
 use Rattle.model.specs.Apply.{madeBy, refuse, unless, setUp, TimeNeed, Terms, terms, namedBelow, groupThere, valueWithin, statusKnown, mayOpen, mayUseTime, isIdle}
-use Rattle.model.specs.Apply.{refusedBy, begin, step, obey, applyDecoded, apply, applyRuled}
+use Rattle.model.specs.Apply as Model
+use Rattle.model.specs.Apply.{refusal, seen, refusedBy, begin, step, obey, applyDecoded, apply, applyRuled}
 use Rattle.model.specs.Demand.{events, Call, Unfinished, endFor, Plain, startOf, plain₀, observe, effects, stepEffects, changeEffects, endEffects}
 use Rattle.two_runs.specs.TwoRuns.{Pairwise, PutsAlike, Alike, looksAt, looksBy, withoutValue, placeWith, barePlace, bareWorker, bareSlot, bare}
 use Rattle.two_runs.specs.TwoRuns.{SameButValues, SameAnswers, TwoRuns}
@@ -62,12 +62,13 @@ module _ (r : ℕ) (s : Store) (l : List Slot) (ws : List Worker) (sl : map bare
   tested : (b : Bool) (k : ℕ) (test test′ : Bool) (x x′ : Applied) → test ≡ test′ → Same b x x′ → Same b (unless test (up s) k x) (unless test′ (up t) k x′)
   tested b k test test′ x x′ e a = cond-two (Same b) test test′ x _ x′ _ e (λ u. a) (refused b k)
 
-  by-mark : (b : Bool) (y y′ : Option ℕ) (x x′ : Applied) → y ≡ y′ → Same b x x′ → Same b (refusedBy y (up s) x) (refusedBy y′ (up t) x′)
-  by-mark b y y′ x x′ e a = subst (λ (i : Option ℕ). Same b (refusedBy y (up s) x) (refusedBy i (up t) x′)) e (go y)
+  by-number : (b : Bool) (k k′ : ℕ) (x x′ : Applied) → k ≡ k′ → Same b x x′ → Same b (refusedBy k (up s) x) (refusedBy k′ (up t) x′)
+  unfolding refusedBy
+  by-number b k k′ x x′ e a = subst (λ (i : ℕ). Same b (refusedBy k (up s) x) (refusedBy i (up t) x′)) e (go (eqb k 0))
     where
-      go : (i : Option ℕ) → Same b (refusedBy i (up s) x) (refusedBy i (up t) x′)
-      go none = unfold refusedBy in a
-      go (some k) = unfold refusedBy in refused b k
+      go : (y : Bool) → Same b (cond y x (refuse (up s) k)) (cond y x′ (refuse (up t) k))
+      go true = a
+      go false = refused b k
 
   -- two operations begin on the same terms, but for the value that is put
   begin-like : (b : Bool) (rules : Rules) (w : ℕ) (c c′ : Operation)
@@ -80,20 +81,10 @@ module _ (r : ℕ) (s : Store) (l : List Slot) (ws : List Worker) (sl : map bare
       → terms (s .site .rows) c .mark ≡ terms (s .site .rows) c′ .mark
       → barePlace (terms (s .site .rows) c .first) ≡ barePlace (terms (s .site .rows) c′ .first)
       → Same b (begin rules s w c) (begin rules t w c′)
-  unfolding begin
+  unfolding begin refusal
   begin-like b rules w c c′ value status register group right time mark first =
       tested b 3 (ltb w (s .site .P)) (ltb w (s .site .P)) _ _ refl
-      (tested b 4 _ _ _ _
-      (ap (λ (i : Option ℕ). namedBelow (s .site .V') i && namedBelow markCount (markOf (terms (s .site .rows) c .mark))) register
-      ∙ ap (λ (i : MarkNeed). namedBelow (s .site .V') (terms (s .site .rows) c′ .register) && namedBelow markCount (markOf i)) mark)
-      (tested b 17 _ _ _ _ (ap (groupThere (s .site .rows)) group)
-      (tested b 16 _ _ _ _ value
-      (tested b 25 _ _ _ _ status
-      (tested b 23 _ _ _ _ (ap (allowed (s .site .table) (s .site .V') w) right)
-      (tested b 10 _ _ _ _ (idles w)
-      (tested b 12 _ _ _ _ (asks mayOpen)
-      (tested b 13 _ _ _ _ (asks mayUseTime)
-      (by-mark b _ _ _ _ (refusal-like s l ws sl sw (terms (s .site .rows) c .mark) ∙ ap (markRefusal t) mark) begun)))))))))
+      (by-number b (refusal (rules .limit) (seen s w) w c) (refusal (rules .limit) (seen t w) w c′) _ _ numbers begun)
     where
       begun : Same b (record { hub = up (place s w (terms (s .site .rows) c .first)); answer = Ok })
           (record { hub = up (place t w (terms (s .site .rows) c′ .first)); answer = Ok })
@@ -109,6 +100,19 @@ module _ (r : ℕ) (s : Store) (l : List Slot) (ws : List Worker) (sl : map bare
       asks f =
           ap (λ (i : TimeNeed). f i (ltb (workerAt s w .announced) absent)) time
           ∙ ap (λ (a : ℕ). f (terms (s .site .rows) c′ .time) (ltb a absent)) (announced-like s l ws sl sw w)
+
+      need : numberOf (markRefusal s (terms (s .site .rows) c .mark)) ≡ numberOf (markRefusal t (terms (s .site .rows) c′ .mark))
+      need = ap numberOf (refusal-like s l ws sl sw (terms (s .site .rows) c .mark) ∙ ap (markRefusal t) mark)
+
+      numbers : refusal (rules .limit) (seen s w) w c ≡ refusal (rules .limit) (seen t w) w c′
+      numbers i =
+          Model.tested (namedBelow (s .site .V') (register i)) 4
+          (Model.tested (namedBelow markCount (markOf (mark i))) 4
+          (Model.tested (groupThere (s .site .rows) (group i)) 17
+          (Model.tested (value i) 16
+          (Model.tested (status i) 25
+          (Model.tested (allowed (s .site .table) (s .site .V') w (right i)) 23
+          (Model.tested (idles w i) 10 (Model.tested (asks mayOpen i) 12 (Model.tested (asks mayUseTime i) 13 (need i)))))))))
 
   -- the worker looks at register r in both runs or in neither
   looks-same : (d d′ : Decoded) (rules : Rules) → AlikeDecoded r rules d d′ → looksBy r (up s) d ≡ looksBy r (up t) d′

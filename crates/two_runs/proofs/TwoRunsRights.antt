@@ -29,7 +29,7 @@ began : (rules : Rules) (s : Store) (w : ℕ) (c : Operation) → begin rules s 
     → allowed (s .site .table) (s .site .V') w (terms (s .site .rows) c .right) ≡ true
 began rules s w c =
     begin-by (λ (a : Applied). a .answer ≡ Ok → allowed (s .site .table) (s .site .V') w (terms (s .site .rows) c .right) ≡ true) rules s w c
-    (λ k n e. absurd (let z : _≡_ {A = ℕ} 0 1 = cc in omega arith)) (λ P e. P .right)
+    (λ k n e. absurd (let z : _≡_ {A = ℕ} 0 1 = cc in omega arith)) (λ P e. P .tests .right)
 
 -- who may read some registers and not r reads others
 module _ (t : List ℕ) (w r : ℕ) (not-r : mayOn t w ToRead r ≡ false) where
