@@ -22,7 +22,7 @@ use Rattle.queue.specs.State.{Begins}
 use Rattle.gate.specs.declared.Gate.{Gate}
 use Rattle.gate.specs.declared.Gate.the-variants.{Refuse, Make, Start, Go}
 use Rattle.decision.proofs.Named.{decode-names}
-use Rattle.simulation.specs.Memory.{Memory, lentIn, hubRep, write, writeHub}
+use Rattle.simulation.specs.Memory.{Memory, lentIn, hubRep, write, writeHub, Result}
 use Rattle.simulation.specs.Left.{LeftByRecords, Left, Sized, ready}
 use Rattle.simulation.specs.Shell.{goIn, obeyIn, gateIn, doneAs, doneOf}
 use Rattle.simulation.specs.Holds.{Holds}
