@@ -1,39 +1,36 @@
 -- Laws of the merge of two pools: which range comes first, the empty pool, and how many ranges the merge has.
-use mathlib.Core.Path.{_≡_, refl, ap}
+use mathlib.Core.Path.{_≡_, refl, sym, ap, _∙_}
 use mathlib.Core.Bool.{Bool, true, false, cond}
-use mathlib.Core.List.{List, [], _∷_}
-use Prim.Native.Nat.{ℕ, suc, _+_, _<_}
+use mathlib.Core.Logic.{_⊎_, inl, inr}
+use mathlib.Core.List.{List, [], _∷_, _++_, append-nil}
+use Prim.Native.Nat.{ℕ, suc, _+_}
 use native.Mathlib.Omega.{arith}
 use lib.ListN.{length}
 use lib.Dec.{leb}
 use Rattle.model.specs.Store.{Range}
 use Rattle.model.specs.Ranges.{merge, mergeInto}
-use Rattle.ranges.specs.Merge.{firstGoes}
 
-pub merge-first : (a : Range) (l bs : List Range) → firstGoes (a ∷ l) bs ≡ true → merge (a ∷ l) bs ≡ a ∷ merge l bs
-unfolding merge mergeInto
-merge-first a l [] e = refl
-merge-first a l (b ∷ bs) e = rw e
+module _ (a : Range) (l : List Range) (b : Range) (bs : List Range) where
+  pub merge-first : leb (a .high) (b .high) ≡ true → merge (a ∷ l) (b ∷ bs) ≡ a ∷ merge l (b ∷ bs)
+  unfolding merge mergeInto
+  merge-first e = rw e
 
-pub merge-second : (l : List Range) (b : Range) (bs : List Range) → firstGoes l (b ∷ bs) ≡ false → merge l (b ∷ bs) ≡ b ∷ merge l bs
-unfolding merge mergeInto
-merge-second [] b bs e = refl
-merge-second (a ∷ l) b bs e = rw e
-
--- the pool that gives the next range is not empty
-pub first-some : (l bs : List Range) → firstGoes l bs ≡ true → 0 < length l
-first-some [] bs e = let z : _≡_ {A = ℕ} 0 1 = cc in omega arith
-first-some (a ∷ l) bs e = omega arith
-
-pub second-some : (l bs : List Range) → firstGoes l bs ≡ false → 0 < length l + length bs → 0 < length bs
-second-some [] bs e h = omega arith
-second-some (a ∷ l) [] e h = let z : _≡_ {A = ℕ} 0 1 = cc in omega arith
-second-some (a ∷ l) (b ∷ bs) e h = omega arith
+  pub merge-second : leb (a .high) (b .high) ≡ false → merge (a ∷ l) (b ∷ bs) ≡ b ∷ merge (a ∷ l) bs
+  unfolding merge mergeInto
+  merge-second e = rw e
 
 pub merge-nil : (l : List Range) → merge l [] ≡ l
 unfolding merge mergeInto
 merge-nil [] = refl
 merge-nil (a ∷ l) = ap (λ (r : List Range). a ∷ r) (merge-nil l)
+
+-- where one pool is empty, the merge is the other
+pub merge-joined : (l bs : List Range) → (length l ≡ 0) ⊎ (length bs ≡ 0) → merge l bs ≡ l ++ bs
+unfolding merge
+merge-joined [] bs e = refl
+merge-joined (a ∷ l) [] e = merge-nil (a ∷ l) ∙ sym (append-nil (a ∷ l))
+merge-joined (a ∷ l) (b ∷ bs) (inl e) = absurd (omega (arith, e))
+merge-joined (a ∷ l) (b ∷ bs) (inr e) = absurd (omega (arith, e))
 
 -- a number that both sides of a choice have
 length-cond : (t : Bool) (x y : List Range) (n : ℕ) → length x ≡ n → length y ≡ n → length (cond t x y) ≡ n

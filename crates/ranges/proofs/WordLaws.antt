@@ -61,9 +61,12 @@ pub length-flat : (l : List Range) → length (flat l) ≡ 3 * length l
 length-flat [] = refl
 length-flat (ρ ∷ l) = let h = length-flat l in omega arith
 
+pub flat-append : (l w : List Range) → flat (l ++ w) ≡ flat l ++ flat w
+flat-append [] w = refl
+flat-append (x ∷ l) w = rw (flat-append l w)
+
 pub flat-snoc : (l : List Range) (ρ : Range) → flat (l ++ (ρ ∷ [])) ≡ flat l ++ (ρ .slot ∷ ρ .low ∷ ρ .high ∷ [])
-flat-snoc [] ρ = refl
-flat-snoc (x ∷ l) ρ = rw (flat-snoc l ρ)
+flat-snoc l ρ = flat-append l (ρ ∷ [])
 
 pub length-putAt : (d : List ℕ) (k : ℕ) (ρ : Range) → length (putAt d k ρ) ≡ length d
 length-putAt d k ρ = simp length-set
@@ -129,7 +132,7 @@ rangesAt-flat (x ∷ l) d =
     ∙ rangesAt-flat l d)
 
 -- the ranges read, written back
-flat-rangesAt : (s : List ℕ) (i n : ℕ) → 3 * (i + n) ≤ length s → flat (rangesAt s i n) ≡ take (3 * n) (drop (3 * i) s)
+pub flat-rangesAt : (s : List ℕ) (i n : ℕ) → 3 * (i + n) ≤ length s → flat (rangesAt s i n) ≡ take (3 * n) (drop (3 * i) s)
 flat-rangesAt s i zero h = refl
 flat-rangesAt s i (suc n) h =
     let a : 3 * suc n ≡ suc (suc (suc (3 * n))) = omega arith in
