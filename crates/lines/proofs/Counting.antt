@@ -2,7 +2,7 @@
 use mathlib.Core.Path.{_≡_, refl, ap, _∙_}
 use mathlib.Core.Bool.{Bool, true, false, cond}
 use mathlib.Core.List.{List, [], _∷_, _++_}
-use Prim.Native.Nat.{ℕ, zero, suc, _+_, _/_, _%_, _^_, _≤_, _<_}
+use Prim.Native.Nat.{ℕ, zero, suc, _+_, _-_, _/_, _%_, _^_, _≤_, _<_}
 use native.Mathlib.Omega.{arith}
 use borrow.Author.Tests.{lt-ltb, le-ltb, ltb-true, ltb-false}
 use lib.Dec.{ltb}
@@ -54,17 +54,12 @@ module _ {x : ℕ} {places : List ℕ} {start : ℕ} {head : List ℕ} {n last :
   pub counting-text : take n head ++ (last ∷ []) ≡ decimal x
   counting-text = rw (c .shown, c .digit) (split x)
 
-  pub counting-up : last < 57 → Counting (x + 1) places start head n (last + 1)
-  counting-up h =
-      let l : x % 10 < 9 = omega (arith, c .digit) in
-      let e : (x + 1) / 10 ≡ x / 10 = omega arith in
-      record { tens = rw e (c .tens); shown = rw e (c .shown); digit = omega (arith, c .digit) }
-
-  pub counting-carry : {places′ head′ : List ℕ} {start′ n′ : ℕ} → 57 ≤ last → x < 10000000000000000000
+  -- the next number whose last digit is 0, with one added to the tens
+  pub counting-next : {places′ head′ : List ℕ} {start′ n′ y : ℕ} → y ≡ x + (58 - last) → x < 10000000000000000000
       → ((q : ℕ) → Spelled q places start → Spelled (q + 1) places′ start′)
-      → Appended (drop start′ places′) 0 head head′ n′ → Counting (x + 1) places′ start′ head′ n′ 48
-  counting-carry {places′} {head′} {start′} {n′} h g u w =
-      let l : x % 10 ≡ 9 = omega (arith, c .digit) in
-      let e : (x + 1) / 10 ≡ x / 10 + 1 = omega arith in
-      let s : Spelled ((x + 1) / 10) places′ start′ = rw e (u (x / 10) (c .tens)) in
-      record { tens = s; shown = tens-some ((x + 1) / 10) (omega arith) (omega arith) s w; digit = omega arith }
+      → Appended (drop start′ places′) 0 head head′ n′ → Counting y places′ start′ head′ n′ 48
+  counting-next {places′} {head′} {start′} {n′} {y} e g u w =
+      let z : y ≡ x + (10 - x % 10) = omega (arith, e, c .digit) in
+      let f : y / 10 ≡ x / 10 + 1 = omega (arith, z) in
+      let s : Spelled (y / 10) places′ start′ = rw f (u (x / 10) (c .tens)) in
+      record { tens = s; shown = tens-some (y / 10) (omega (arith, f)) (omega (arith, f, g)) s w; digit = omega (arith, z) }

@@ -11,6 +11,7 @@ pub mod Raising
 pub mod Longest
 pub mod Room
 pub mod Filling
+pub mod Tens
 pub mod Beginning
 pub mod Ending
 pub mod Inside

@@ -2,7 +2,7 @@
 use mathlib.Core.Path.{_≡_}
 use mathlib.Core.Bool.{Bool, cond}
 use mathlib.Core.List.{List, [], _∷_, _++_, map}
-use Prim.Native.Nat.{ℕ, zero, suc, _+_, _*_, _≤_, _<_, min}
+use Prim.Native.Nat.{ℕ, zero, suc, _+_, _-_, _*_, _/_, _%_, _≤_, _<_, min}
 use lib.Dec.{leb}
 use lib.ListN.{length, getD}
 use Rattle.lists.specs.Over.{over, overAt}
@@ -11,6 +11,7 @@ use Rattle.values.specs.declared.Answer.{Answer}
 use Rattle.values.specs.Meaning.{answerOf}
 use Rattle.answers.specs.Numbers.{kindOf, numberOf}
 use Rattle.lines.specs.Words.{lineFrom}
+use Rattle.lines.specs.Digits.{tensOf}
 
 -- e is the memory d with the text p written from index i on, and j is the index after the text
 pub record Appended (p : List ℕ) (i : ℕ) (d e : List ℕ) (j : ℕ) : Type 0 where
@@ -86,6 +87,16 @@ pub record Partly (out : List ℕ) (n : ℕ) (kinds numbers : List ℕ) (most : 
   pub kept : length out′ ≡ length out
   pub memory : out′ ≡ overAt at spilled (writtenLines out n kinds numbers k .memory)
   pub used : at ≡ writtenLines out n kinds numbers k .used
+
+-- The lines of the answers from k to `end`: the numbers of their records, from first + k on, have the same tens, whose digits are `tens`, and last
+-- digits from `last` on; two more lines follow them among the first `most`; and memory that is `long` bytes long has room for all of these
+-- from index `at` on.
+pub record OneTen (first most long : ℕ) (tens : List ℕ) (last at k end : ℕ) : Type 0 where
+  pub shown : tens ≡ tensOf ((first + k) / 10)
+  pub digit : last ≡ 48 + (first + k) % 10
+  pub ten : last + (end - k) ≤ 58
+  pub more : end + 2 ≤ most
+  pub room : at + longest * (end - k + 2) ≤ long
 
 ------------------------------------------------------------------------
 -- The text where there is room

@@ -1,12 +1,12 @@
 // The log's lines (H10).
 ghost use mathlib.Core.Path.{_≡_};
 ghost use mathlib.Core.List.{List, [], _∷_, _++_};
-ghost use Prim.Native.Nat.{ℕ, _+_, _*_, _/_, _≤_, _<_, min};
+ghost use Prim.Native.Nat.{ℕ, _+_, _-_, _*_, _/_, _≤_, _<_, min};
 ghost use lib.ListN.{length, take, drop, replicate};
 ghost use Rattle.model.specs.Log.{decimal};
 ghost use Rattle.lines.specs.Digits.{Spelled, tensOf, leadOf};
 ghost use Rattle.lines.specs.Words.{rows, upToNumber, hasNumber, hasStatus, statusPart, tailWith, tailFrom};
-ghost use Rattle.lines.specs.Written.{Appended, Spills, LineAppended, LinesWritten, Partly};
+ghost use Rattle.lines.specs.Written.{Appended, Spills, LineAppended, LinesWritten, Partly, OneTen};
 
 // A row of eight bytes for each kind, the last for every further one: a space and the words, up to their number or with the line's end. Then a
 // byte for each row: the length of this text, 16 more where a number follows, and 32 more where a status follows that.
@@ -343,14 +343,55 @@ struct Part {
     at: usize,
 }
 
+// Writes the lines of the answers from `from` to `end`, whose numbers have the same tens, from index `begun` of out on; answers the index after
+// them. The first n bytes of `head` are the digits of the tens, and `digit` is the last digit of the first number. A few bytes spill.
+fn spill_lines(
+    out: &mut [u8],
+    begun: usize,
+    table: &[u8; 90],
+    head: &[u8; 20],
+    n: usize,
+    digit: u8,
+    kinds: &[u16],
+    numbers: &[u64],
+    from: usize,
+    end: usize,
+) -> usize
+    requires { ⌜
+        (now table ≡ rows)
+        × (n ≤ 8)
+        × (from ≤ end)
+        × (digit + (end - from) ≤ 58)
+        × (end ≤ length (now kinds))
+        × (end ≤ length (now numbers))
+        × (begun + 70 * (end - from) ≤ length (now out))
+        ⌝ }
+    ensures { λ r. ⌜
+        ((d : List ℕ) (first most : ℕ)
+        → Partly d first (now (kinds .entry)) (now (numbers .entry)) most (now (out .entry)) begun from
+        → OneTen first most (length d) (take n (now (head .entry))) digit begun from end
+        → Partly d first (now (kinds .entry)) (now (numbers .entry)) most (now (out .exit)) r end)
+        ⌝ }
+{
+    let mut at = begun;
+    let mut last = digit;
+    let mut k = from;
+    while k < end {
+        at = spill_line(out, at, table, head, n, last, kinds[k], numbers[k]);
+        last += 1;
+        k += 1;
+    }
+    at
+}
+
 // Writes lines from the start of out as long as two more follow, which cover the bytes that spill. The number is kept as its last digit and
-// the digits of its tens, to which every tenth line adds one.
+// the digits of its tens; the lines of a ten are written at once, and after them one is added to the tens.
 fn begin_lines(out: &mut [u8], first: u64, kinds: &[u16], numbers: &[u64], most: usize) -> Part
     requires { ⌜ (most ≤ length (now kinds)) × (most ≤ length (now numbers)) ⌝ }
     ensures { λ r. ⌜ Partly (now (out .entry)) first (now (kinds .entry)) (now (numbers .entry)) most (now (out .exit)) (r .at) (r .done) ⌝ }
     ensures { λ r. ⌜ first + r .done < 18446744073709551616 ⌝ }
 {
-    if ((most < 3) | (4294967295 < most)) | ((out.len() < 210) | (4294967295 < first)) {
+    if ((most < 3) | (4294967295 < most)) | ((out.len() < 840) | (4294967295 < first)) {
         return Part { done: 0, at: 0 };
     }
     let table = ROWS;
@@ -360,20 +401,16 @@ fn begin_lines(out: &mut [u8], first: u64, kinds: &[u16], numbers: &[u64], most:
     let mut n = put_tens(&mut head, &places, start, first);
     let mut last = 48 + (first % 10) as u8;
     let stop = most - 2;
-    let limit = out.len() - 210;
+    let limit = out.len() - 840;
     let mut at = 0;
     let mut k = 0;
     while ((k < stop) & (at <= limit)) & (n <= 8) {
-        at = spill_line(out, at, &table, &head, n, last, kinds[k], numbers[k]);
-        if last < 57 {
-            last += 1;
-            k += 1;
-        } else {
-            start = count_up(&mut places, start);
-            n = put_front(&mut head, &places, start);
-            last = 48;
-            k += 1;
-        }
+        let end = least(stop, k + (58 - last) as usize);
+        at = spill_lines(out, at, &table, &head, n, last, kinds, numbers, k, end);
+        start = count_up(&mut places, start);
+        n = put_front(&mut head, &places, start);
+        last = 48;
+        k = end;
     }
     Part { done: k, at }
 }

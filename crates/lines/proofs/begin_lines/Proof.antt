@@ -6,7 +6,7 @@ use lib.ListN.{length}
 use borrow.Author.Needs.{needs}
 use Rattle.model.specs.Log.{text}
 use Rattle.lines.specs.Words.{rows}
-use Rattle.lines.proofs.Beginning.{Beginning, suits, beginning-start, goes, beginning-up, beginning-carry}
+use Rattle.lines.proofs.Beginning.{Beginning, suits, beginning-start, goes, digit-of, ends, one-ten, beginning-next}
 use Rattle.lines.proofs.Decimal.{spelled-start}
 use Rattle.lines.proofs.Filling.{partly-start}
 use Rattle.lines.proofs.begin_lines.Statement.{statement}
@@ -55,81 +55,63 @@ loop-holds c =
     beginning-start _ _ _ _ _ _ _ t (omega (arith, t .some)) (omega (arith, t .room)) (c .before .before .before .spell .ensures)
     (c .put-tens .ensures)
 
-shared-slice-read-spill-line : tie.Need-shared-slice-read-spill-line Inv-loop μ-loop
-shared-slice-read-spill-line c =
+sub-least : tie.Need-sub-least Inv-loop μ-loop
+sub-least c = let d = digit-of _ _ _ _ _ _ _ (c .before .loop .inv) (c .loop-test .taken) in omega (arith, d)
+
+cast-least : tie.Need-cast-least Inv-loop μ-loop
+cast-least c = search needs
+
+add-least : tie.Need-add-least Inv-loop μ-loop
+add-least c =
+    let L = c .before .loop in
+    let g = goes _ _ _ _ _ _ _ (L .inv) (c .loop-test .taken) in
+    omega (arith, g .few, L .inv .suits .count)
+
+least-requires : tie.Need-least-requires Inv-loop μ-loop
+least-requires c κs = search needs
+
+spill-lines-requires : tie.Need-spill-lines-requires Inv-loop μ-loop
+unfolding rows text
+spill-lines-requires c κs =
     let I = c .before .before .before .before in
     let L = I .before .loop in
+    let A = I .before .before .before .before .before .before .before .before .before .before .before in
     let g = goes _ _ _ _ _ _ _ (L .inv) (I .loop-test .taken) in
-    search (needs, g .few)
-
-mul-spill-line : tie.Need-mul-spill-line Inv-loop μ-loop
-mul-spill-line c = search needs
-
-mul-spill-line-2 : tie.Need-mul-spill-line-2 Inv-loop μ-loop
-mul-spill-line-2 c = search needs
-
-shared-slice-read-spill-line-2 : tie.Need-shared-slice-read-spill-line-2 Inv-loop μ-loop
-shared-slice-read-spill-line-2 c =
-    let I = c .before .before .before .before .before in
-    let L = I .before .loop in
-    let g = goes _ _ _ _ _ _ _ (L .inv) (I .loop-test .taken) in
-    search (needs, g .few)
-
-spill-line-requires : tie.Need-spill-line-requires Inv-loop μ-loop
-unfolding rows text
-spill-line-requires c κs =
-    let I = c .before .before .before .before .before in
-    let L = I .before .loop in
-    let g = goes _ _ _ _ _ _ _ (L .inv) (I .loop-test .taken) in
-    (refl, g .short, omega (arith, g .room))
-
-add-last-2 : tie.Need-add-last-2 Inv-loop μ-loop
-add-last-2 c = search needs
-
-add-k : tie.Need-add-k Inv-loop μ-loop
-add-k c = search needs
-
-loop-less : tie.Need-loop-less Inv-loop μ-loop
-loop-less c =
-    let I = c .before .before .before .before .before .before .before .before .before in
-    let L = I .before .loop in
-    let g = goes _ _ _ _ _ _ _ (L .inv) (I .loop-test .taken) in
-    omega (arith, g .few)
-
-loop-again : tie.Need-loop-again Inv-loop μ-loop
-loop-again c =
-    let I = c .before .before .before .before .before .before .before .before .before in
-    beginning-up _ _ _ _ _ _ _ (I .before .loop .inv) (I .loop-test .taken) (search needs)
-    (c .before .before .before .spill-line .ensures) (c .if2 .taken)
+    let e = ends _ _ _ _ _ _ _ (L .inv) (I .loop-test .taken) (c .before .before .before .least .ensures) in
+    let d = digit-of _ _ _ _ _ _ _ (L .inv) (I .loop-test .taken) in (
+      refl,
+      g .short,
+      omega (arith, e .0),
+      e .2,
+      omega (arith, e .1, L .inv .stops, A .pre .0),
+      omega (arith, e .1, L .inv .stops, A .pre .1),
+      omega (arith, e .0, e .2, d, g .room),
+    )
 
 count-up-requires : tie.Need-count-up-requires Inv-loop μ-loop
 count-up-requires c κs = search needs
 
 put-front-requires : tie.Need-put-front-requires Inv-loop μ-loop
 put-front-requires c κs =
-    spelled-start (c .before .before .count-up .ensures _
-    (c .before .before .before .before .before .before .before .before .before .before .before .before .before .before .loop .inv .counting .tens))
-
-add-k-2 : tie.Need-add-k-2 Inv-loop μ-loop
-add-k-2 c =
-    let I = c .before .before .before .before .before .before .before .before .before .before .before .before .before .before in
+    let I = c .before .before .before .before .before .before .before .before .before .before .before in
     let L = I .before .loop in
     let g = goes _ _ _ _ _ _ _ (L .inv) (I .loop-test .taken) in
-    search (needs, g .few)
+    spelled-start (c .before .before .count-up .ensures _ (L .inv .counting (g .before) .tens))
 
-loop-less-2 : tie.Need-loop-less-2 Inv-loop μ-loop
-loop-less-2 c =
-    let I = c .before .before .before .before .before .before .before .before .before .before .before .before .before .before in
+loop-less : tie.Need-loop-less Inv-loop μ-loop
+loop-less c =
+    let I = c .before .before .before .before .before .before .before .before .before .before .before .before in
+    let e = ends _ _ _ _ _ _ _ (I .before .loop .inv) (I .loop-test .taken) (c .before .before .before .before .before .before .before .before .before .before .before .least .ensures) in
+    omega (arith, e .0, e .1, I .before .loop .inv .stops)
+
+loop-again : tie.Need-loop-again Inv-loop μ-loop
+loop-again c =
+    let I = c .before .before .before .before .before .before .before .before .before .before .before .before in
     let L = I .before .loop in
-    let g = goes _ _ _ _ _ _ _ (L .inv) (I .loop-test .taken) in
-    omega (arith, g .few)
-
-loop-again-2 : tie.Need-loop-again-2 Inv-loop μ-loop
-loop-again-2 c =
-    let I = c .before .before .before .before .before .before .before .before .before .before .before .before .before .before in
-    beginning-carry _ _ _ _ _ _ _ (I .before .loop .inv) (I .loop-test .taken) (search needs)
-    (c .before .before .before .before .before .before .before .before .spill-line .ensures)
-    (c .before .before .before .before .before .if2 .left) (c .before .before .before .count-up .ensures) (c .put-front .ensures)
+    let f = c .before .before .before .before .before .before .before .before .before .before .before .least .ensures in
+    let t = one-ten _ _ _ _ _ _ _ (L .inv) (I .loop-test .taken) f in
+    beginning-next _ _ _ _ _ _ _ (L .inv) (I .loop-test .taken) f (c .before .before .before .before .before .before .before .spill-lines .ensures _ _ _ (L .inv .partly) t)
+    (c .before .before .before .count-up .ensures) (c .put-front .ensures)
 
 same-length : tie.Need-same-length Inv-loop μ-loop
 same-length c = c .before .loop .inv .partly .kept
@@ -151,19 +133,14 @@ begin-lines-spec =
     sub-stop
     sub-limit
     loop-holds
-    mul-spill-line
-    shared-slice-read-spill-line
-    mul-spill-line-2
-    shared-slice-read-spill-line-2
-    spill-line-requires
-    add-last-2
-    add-k
-    loop-less
-    loop-again
+    sub-least
+    cast-least
+    add-least
+    least-requires
+    spill-lines-requires
     count-up-requires
     put-front-requires
-    add-k-2
-    loop-less-2
-    loop-again-2
+    loop-less
+    loop-again
     same-length
     returns-2)
