@@ -8,7 +8,7 @@ use native.Mathlib.Omega.{arith}
 use lib.Dec.{leb}
 use Rattle.model.specs.Record.{Sizes}
 use Rattle.model.specs.Apply.{inRanges}
-use Rattle.model.proofs.Setup.{InRanges, in-ranges}
+use Rattle.theorem.proofs.Setup.{InRanges, in-ranges}
 use Rattle.state.specs.declared.Hub.{Hub}
 use Rattle.state.specs.State.{tableSound}
 use Rattle.decision.specs.Decision.{sizesOk}
