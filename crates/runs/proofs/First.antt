@@ -18,7 +18,7 @@ use Rattle.state.specs.State.{workerIn, tableKept}
 use Rattle.gate.specs.declared.Gate.{Gate}
 use Rattle.gate.specs.Gate.{hasTime}
 use Rattle.decision.specs.Decision.{gateOf}
-use Rattle.simulation.specs.Memory.{Memory}
+use Rattle.simulation.specs.Memory.{Memory, Result}
 use Rattle.simulation.specs.Left.{ready}
 use Rattle.simulation.specs.Shell.{rowsKept, marksRead, obeyIn, doneAs, doneOf}
 use Rattle.simulation.specs.Loop.{after, next, Ran}
