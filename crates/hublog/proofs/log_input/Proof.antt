@@ -8,11 +8,13 @@ use Rattle.hublog.proofs.log_input.Statement.{statement}
 use Rattle.hublog.proofs.log_input.Tie as tie
 
 abbrev Inv-loop : tie.InvT-loop
-Inv-loop list table block₀ text₀ kinds₀ numbers₀ newest₀ free₀ queue₀ lens₀ merged₀ row₀ hub₀ first₀ kept₀ turns₀ t29 t30 block text kinds numbers newest free queue lens merged row hub first kept turns =
+Inv-loop list table block₀ text₀ kinds₀ numbers₀ newest₀ free₀ queue₀ lens₀ merged₀ row₀ hub₀ first₀ kept₀ turns₀ t29 t30
+    block text kinds numbers newest free queue lens merged row hub first kept turns =
     kept ≤ length block
 
 abbrev μ-loop : tie.MeasureT-loop
-μ-loop list table block₀ text₀ kinds₀ numbers₀ newest₀ free₀ queue₀ lens₀ merged₀ row₀ hub₀ first₀ kept₀ turns₀ t29 t30 block text kinds numbers newest free queue lens merged row hub first kept turns =
+μ-loop list table block₀ text₀ kinds₀ numbers₀ newest₀ free₀ queue₀ lens₀ merged₀ row₀ hub₀ first₀ kept₀ turns₀ t29 t30 block
+    text kinds numbers newest free queue lens merged row hub first kept turns =
     turns
 
 slice-aggregate-block : tie.Need-slice-aggregate-block Inv-loop μ-loop
