@@ -291,4 +291,5 @@ accepts rules lent b = obeys rules lent (decode b)
 pub accepted-inv : (rules : Rules) {lent : Lent} {hub : Hub} (A : Accepted rules lent hub)
     → Inv (startOf (rules .given)) 0 (madeBy rules (A .sizes) lent) (replicate (A .sizes .V') []) [] [] (plain₀ (startOf (rules .given)))
 accepted-inv rules {lent} A =
-    start-inv (rules .batch (A .sizes .P)) (A .sizes) (rowsOf (rules .given .totals)) (lent .table) (lent .row) (A .rows) (A .long) (A .fits .V≤N) (A .fits .N≤2048) (omega (arith, A .fits .clock≤last))
+    start-inv (rules .batch (A .sizes .P)) (A .sizes) (rowsOf (rules .given .totals)) (lent .table) (lent .row) (A .rows) (A .long)
+    (A .fits .V≤N) (A .fits .N≤2048) (omega (arith, A .fits .clock≤last))
