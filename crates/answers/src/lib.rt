@@ -2,6 +2,7 @@
 ghost use mathlib.Core.Path.{_≡_};
 ghost use Prim.Native.Nat.{_+_, _*_, _≤_};
 ghost use Rattle.answers.specs.Numbers.{kindOf, numberOf, answerWith, answerFrom};
+ghost use Rattle.answers.specs.Said.{saidOf};
 use values::Answer;
 use values::Reading;
 
@@ -42,6 +43,25 @@ pub fn number(a: Answer) -> u64
         Answer::Below(reading) => reading.count,
         Answer::Done => 0,
         Answer::No(refusal) => refusal as u64,
+    }
+}
+
+// An answer with its two numbers.
+pub struct Said {
+    pub answer: Answer,
+    pub kind: u16,
+    pub number: u64,
+}
+
+pub fn say(a: Answer) -> Said
+    ensures { λ r. ⌜ r ≡ saidOf a ⌝ }
+{
+    let kind = kind(a);
+    let number = number(a);
+    Said {
+        answer: a,
+        kind,
+        number,
     }
 }
 

@@ -1,91 +1,51 @@
--- The loop over the records: what holds before each, and that each arm keeps it. An arm writes what the definition says of the decision on the
--- record (simulation/specs/Shell.antt), so that most of it is a matter of unfolding.
+-- The loop over the records: what holds before each, and that each arm keeps it. A turn with what the loop then does is what the definition says of
+-- the record (Acts.antt).
 use mathlib.Core.Path.{_≡_, refl, sym, ap, _∙_, subst}
-use mathlib.Core.Bool.{Bool, true, false, _||_}
+use mathlib.Core.Bool.{Bool, true, false, true≢false, _||_}
 use mathlib.Core.List.{List, [], map}
-use Prim.Native.Nat.{ℕ, _<_, _≤_, _+_, _*_, _-_, _/_, _%_}
+use Prim.Native.Nat.{ℕ, _<_, _≤_, _+_, _*_, _%_}
 use native.Mathlib.Omega.{arith}
 use native.Mathlib.Numerals.{add-one}
-use lib.ListN.{length, getD, set, take, length-set, length-map, replicate}
+use lib.ListN.{length, getD, set, replicate, length-set}
 use Rattle.model.specs.Rules.{Given}
-use Rattle.lists.specs.Over.{over, overAt}
-use Rattle.lists.proofs.Mapped.{mapped, mapped-all}
 use Rattle.model.specs.Record as Model
 use Rattle.values.specs.declared.Answer.{Answer}
-use Rattle.values.specs.declared.Answer.the-variants.{Ok, Going, Freed, Done, No}
+use Rattle.values.specs.declared.Window.{Window}
 use Rattle.answers.specs.Numbers.{kindOf, numberOf}
-use Rattle.slots.specs.declared.Slot.{Slot}
-use Rattle.slots.specs.Slots.{linkedTo, madeTo}
-use Rattle.slots.proofs.Growth.{length-madeTo}
-use Rattle.ranges.specs.Words.{flat}
-use Rattle.queue.specs.declared.Taking.{Taking}
-use Rattle.queue.specs.State.{Queue, poolsIn, taken, rest}
-use Rattle.worker.specs.declared.Doing.{Doing}
-use Rattle.worker.specs.declared.Doing.the-variants.{Idle, FlushRead, FlushFree}
+use Rattle.worker.specs.declared.Doing.the-variants.{FlushFree}
 use Rattle.worker.specs.declared.Pool.{Pool}
 use Rattle.worker.specs.declared.Worker.{Worker}
-use Rattle.places.specs.About.{aboutOf}
-use Rattle.pools.specs.Placed.{placed}
-use Rattle.worker.specs.Rep.{poolRep}
+use Rattle.worker.specs.Rep.{timeOf, poolRep}
 use Rattle.worker.proofs.Rep.{padded-nil}
-use Rattle.marks.specs.Marks.{readNext}
-use Rattle.state.specs.declared.Hub.{Hub}
-use Rattle.state.specs.State.{freshHub, siteMade, nobody, workerIn, atPlace, withWorkersIn, withClockIn, withFreeIn, withWindowIn, withTimesIn}
-use Rattle.state.specs.State.{withMarksIn, withReadingIn, tableKept}
-use Rattle.arrays.specs.Arrays.{short, fillTo}
-use Rattle.versions.specs.Versions.{slotIn, rowOf}
+use Rattle.places.specs.About.{aboutOf}
+use Rattle.queue.specs.State.{Queue, poolsIn}
+use Rattle.state.specs.State.{nobody, atPlace}
 use Rattle.gate.specs.declared.Gate.{Gate}
 use Rattle.gate.specs.declared.Gate.the-variants.{Refuse, Make, Start, Go}
 use Rattle.gate.specs.Gate.{hasTime}
-use Rattle.decision.specs.Decision.{gateOf}
+use Rattle.decision.specs.Decision.{sizesOk}
 use Rattle.decision.proofs.Named.{Named, named, decode-names}
-use Rattle.ready.specs.Ready.{readyOf}
-use Rattle.announcing.specs.declared.Outcome.{Outcome}
-use Rattle.step.specs.declared.Next.{Next}
-use Rattle.step.specs.declared.Next.the-variants.{Taken, HandIn, Take, Read, ReadMarks, Split, Free, Mark}
-use Rattle.step.specs.Step.{Stepped}
-use Rattle.step.proofs.Said.{Said, said}
-use Rattle.step.proofs.Lengths.{length-step}
-use Rattle.flush.specs.declared.Handed.{Handed}
-use Rattle.splitting.specs.declared.Parted.{Parted}
-use Rattle.freeing.specs.declared.Freed as Freeing
-use Rattle.flush.specs.Flush.{putHandInStep, handedOn, partOf, withPart, flushReadStep}
 use Rattle.splitting.specs.Splitting.{splitLeft, splitQueue, splitMerged}
-use Rattle.freeing.specs.Freeing.{freedStep, freedRow, freedFree}
-use Rattle.simulation.specs.Memory.{Memory, memory, withHub, Result}
-use Rattle.simulation.specs.Left.{ready}
-use Rattle.simulation.specs.Shell.{withRow, rowsKept, marksRead, queueIn, takenIn, handedIn, tookIn, readIn, allReadIn, markedIn}
-use Rattle.simulation.specs.Shell.{splitIn, freedIn, offWorker, nextIn, finishIn, stepAtIn, goIn, setUpIn, obeyIn, gateIn, doneAs}
+use Rattle.turns.specs.declared.Arm.{Arm}
+use Rattle.turns.specs.declared.Arm.the-variants.{Says, Sets, Times, Reads, Makes, HandsIn, Splits, Moves}
+use Rattle.turns.specs.declared.Fixed.{Fixed}
+use Rattle.turns.specs.declared.Sizes.{Sizes}
+use Rattle.turns.specs.declared.Turn.{Turn}
+use Rattle.turns.specs.Parts.{Parts, parts, freeIn, windowIn, countsAs}
+use Rattle.turns.specs.Turns.{Turned, turnBy, decidedIn, turnOf}
+use Rattle.simulation.specs.Memory.{Memory, Result}
+use Rattle.simulation.specs.Shell.{offWorker, setUpIn, obeyIn, gateIn, doneAs}
 use Rattle.simulation.specs.Records.{recordAt}
-use Rattle.simulation.specs.Loop.{makes, State, next, after, before, Ran}
-use Rattle.core.proofs.Lengths.{length-freed}
+use Rattle.simulation.specs.Loop.{makes, State, next, after}
+use Rattle.core.specs.Stretch.{siteOf, memoryOf, stateWith, madeAfter, Went}
+use Rattle.core.proofs.Acts.{withTimes, withSplit, handedWorker, splitWorker, acted, isMakes, resultOf, Names, obeys, turn-said, turn-makes}
 use Rattle.core.proofs.Tested.{sizes-few}
 
--- the state of the loop, by its locals
-abbrev pub stateOf : Bool → Hub → List (List ℕ) → List ℕ → List ℕ → List ℕ → List ℕ → List ℕ → List ℕ → List ℕ → Answer → State
-stateOf up h row newest free queue lens merged kinds numbers last =
-    record { up = up; memory = memory h (rowOf row) newest free queue lens merged; kinds = kinds; numbers = numbers; last = last }
-
--- k records of the bytes are applied, with the list lent, from the state S on, and T is the state now
-pub record SoFar (S : State) (given : Given) (bytes : List ℕ) (count k : ℕ) (T : State) : Type 0 where
-  pub inside : k ≤ count
-  pub state : T ≡ after S given bytes k
-  -- memory that counts as set up has at most sixteen workers
-  pub few : T .up ≡ true → T .memory .hub .site .p ≤ 16
-  pub row : length (T .memory .slots) ≡ length (S .memory .slots)
-  pub sixteen : length (T .memory .hub .workers) ≡ 16
-  pub kinds-long : length (T .kinds) ≡ length (S .kinds)
-  pub numbers-long : length (T .numbers) ≡ length (S .numbers)
-
--- slots of the same number are words of the same number
-pub words-long : (a b : List (List ℕ)) → length (rowOf a) ≡ length (rowOf b) → length a ≡ length b
-words-long a b e = sym (length-map a _) ∙ e ∙ length-map b _
-
-or-false : (t : Bool) → t ≡ (t || false)
+pub or-false : (t : Bool) → (t || false) ≡ t
 or-false true = refl
 or-false false = refl
 
-or-true : (t : Bool) → true ≡ (t || true)
+or-true : (t : Bool) → (t || true) ≡ true
 or-true true = refl
 or-true false = refl
 
@@ -93,466 +53,241 @@ or-true false = refl
 abbrev emptyPool : Pool
 emptyPool = record { slots = replicate 64 0; lows = replicate 64 0; highs = replicate 64 0; len = 0 }
 
-empty-is : poolRep [] ≡ emptyPool
-empty-is i = record { slots = padded-nil 64 i; lows = padded-nil 64 i; highs = padded-nil 64 i; len = 0 }
+empty-pool : poolRep [] ≡ emptyPool
+empty-pool i = record { slots = padded-nil 64 i; lows = padded-nil 64 i; highs = padded-nil 64 i; len = 0 }
 
--- What is known once record k is decided: its byte 1 modulo sixteen is w, and g is the decision.
-pub record Decides (S : State) (given : Given) (bytes : List ℕ) (count k : ℕ) (T : State) (w : ℕ) (g : Gate) : Type 0 where
-  pub soFar : SoFar S given bytes count k T
-  pub more : k < count
-  pub worker : w ≡ getD (recordAt bytes k) 1 0 % 16
-  pub decided : g
-      ≡ gateOf (Model.decode (recordAt bytes k)) (T .up) (T .memory .hub .site .p) (T .memory .hub .site .v) (length (T .memory .slots))
-      (aboutOf (workerIn (T .memory .hub) w .doing) .idle) (hasTime (workerIn (T .memory .hub) w .announced)) (given .totals) (rowsKept (T .memory .hub))
-      (T .memory .hub .marks) (marksRead (T .memory .hub)) (tableKept (T .memory .hub))
+-- a worker whose pool is that constant
+abbrev pub emptiedWorker : Worker → ℕ → Worker
+emptiedWorker x n = record { doing = FlushFree n; announced = x .announced; pool = emptyPool }
 
--- the worker's number by the record's bytes
-pub named-by : {v : ℕ} {b c : List ℕ} → v ≡ getD b 1 0 → b ≡ c → v % 16 ≡ getD c 1 0 % 16
-named-by e f = ap (λ (z : ℕ). z % 16) e ∙ ap (λ (d : List ℕ). getD d 1 0 % 16) f
-
--- by what the loop's locals and its calls are known to be
-pub deciding : (row : List (List ℕ)) {S : State} {given : Given} {bytes : List ℕ} {count k : ℕ} {up : Bool} {h : Hub}
-    {newest free queue lens merged kinds numbers : List ℕ} {last : Answer} {r : Model.Decoded} {w : ℕ} {g : Gate}
-    → SoFar S given bytes count k (stateOf up h row newest free queue lens merged kinds numbers last) → k < count
-    → r ≡ Model.decode (recordAt bytes k) → w ≡ getD (recordAt bytes k) 1 0 % 16
-    → g
-    ≡ gateOf r up (h .site .p) (h .site .v) (length row) (aboutOf (getD (h .workers) w nobody .doing) .idle)
-    (hasTime (getD (h .workers) w nobody .announced)) (given .totals) (rowsKept h) (h .marks) (marksRead h) (tableKept h)
-    → Decides S given bytes count k (stateOf up h row newest free queue lens merged kinds numbers last) w g
-deciding row {given = given} {up = up} {h = h} {w = w} R more reads worker decided =
-    record {
-      soFar = R;
-      more = more;
-      worker = worker;
-      decided =
-          decided
-          ∙ (λ i. gateOf (reads i) up (h .site .p) (h .site .v) (sym (length-map row slotIn) i) (aboutOf (getD (h .workers) w nobody .doing) .idle)
-          (hasTime (getD (h .workers) w nobody .announced)) (given .totals) (rowsKept h) (h .marks) (marksRead h) (tableKept h));
-    }
-
-module _ {S : State} {given : Given} {bytes : List ℕ} {count k : ℕ} {T : State} {w : ℕ} {g : Gate} (D : Decides S given bytes count k T w g) where
-  abbrev m : Memory
-  m = T .memory
-
-  abbrev h : Hub
-  h = m .hub
-
-  abbrev b : List ℕ
-  b = recordAt bytes k
-
-  abbrev x : Worker
-  x = workerIn h w
-
-  R : SoFar S given bytes count k T
-  R = D .soFar
-
-  -- the worker that the record names, if it names one
-  abbrev u : ℕ
-  u = getD b 1 0
-
-  -- the decision is the definition's
-  gate : gateIn (T .up) m given b ≡ g
-  gate =
-      let by : ℕ → Gate = λ v. gateOf (Model.decode b) (T .up) (h .site .p) (h .site .v) (length (m .slots)) (aboutOf (workerIn h v .doing) .idle)
-      (hasTime (workerIn h v .announced)) (given .totals) (rowsKept h) (h .marks) (marksRead h) (tableKept h) in
-      sym (D .decided ∙ ap by (D .worker))
-
-  -- what it says of the worker
-  says : Named (T .up) u (h .site .p) (length (m .slots)) g
-  says =
-      subst (Named (T .up) u (h .site .p) (length (m .slots))) (sym (D .decided))
-      (named (Model.decode b) u (decode-names b) (T .up) (h .site .p) (h .site .v) (length (m .slots)) (aboutOf (x .doing) .idle)
-      (hasTime (x .announced)) (given .totals) (rowsKept h) (h .marks) (marksRead h) (tableKept h))
-
-  -- the answer y is written
-  abbrev pub Wrote : Answer → List ℕ → List ℕ → Answer → Type 0
-  Wrote y kinds numbers last = (last ≡ y) × ((kinds ≡ set (T .kinds) k (kindOf y)) × (numbers ≡ set (T .numbers) k (numberOf y)))
-
-  -- an arm that does what the definition says of the decision
-  on-gate : (g′ : Gate) (u : Bool) (q : Result) (kinds numbers : List ℕ) (last : Answer) → g ≡ g′ → u ≡ (T .up || makes g′) → obeyIn m given g′ ≡ q
-      → (u ≡ true → q .memory .hub .site .p ≤ 16) → length (q .memory .slots) ≡ length (m .slots) → length (q .memory .hub .workers) ≡ 16
-      → Wrote (q .answer) kinds numbers last
-      → SoFar S given bytes count (k + 1) (record { up = u; memory = q .memory; kinds = kinds; numbers = numbers; last = last })
-  unfolding after next doneAs
-  on-gate g′ u q kinds numbers last eg eu eq few row sixteen z =
-      let d : doneAs (T .up) m given b ≡ q = ap (obeyIn m given) (gate ∙ eg) ∙ eq in
-      let t : T ≡ after S given bytes k = R .state in
-      let n : next T given k b ≡ record { up = u; memory = q .memory; kinds = kinds; numbers = numbers; last = last } =
-      (λ i. record {
-        up = T .up || makes ((gate ∙ eg) i);
-        memory = d i .memory;
-        kinds = set (T .kinds) k (kindOf (d i .answer));
-        numbers = set (T .numbers) k (numberOf (d i .answer));
-        last = d i .answer;
-      })
-      ∙ (λ i. record { up = sym eu i; memory = q .memory; kinds = sym (z .1 .0) i; numbers = sym (z .1 .1) i; last = sym (z .0) i }) in
-      record {
-        inside = let i = D .more in omega arith;
-        state = rw (add-one k) (sym n ∙ ap (λ (s : State). next s given k b) t);
-        few = few;
-        row = row ∙ R .row;
-        sixteen = sixteen;
-        kinds-long = ap length (z .1 .0) ∙ length-set (T .kinds) k (kindOf (q .answer)) ∙ R .kinds-long;
-        numbers-long = ap length (z .1 .1) ∙ length-set (T .numbers) k (numberOf (q .answer)) ∙ R .numbers-long;
-      }
-
-  ----------------------------------------------------------------------
-  -- Refused, set up, begun
-
-  pub on-refuse : (n : ℕ) (kinds numbers : List ℕ) (last : Answer) → g ≡ Refuse n → Wrote (No n) kinds numbers last
-      → SoFar S given bytes count (k + 1) (record { up = T .up; memory = m; kinds = kinds; numbers = numbers; last = last })
-  unfolding obeyIn
-  on-refuse n kinds numbers last e z = on-gate (Refuse n) (T .up) _ kinds numbers last e (or-false (T .up)) refl (R .few) refl (R .sixteen) z
-
-  pub make-few : (p v n t : ℕ) → g ≡ Make p v n t → (p ≤ 16) × (n ≤ 2048) × (v ≤ n)
-  make-few p v n t e = sizes-few p v n t (length (m .slots)) (subst (Named (T .up) u (h .site .p) (length (m .slots))) e says .1)
-
-  pub on-make : (p v n t : ℕ) (h′ : Hub) (slots newest free : List _) (kinds numbers : List ℕ) (last : Answer) → g ≡ Make p v n t
-      → h′ ≡ freshHub (siteMade h (given .totals) p v n) t → slots ≡ madeTo (m .slots) v n → newest ≡ fillTo (m .newest) short v
-      → free ≡ fillTo (m .free) (λ j. short (n - 1 - j)) (h′ .free) → Wrote Ok kinds numbers last
-      → SoFar S given bytes count (k + 1)
-      (record { up = true; memory = memory h′ slots newest free (m .queue) (m .lens) (m .merged); kinds = kinds; numbers = numbers; last = last })
-  unfolding obeyIn setUpIn
-  on-make p v n t h′ slots newest free kinds numbers last e eh es en ef z =
-      let all : free ≡ fillTo (m .free) (λ j. short (n - 1 - j)) (n - v) = ef
-      ∙ ap (λ (y : Hub). fillTo (m .free) (λ j. short (n - 1 - j)) (y .free)) eh in
-      on-gate (Make p v n t) true
-      (record { memory = memory h′ slots newest free (m .queue) (m .lens) (m .merged); answer = Ok })
-      kinds numbers last e (or-true (T .up))
-      (λ i. record { memory = memory (sym eh i) (sym es i) (sym en i) (sym all i) (m .queue) (m .lens) (m .merged); answer = Ok })
-      (λ u. subst (λ (y : Hub). y .site .p ≤ 16) (sym eh) (make-few p v n t e .0))
-      (ap length es ∙ length-madeTo (m .slots) v n) (ap (λ (y : Hub). length (y .workers)) eh) z
-
-  -- the worker of a begin or a step
-  named-worker : (v : ℕ) → (T .up ≡ true) × (v ≡ u) × (u < h .site .p) → (v ≡ w) × (w < 16)
-  named-worker v n =
-      let p = R .few (n .0) in
-      let e = D .worker in
-      let l : u < 16 = omega (arith, n .2) in
-      (n .1 ∙ omega arith, omega arith)
-
-  pub on-start : (v : ℕ) (d : Doing) (kinds numbers : List ℕ) (last : Answer) → g ≡ Start v d → Wrote Ok kinds numbers last
-      → SoFar S given bytes count (k + 1)
-      (record { up = T .up; memory = withHub m (withWorkersIn h (set (h .workers) w (atPlace x d))); kinds = kinds; numbers = numbers; last = last })
-  unfolding obeyIn
-  on-start v d kinds numbers last e z =
-      let n = named-worker v (subst (Named (T .up) u (h .site .p) (length (m .slots))) e says) in
-      on-gate (Start w d) (T .up) _ kinds numbers last (e ∙ ap (λ (y : ℕ). Start y d) (n .0)) (or-false (T .up)) refl (R .few) refl
-      (length-set (h .workers) w _ ∙ R .sixteen) z
-
-  ----------------------------------------------------------------------
-  -- A step: its first part left the row and the newest versions, and s is what is known of it
-
-  module _ (v : ℕ) (e : g ≡ Go v) (s : Next) (row : List Slot) (newest : List ℕ)
-      (stepped : record { next = s; row = row; newest = newest } ≡ stepAtIn m x (x .doing)) where
-    long : length row ≡ length (m .slots)
-    long =
-        ap (λ (z : Stepped). length (z .row)) stepped
-        ∙ length-step (x .doing) (x .announced) (h .clock) (h .free) (h .site .p) (m .slots) (m .newest) (m .free) (rowsKept h) (h .marks) (marksRead h)
-
-    of-worker : (v ≡ w) × (w < 16)
-    of-worker = named-worker v (subst (Named (T .up) u (h .site .p) (length (m .slots))) e says)
-
-    pub below : w < 16
-    below = of-worker .1
-
-    pub workers : h .site .p ≤ 16
-    workers = R .few (subst (Named (T .up) u (h .site .p) (length (m .slots))) e says .0)
-
-    pub told : (s′ : Next) → s ≡ s′ → Said (h .site .p) s′
-    told s′ f =
-        subst (Said (h .site .p)) f
-        (subst (λ (z : Stepped). Said (h .site .p) (z .next)) (sym stepped)
-        (said (x .doing) (x .announced) (h .clock) (h .free) (h .site .p) (m .slots) (m .newest) (m .free) (rowsKept h) (h .marks) (marksRead h)))
-
-    abbrev m′ : Memory
-    m′ = withRow m row newest
-
-    goes : (s′ : Next) → s ≡ s′ → obeyIn m given (Go w) ≡ nextIn m′ w x s′
-    unfolding obeyIn goIn
-    goes s′ f = ap (finishIn m w x) (sym stepped) ∙ ap (nextIn m′ w x) f
-
-    on-go : (s′ : Next) (q : Result) (kinds numbers : List ℕ) (last : Answer) → s ≡ s′ → nextIn m′ w x s′ ≡ q → q .memory .hub .site .p ≡ h .site .p
-        → length (q .memory .slots) ≡ length row → length (q .memory .hub .workers) ≡ 16 → Wrote (q .answer) kinds numbers last
-        → SoFar S given bytes count (k + 1) (record { up = T .up; memory = q .memory; kinds = kinds; numbers = numbers; last = last })
-    on-go s′ q kinds numbers last f n ep er es z =
-        on-gate (Go w) (T .up) q kinds numbers last (e ∙ ap Go (of-worker .0)) (or-false (T .up)) (goes s′ f ∙ n)
-        (λ u. subst (λ (y : ℕ). y ≤ 16) (sym ep) (R .few u)) (er ∙ long) es z
-
-    replaced : (y : Worker) → length (set (h .workers) w y) ≡ 16
-    replaced y = length-set (h .workers) w y ∙ R .sixteen
-
-    pub on-taken : (o : Outcome) (i : ℕ) (kinds numbers : List ℕ) (last : Answer) → s ≡ Taken o
-        → i ≡ readNext (x .doing) (o .doing) (getD (h .reading) w 0) → Wrote (o .answer) kinds numbers last
-        → SoFar S given bytes count (k + 1)
-        (record {
-          up = T .up;
-          memory =
-              withHub m′
-              (withFreeIn
-              (withClockIn
-              (withReadingIn
-              (withWorkersIn h (set (h .workers) w (record { doing = o .doing; announced = o .announced; pool = x .pool })))
-              (set (h .reading) w i))
-              (o .clock))
-              (o .free));
-          kinds = kinds;
-          numbers = numbers;
-          last = last;
-        })
-    unfolding nextIn takenIn
-    on-taken o i kinds numbers last f ei z =
-        let left : ℕ → Result = λ j. record {
-          memory =
-              withHub m′
-              (withFreeIn
-              (withClockIn
-              (withReadingIn
-              (withWorkersIn h (set (h .workers) w (record { doing = o .doing; announced = o .announced; pool = x .pool })))
-              (set (h .reading) w j))
-              (o .clock))
-              (o .free));
-          answer = o .answer;
-        } in
-        on-go (Taken o) (left i) kinds numbers last f (ap left (sym ei)) refl refl (replaced _) z
-
-    -- put (3)
-    pub on-hand-in : (c : ℕ) (a : Handed) (slots lows highs : List ℕ) (kinds numbers : List ℕ) (last : Answer) → s ≡ HandIn c
-        → a ≡ handedOn row (x .pool .len) c (h .site .batch) → slots ≡ placed (x .pool .slots) (x .pool .len) c
-        → lows ≡ placed (x .pool .lows) (x .pool .len) (a .low) → highs ≡ placed (x .pool .highs) (x .pool .len) (a .high)
-        → Wrote (a .answer) kinds numbers last
-        → SoFar S given bytes count (k + 1)
-        (record {
-          up = T .up;
-          memory =
-              withHub m′
-              (withWorkersIn h
-              (set (h .workers) w
-              (record {
-                doing = a .doing;
-                announced = x .announced;
-                pool = record { slots = slots; lows = lows; highs = highs; len = a .len };
-              })));
-          kinds = kinds;
-          numbers = numbers;
-          last = last;
-        })
-    unfolding nextIn handedIn putHandInStep handedOn
-    on-hand-in c a slots lows highs kinds numbers last f ea es el eh z =
-        let left : Handed → List ℕ → List ℕ → List ℕ → Result = λ y b d e. record {
-          memory =
-              withHub m′
-              (withWorkersIn h
-              (set (h .workers) w
-              (record {
-                doing = y .doing;
-                announced = x .announced;
-                pool = record { slots = b; lows = d; highs = e; len = y .len };
-              })));
-          answer = y .answer;
-        } in
-        let low : lows ≡ _ = el ∙ ap (λ (y : Handed). placed (x .pool .lows) (x .pool .len) (y .low)) ea in
-        let high : highs ≡ _ = eh ∙ ap (λ (y : Handed). placed (x .pool .highs) (x .pool .len) (y .high)) ea in
-        on-go (HandIn c) (left a slots lows highs) kinds numbers last f (λ i. left (sym ea i) (sym es i) (sym low i) (sym high i)) refl refl
-        (replaced _) z
-
-    -- flush (1)
-    pub on-take : (a : Taking) (queue lens merged : List ℕ) (kinds numbers : List ℕ) (last : Answer) → s ≡ Take
-        → (a .count ≡ length (taken (queueIn m)))
-        × ((poolsIn queue lens (a .window) ≡ rest (queueIn m))
-        × (merged ≡ withPart (m .merged) w (over (flat (taken (queueIn m))) (partOf (m .merged) w))))
-        → Wrote Going kinds numbers last
-        → SoFar S given bytes count (k + 1)
-        (record {
-          up = T .up;
-          memory =
-              memory
-              (withWindowIn
-              (withWorkersIn h
-              (set (h .workers) w (record {
-                doing = FlushRead
-                    (short (a .count)) 0;
-                announced = x .announced;
-                pool = x .pool;
-              })))
-              (a .window))
-              row newest (m .free) queue lens merged;
-          kinds = kinds;
-          numbers = numbers;
-          last = last;
-        })
-    unfolding nextIn tookIn
-    on-take a queue lens merged kinds numbers last f (ec, (eq, em)) z =
-        let left : ℕ → Queue → List ℕ → Result = λ n q d. record {
-          memory =
-              memory
-              (withWindowIn
-              (withWorkersIn h
-              (set (h .workers) w (record { doing = FlushRead (short n) 0; announced = x .announced; pool = x .pool })))
-              (q .window))
-              row newest (m .free) (q .queue) (q .lens) d;
-          answer = Going;
-        } in
-        on-go Take (left (a .count) (poolsIn queue lens (a .window)) merged) kinds numbers last f (λ i. left (sym ec i) (sym eq i) (sym em i)) refl refl
-        (replaced _) z
-
-    -- flush (2)
-    pub on-read : (n j : ℕ) (times : List ℕ) (kinds numbers : List ℕ) (last : Answer) → s ≡ Read n j
-        → times ≡ flushReadStep (h .times) w j (workerIn h (j % 16) .announced) → Wrote Going kinds numbers last
-        → SoFar S given bytes count (k + 1)
-        (record {
-          up = T .up;
-          memory =
-              withHub m′
-              (withTimesIn
-              (withWorkersIn h (set (h .workers) w (record { doing = FlushRead n (j + 1); announced = x .announced; pool = x .pool })))
-              times);
-          kinds = kinds;
-          numbers = numbers;
-          last = last;
-        })
-    unfolding nextIn readIn
-    on-read n j times kinds numbers last f et z =
-        let left : List ℕ → Result = λ y. record {
-          memory =
-              withHub m′
-              (withTimesIn
-              (withWorkersIn h (set (h .workers) w (record { doing = FlushRead n (j + 1); announced = x .announced; pool = x .pool })))
-              y);
-          answer = Going;
-        } in
-        on-go (Read n j) (left times) kinds numbers last f (ap left (sym et)) refl refl (replaced _) z
-
-    -- flush (2), behind the last worker
-    pub on-read-marks : (n : ℕ) (times : List ℕ) (kinds numbers : List ℕ) (last : Answer) → s ≡ ReadMarks n
-        → times ≡ overAt (28 * w + h .site .p) (h .marks) (h .times) → Wrote Going kinds numbers last
-        → SoFar S given bytes count (k + 1)
-        (record {
-          up = T .up;
-          memory =
-              withHub m′
-              (withTimesIn
-              (withWorkersIn h (set (h .workers) w (record { doing = FlushRead n ((h .site .p + 12) % 256); announced = x .announced; pool = x .pool })))
-              times);
-          kinds = kinds;
-          numbers = numbers;
-          last = last;
-        })
-    unfolding nextIn allReadIn
-    on-read-marks n times kinds numbers last f et z =
-        let left : List ℕ → Result = λ y. record {
-          memory =
-              withHub m′
-              (withTimesIn
-              (withWorkersIn h (set (h .workers) w (record { doing = FlushRead n ((h .site .p + 12) % 256); announced = x .announced; pool = x .pool })))
-              y);
-          answer = Going;
-        } in
-        on-go (ReadMarks n) (left times) kinds numbers last f (ap left (sym et)) refl refl (replaced _) z
-
-    -- mark and release
-    pub on-mark : (i t : ℕ) (kinds numbers : List ℕ) (last : Answer) → s ≡ Mark i t → Wrote Done kinds numbers last
-        → SoFar S given bytes count (k + 1)
-        (record {
-          up = T .up;
-          memory = withHub m′ (withMarksIn (withWorkersIn h (set (h .workers) w (atPlace x Idle))) (set (h .marks) (i % 12) t));
-          kinds = kinds;
-          numbers = numbers;
-          last = last;
-        })
-    unfolding nextIn markedIn
-    on-mark i t kinds numbers last f z = on-go (Mark i t) (markedIn m′ w x i t) kinds numbers last f refl refl refl (replaced _) z
-
-    -- flush (3)
-    pub on-split : (n j : ℕ) (a : Parted) (queue lens merged : List ℕ) (kinds numbers : List ℕ) (last : Answer) → s ≡ Split n j
-        → a .left ≡ splitLeft (m .merged) w n (h .times) j (x .pool)
-        → poolsIn queue lens (a .window) ≡ splitQueue (queueIn m) (m .merged) w n (h .times) j (h .site .batch) (x .pool)
-        → merged ≡ splitMerged (m .merged) w n (h .times) j (x .pool) → Wrote Going kinds numbers last
-        → SoFar S given bytes count (k + 1)
-        (record {
-          up = T .up;
-          memory =
-              memory
-              (withWindowIn
-              (withWorkersIn h
-              (set (h .workers) w
-              (record {
-                doing = FlushFree (a .left);
-                announced = x .announced;
-                pool = emptyPool;
-              })))
-              (a .window))
-              row newest (m .free) queue lens merged;
-          kinds = kinds;
-          numbers = numbers;
-          last = last;
-        })
-    unfolding nextIn splitIn
-    on-split n j a queue lens merged kinds numbers last f el eq em z =
-        let left : Pool → ℕ → Queue → List ℕ → Result = λ e c q d. record {
-          memory =
-              memory
-              (withWindowIn
-              (withWorkersIn h (set (h .workers) w (record { doing = FlushFree c; announced = x .announced; pool = e })))
-              (q .window))
-              row newest (m .free) (q .queue) (q .lens) d;
-          answer = Going;
-        } in
-        on-go (Split n j) (left emptyPool (a .left) (poolsIn queue lens (a .window)) merged) kinds numbers last f
-        (λ i. left (empty-is i) (sym el i) (sym eq i) (sym em i)) refl refl (replaced _) z
-
-    -- flush (4), once the readers of all workers are moved
-    pub on-free : (n : ℕ) (a : Freeing.Freed) (slots : List Slot) (free : List ℕ) (h′ : Hub) (j : ℕ) (kinds numbers : List ℕ) (last : Answer)
-        → s ≡ Free n
-        → a ≡ freedStep row (m .merged) w n (h .free) → slots ≡ freedRow row (m .merged) w n → free ≡ freedFree (m .free) (m .merged) w n (h .free)
-        → j ≤ 16 → 16 ≤ j
-        → h′ ≡ withWorkersIn (withFreeIn (withWorkersIn h (set (h .workers) w (atPlace x (FlushFree (n - 1))))) (a .free))
-        (mapped (offWorker (a .slot) (a .older)) j (set (h .workers) w (atPlace x (FlushFree (n - 1)))))
-        → Wrote (Freed (a .slot)) kinds numbers last
-        → SoFar S given bytes count (k + 1)
-        (record { up = T .up; memory = memory h′ slots newest free (m .queue) (m .lens) (m .merged); kinds = kinds; numbers = numbers; last = last })
-    unfolding nextIn freedIn
-    on-free n a slots free h′ j kinds numbers last f ea es ef lo hi eh z =
-        let ws : List Worker = set (h .workers) w (atPlace x (FlushFree (n - 1))) in
-        let all : length ws ≡ j = replaced _ ∙ omega arith in
-        let moved : mapped (offWorker (a .slot) (a .older)) j ws ≡ map (offWorker (a .slot) (a .older)) ws =
-        ap (λ (i : ℕ). mapped (offWorker (a .slot) (a .older)) i ws) (sym all) ∙ mapped-all (offWorker (a .slot) (a .older)) ws in
-        let hub : h′ ≡ withFreeIn (withWorkersIn h (map (offWorker (a .slot) (a .older)) ws)) (a .free) =
-        eh ∙ ap (λ (l : List Worker). withFreeIn (withWorkersIn h l) (a .free)) moved in
-        let left : Freeing.Freed → List Slot → List ℕ → Result = λ y l d. record {
-          memory =
-              memory (withFreeIn (withWorkersIn h (map (offWorker (y .slot) (y .older)) ws)) (y .free)) l newest d (m .queue) (m .lens) (m .merged);
-          answer = Freed (y .slot);
-        } in
-        on-go (Free n) (record { memory = memory h′ slots newest free (m .queue) (m .lens) (m .merged); answer = Freed (a .slot) }) kinds numbers
-        last f
-        ((λ i. left (sym ea i) (sym es i) (sym ef i))
-        ∙ (λ i. record { memory = memory (sym hub i) slots newest free (m .queue) (m .lens) (m .merged); answer = Freed (a .slot) }))
-        (ap (λ (y : Hub). y .site .p) hub) (ap length es ∙ length-freed row (m .merged) w n)
-        (ap (λ (y : Hub). length (y .workers)) hub ∙ length-map ws _ ∙ replaced _) z
+empty-is : (x : Worker) (n : ℕ) → splitWorker x n ≡ emptiedWorker x n
+empty-is x n i = record { doing = FlushFree n; announced = x .announced; pool = empty-pool i }
 
 ------------------------------------------------------------------------
--- The test before the first record, and the end
+-- One record
 
-pub ready-is : (h : Hub) (row : List (List ℕ)) (newest free queue lens merged : List ℕ) (up linked : Bool)
-    → linked ≡ linkedTo (rowOf row) (h .site .n) (h .site .n) → up ≡ readyOf h newest free queue lens merged linked (length row)
-    → up ≡ ready (memory h (rowOf row) newest free queue lens merged)
-unfolding ready
-ready-is h row newest free queue lens merged up linked ek eu =
-    eu ∙ (λ i. readyOf h newest free queue lens merged (ek i) (sym (length-map row slotIn) i))
+-- record k of the bytes b; what is lent is f, the list, the rows and the rights; the workers' records are ws and the parts a
+module _ (f : Fixed) (few : f .up ≡ true → f .p ≤ 16) (list rows rights : List ℕ) (given : Given) (lent : given .totals ≡ list) (b : List ℕ) (ws : List Worker)
+    (a : Parts) where
+  -- byte 1 modulo sixteen
+  abbrev w : ℕ
+  w = getD b 1 0 % 16
 
--- all records are applied
-pub finished : (m : Memory) (given : Given) (bytes kinds numbers : List ℕ) (count k : ℕ) (up : Bool) (T : State)
-    → SoFar (record { up = up; memory = m; kinds = kinds; numbers = numbers; last = Ok }) given bytes count k T → count ≤ k → up ≡ ready m
-    → Ran m given bytes kinds numbers count (T .memory) (T .kinds) (T .numbers) (T .last)
-finished m given bytes kinds numbers count k up T R all tested =
-    let i = R .inside in
-    let last : k ≡ count = omega arith in
-    let e : T ≡ after (before m kinds numbers) given bytes count =
-    R .state ∙ (λ j. after (record { up = tested j; memory = m; kinds = kinds; numbers = numbers; last = Ok }) given bytes (last j)) in
+  abbrev x : Worker
+  x = getD ws w nobody
+
+  abbrev g : Gate
+  g = decidedIn f (x .doing) (x .announced) (given .totals) rows rights b a
+
+  abbrev r : Turned
+  r = turnBy f w (x .doing) (x .announced) (x .pool .len) rows a g
+
+  who : Named (f .up) (getD b 1 0) (f .p) (length (a .slots)) g
+  who =
+      named (Model.decode b) (getD b 1 0) (decode-names b) (f .up) (f .p) (f .v) (length (a .slots)) (aboutOf (x .doing) .idle)
+      (hasTime (x .announced)) (given .totals) _ (a .marks) _ _
+
+  module _ (n k : ℕ) (kinds numbers : List ℕ) (last : Answer) where
+    abbrev m : Memory
+    m = memoryOf (siteOf f n rows rights) ws a
+
+    abbrev T : State
+    T = stateWith (f .up) m kinds numbers last
+
+    -- the decision says who
+    names : (g : Gate) → Named (f .up) (getD b 1 0) (f .p) (length (a .slots)) g → Names f n rows rights ws w given g
+    names (Refuse k) h = tt
+    names (Make p v m k) h = tt
+    names (Start v d) (u, e, h) = let l = few u in e ∙ omega arith
+    names (Go v) (u, e, h) = let l = few u in (e ∙ omega arith, l)
+
+    done : doneAs (f .up) m given b ≡ resultOf f n rows rights ws w given r
+    unfolding doneAs
+    done = obeys f n rows rights ws w given a g (names g who)
+
+    -- the state after the record
+    abbrev pub stateAfter : Turned → State
+    stateAfter r =
+        stateWith (f .up || isMakes (r .turn .arm)) (acted (r .turn .arm) (siteOf f n rows rights) ws w (r .turn) (r .parts) given)
+        (set kinds k (r .turn .said .kind)) (set numbers k (r .turn .said .number)) (r .turn .said .answer)
+
+    next-is : next T given k b ≡ stateAfter r
+    unfolding next
+    next-is =
+        let z = r .turn .said in
+        let s = turn-said f n rows rights ws w given a g in
+        (λ i. stateWith (f .up || turn-makes f n rows rights ws w given a g i) (done i .memory)
+        (set kinds k (kindOf (done i .answer))) (set numbers k (numberOf (done i .answer))) (done i .answer))
+        ∙ (λ i. stateWith (f .up || isMakes (r .turn .arm)) (acted (r .turn .arm) (siteOf f n rows rights) ws w (r .turn) (r .parts) given)
+        (set kinds k (sym (s .0) i)) (set numbers k (sym (s .1) i)) (z .answer))
+
+    pub turn-taken : (z : Turned) → z ≡ r → next T given k b ≡ stateAfter z
+    turn-taken z e = next-is ∙ ap stateAfter (sym e)
+
+  -- a setup that is accepted has at most sixteen workers
+  made-few : (g : Gate) → Named (f .up) (getD b 1 0) (f .p) (length (a .slots)) g
+      → isMakes (turnBy f w (x .doing) (x .announced) (x .pool .len) rows a g .turn .arm) ≡ true
+      → turnBy f w (x .doing) (x .announced) (x .pool .len) rows a g .turn .sizes .p ≤ 16
+  unfolding turnBy
+  made-few (Refuse k) h e = absurd (true≢false (sym e))
+  made-few (Make p v m k) h e = sizes-few p v m k (length (a .slots)) (h .1) .0
+  made-few (Start v d) h e = absurd (true≢false (sym e))
+  made-few (Go v) h e = absurd (true≢false (sym e ∙ sym (turn-makes f 0 rows rights ws w given a (Go v))))
+
+  pub few-made : (z : Turned) → z ≡ r → z .turn .arm ≡ Makes → z .turn .sizes .p ≤ 16
+  few-made z e m =
+      subst (λ (y : Turned). y .turn .sizes .p ≤ 16) (sym e) (made-few g who (sym (ap (λ (y : Turned). isMakes (y .turn .arm)) e) ∙ ap isMakes m))
+
+------------------------------------------------------------------------
+-- The records so far
+
+-- those before k, from `from` on, met the state s and left the state t; both are known but for how many slots the setup has
+pub record SoFar (given : Given) (bytes : List ℕ) (from count k : ℕ) (s t : ℕ → State) : Type 0 where
+  pub inside : k ≤ count
+  pub onward : from ≤ k
+  pub state : (S : State) (n : ℕ) → s n ≡ after S given bytes from → t n ≡ after S given bytes k
+
+-- one record more
+one-more : {given : Given} {bytes : List ℕ} {from count k : ℕ} {s t : ℕ → State} (t′ : ℕ → State) → SoFar given bytes from count k s t → k < count
+    → ((n : ℕ) → next (t n) given k (recordAt bytes k) ≡ t′ n) → SoFar given bytes from count (k + 1) s t′
+unfolding after
+one-more {given = given} {bytes = bytes} {k = k} t′ R more e =
     record {
-      memory = ap (λ (s : State). s .memory) e;
-      answerKinds = ap (λ (s : State). s .kinds) e;
-      answerNumbers = ap (λ (s : State). s .numbers) e;
-      last = ap (λ (s : State). s .last) e;
+      inside = omega arith;
+      onward = let h = R .onward in omega arith;
+      state = λ S n h. rw (add-one k) (sym (e n) ∙ ap (λ (y : State). next y given k (recordAt bytes k)) (R .state S n h));
     }
+
+-- Record k is one of worker v, and its turn left t and the parts a′; the answer is written.
+module _ {given : Given} {bytes : List ℕ} {from count k : ℕ} {s : ℕ → State} (f : Fixed) (few : f .up ≡ true → f .p ≤ 16) (list rows rights : List ℕ)
+    (lent : given .totals ≡ list) (ws : List Worker) (a : Parts) (kinds numbers : List ℕ) (last : Answer)
+    (R : SoFar given bytes from count k s (λ n. stateWith (f .up) (memoryOf (siteOf f n rows rights) ws a) kinds numbers last)) (more : k < count)
+    (b : List ℕ) (cut : b ≡ recordAt bytes k) (v : ℕ) (named : v ≡ getD b 1 0 % 16) (t : Turn) (a′ : Parts)
+    (turned : record { turn = t; parts = a′ }
+    ≡ turnOf f (v % 16) (getD ws v nobody .doing) (getD ws v nobody .announced) (getD ws v nobody .pool .len) list rows rights b a)
+    (kinds′ numbers′ : List ℕ) (last′ : Answer)
+    (wrote : (last′ ≡ t .said .answer) × ((kinds′ ≡ set kinds k (t .said .kind)) × (numbers′ ≡ set numbers k (t .said .number)))) where
+  -- the same of the record as the definition cuts it
+  abbrev c : List ℕ
+  c = recordAt bytes k
+
+  abbrev u : ℕ
+  u = getD c 1 0 % 16
+
+  who-is : v ≡ u
+  who-is = named ∙ ap (λ (l : List ℕ). getD l 1 0 % 16) cut
+
+  turned-is : record { turn = t; parts = a′ } ≡ r f few list rows rights given lent c ws a
+  unfolding turnOf
+  turned-is =
+      let d : u % 16 ≡ u = omega arith in
+      turned
+      ∙ (λ i. turnOf f (who-is i % 16) (getD ws (who-is i) nobody .doing) (getD ws (who-is i) nobody .announced) (getD ws (who-is i) nobody .pool .len)
+      (sym lent i) rows rights (cut i) a)
+      ∙ ap (λ (j : ℕ). turnOf f j (getD ws u nobody .doing) (getD ws u nobody .announced) (getD ws u nobody .pool .len) (given .totals) rows rights c a) d
+
+  abbrev left : Arm → Bool → ℕ → ℕ → State
+  left arm up v n = stateWith up (acted arm (siteOf f n rows rights) ws v t a′ given) kinds′ numbers′ last′
+
+  by-arm : (arm : Arm) (up : Bool) → t .arm ≡ arm → (f .up || isMakes arm) ≡ up
+      → (n : ℕ) → next (stateWith (f .up) (memoryOf (siteOf f n rows rights) ws a) kinds numbers last) given k c ≡ left arm up v n
+  by-arm arm up e eu n =
+      turn-taken f few list rows rights given lent c ws a n k kinds numbers last _ turned-is
+      ∙ (λ i. stateWith (f .up || isMakes (e i)) (acted (e i) (siteOf f n rows rights) ws u t a′ given) (sym (wrote .1 .0) i) (sym (wrote .1 .1) i)
+      (sym (wrote .0) i))
+      ∙ (λ i. left arm (eu i) (sym who-is i) n)
+
+  -- the loop goes on
+  pub on-arm : (arm : Arm) → isMakes arm ≡ false → t .arm ≡ arm → SoFar given bytes from count (k + 1) s (left arm (f .up) v)
+  on-arm arm not e =
+      one-more (left arm (f .up) v) R more (by-arm arm (f .up) e (ap (λ (y : Bool). f .up || y) not ∙ or-false (f .up)))
+
+  -- and ends before a setup
+  pub on-makes : t .arm ≡ Makes → Went given bytes from count (k + 1) true (t .sizes) s (λ n. stateWith (f .up) (memoryOf (siteOf f n rows rights) ws a′) kinds′ numbers′ last′)
+  on-makes e =
+      let M = one-more (left Makes true v) R more (by-arm Makes true e (or-true (f .up))) in
+      record {
+        inside = M .inside;
+        onward = λ h. let i = R .onward in omega arith;
+        few = λ h. few-made f few list rows rights given lent c ws a _ turned-is e;
+        state = M .state;
+      }
+
+  -- flush (2): the time of worker j is read
+  pub on-reads : (j i : ℕ) (times : List ℕ) → t .arm ≡ Reads → i ≡ t .read → j ≡ i % 16
+      → times ≡ set (a′ .times) (28 * v + j) (timeOf (getD ws j nobody .announced))
+      → SoFar given bytes from count (k + 1) s
+      (λ n. stateWith (f .up) (memoryOf (siteOf f n rows rights) (set ws v (atPlace (getD ws v nobody) (t .doing))) (withTimes a′ times)) kinds′ numbers′ last′)
+  on-reads j i times e ei ej et =
+      let q : j ≡ t .read % 16 = ej ∙ ap (λ (l : ℕ). l % 16) ei in
+      let all : times ≡ set (a′ .times) (28 * v + t .read % 16) (timeOf (getD ws (t .read % 16) nobody .announced)) =
+      et ∙ ap (λ (l : ℕ). set (a′ .times) (28 * v + l) (timeOf (getD ws l nobody .announced))) q in
+      subst (λ (l : List ℕ). SoFar given bytes from count (k + 1) s
+      (λ n. stateWith (f .up) (memoryOf (siteOf f n rows rights) (set ws v (atPlace (getD ws v nobody) (t .doing))) (withTimes a′ l)) kinds′ numbers′ last′))
+      (sym all) (on-arm Reads refl e)
+
+  -- put (3)
+  pub on-hands-in : (y : Worker) → t .arm ≡ HandsIn → y ≡ handedWorker (getD ws v nobody) t
+      → SoFar given bytes from count (k + 1) s (λ n. stateWith (f .up) (memoryOf (siteOf f n rows rights) (set ws v y) a′) kinds′ numbers′ last′)
+  on-hands-in y e ey =
+      subst (λ (z : Worker). SoFar given bytes from count (k + 1) s (λ n. stateWith (f .up) (memoryOf (siteOf f n rows rights) (set ws v z) a′) kinds′ numbers′ last′))
+      (sym ey) (on-arm HandsIn refl e)
+
+  -- flush (4), once the reads of all workers are moved
+  pub on-moves : (ws′ : List Worker) → t .arm ≡ Moves
+      → ws′ ≡ map (offWorker (t .slot) (t .older)) (set ws v (atPlace (getD ws v nobody) (t .doing)))
+      → SoFar given bytes from count (k + 1) s (λ n. stateWith (f .up) (memoryOf (siteOf f n rows rights) ws′ a′) kinds′ numbers′ last′)
+  on-moves ws′ e ew =
+      subst (λ (z : List Worker). SoFar given bytes from count (k + 1) s (λ n. stateWith (f .up) (memoryOf (siteOf f n rows rights) z a′) kinds′ numbers′ last′))
+      (sym ew) (on-arm Moves refl e)
+
+  -- flush (3)
+  pub on-splits : (i : ℕ) (old window : Window) (n : ℕ) (queue lens merged counts : List ℕ) → t .arm ≡ Splits → i ≡ t .read
+      → old ≡ windowIn (a′ .counts)
+      → n ≡ splitLeft (a′ .merged) v (t .merged) (a′ .times) i (getD ws v nobody .pool)
+      → poolsIn queue lens window
+      ≡ splitQueue (poolsIn (a′ .queue) (a′ .lens) old) (a′ .merged) v (t .merged) (a′ .times) i (f .batch) (getD ws v nobody .pool)
+      → merged ≡ splitMerged (a′ .merged) v (t .merged) (a′ .times) i (getD ws v nobody .pool) → counts ≡ countsAs (freeIn (a′ .counts)) window
+      → SoFar given bytes from count (k + 1) s
+      (λ l. stateWith (f .up) (memoryOf (siteOf f l rows rights) (set ws v (emptiedWorker (getD ws v nobody) n))
+      (parts (a′ .slots) (a′ .newest) (a′ .free) queue lens merged (a′ .clock) counts (a′ .times) (a′ .marks) (a′ .reading))) kinds′ numbers′ last′)
+  on-splits i old window n queue lens merged counts e ei eo en eq em ec =
+      let y = emptiedWorker (getD ws v nobody) n in
+      let pool = getD ws v nobody .pool in
+      let leaves : Worker → Parts → Type 0 = λ y p. SoFar given bytes from count (k + 1) s
+      (λ l. stateWith (f .up) (memoryOf (siteOf f l rows rights) (set ws v y) p) kinds′ numbers′ last′) in
+      let q₀ : poolsIn queue lens window
+      ≡ splitQueue (poolsIn (a′ .queue) (a′ .lens) (windowIn (a′ .counts))) (a′ .merged) v (t .merged) (a′ .times) (t .read) (f .batch) pool =
+      eq ∙ (λ j. splitQueue (poolsIn (a′ .queue) (a′ .lens) (eo j)) (a′ .merged) v (t .merged) (a′ .times) (ei j) (f .batch) pool) in
+      let y₀ : y ≡ splitWorker (getD ws v nobody) (splitLeft (a′ .merged) v (t .merged) (a′ .times) (t .read) pool) =
+      sym (empty-is (getD ws v nobody) n) ∙ ap (splitWorker (getD ws v nobody)) (en ∙ ap (λ (j : ℕ). splitLeft (a′ .merged) v (t .merged) (a′ .times) j pool) ei) in
+      let d₀ : merged ≡ splitMerged (a′ .merged) v (t .merged) (a′ .times) (t .read) pool =
+      em ∙ ap (λ (j : ℕ). splitMerged (a′ .merged) v (t .merged) (a′ .times) j pool) ei in
+      let split = withSplit a′
+      (splitQueue (poolsIn (a′ .queue) (a′ .lens) (windowIn (a′ .counts))) (a′ .merged) v (t .merged) (a′ .times) (t .read) (f .batch) pool)
+      (splitMerged (a′ .merged) v (t .merged) (a′ .times) (t .read) pool) in
+      let p₀ : parts (a′ .slots) (a′ .newest) (a′ .free) queue lens merged (a′ .clock) counts (a′ .times) (a′ .marks) (a′ .reading) ≡ split =
+      ap (λ (l : List ℕ). parts (a′ .slots) (a′ .newest) (a′ .free) queue lens merged (a′ .clock) l (a′ .times) (a′ .marks) (a′ .reading)) ec
+      ∙ (λ j. withSplit a′ (q₀ j) (d₀ j)) in
+      subst (leaves y) (sym p₀) (subst (λ (z : Worker). leaves z split) (sym y₀) (on-arm Splits refl e))
+
+-- before the first record, and behind the last
+pub begun : {given : Given} {bytes : List ℕ} {from count : ℕ} {s : ℕ → State} → from ≤ count → SoFar given bytes from count from s s
+begun h = record { inside = h; onward = omega arith; state = λ S n e. e }
+
+pub ended : {given : Given} {bytes : List ℕ} {from count k : ℕ} {s t : ℕ → State} {z : Sizes} → SoFar given bytes from count k s t → count ≤ k
+    → Went given bytes from count k false z s t
+ended R h =
+    record {
+      inside = R .inside;
+      onward = λ e. omega arith;
+      few = λ e. absurd (true≢false (sym e));
+      state = R .state;
+    }
+
+-- a row of answers and the workers keep their number
+pub kept-long : (l : List ℕ) (k x : ℕ) {l′ : List ℕ} {n : ℕ} → l′ ≡ set l k x → length l ≡ n → length l′ ≡ n
+kept-long l k x e h = ap length e ∙ length-set l k x ∙ h
+
+pub replaced : (ws : List Worker) (v : ℕ) (y : Worker) {n : ℕ} → length ws ≡ n → length (set ws v y) ≡ n
+replaced ws v y h = length-set ws v y ∙ h
