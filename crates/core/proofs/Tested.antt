@@ -12,8 +12,9 @@ use Rattle.theorem.proofs.Setup.{InRanges, in-ranges}
 use Rattle.state.specs.declared.Hub.{Hub}
 use Rattle.state.specs.State.{tableSound}
 use Rattle.decision.specs.Decision.{sizesOk}
-use Rattle.ready.specs.Ready.{sizesFit, scansFit, readyOf}
-use Rattle.ready.proofs.Sizes.{sizes-tell}
+use Rattle.ready_sizes.specs.Sizes.{sizesFit}
+use Rattle.ready.specs.Ready.{scansFit, readyOf}
+use Rattle.ready_sizes.proofs.Sizes.{sizes-tell}
 
 both : (a b : Bool) → a && b ≡ true → (a ≡ true) × (b ≡ true)
 both true b e = (refl, e)

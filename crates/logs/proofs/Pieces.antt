@@ -10,7 +10,8 @@ use lib.Seq.{length-take-le}
 use Rattle.model.specs.Rules.{inForce}
 use Rattle.model.specs.Log.{logOf}
 use Rattle.slots.specs.Slots.{slotOf}
-use Rattle.ready.specs.Ready.{sizesFit, scansFit, readyOf}
+use Rattle.ready_sizes.specs.Sizes.{sizesFit}
+use Rattle.ready.specs.Ready.{scansFit, readyOf}
 use Rattle.model.specs.Store.{Hub, blank}
 use Rattle.model.specs.Rights.{tableOf, tableFits}
 use Rattle.model.specs.Answer.{Ok, No}

@@ -18,28 +18,13 @@ use Rattle.worker.specs.declared.Worker.{Worker}
 use Rattle.places.specs.About.{aboutOf}
 use Rattle.slots.specs.Slots.{linkedTo}
 use Rattle.state.specs.State.{workerIn, tableSound}
-use Rattle.ready.specs.Ready.{
-  rowsBelow,
-  sumFits,
-  readFits,
-  purposeFits,
-  belowTo,
-  slotsBelow,
-  poolFits,
-  rangesFit,
-  handFits,
-  namedBelow,
-  placeFits,
-  workerFits,
-  workersFit,
-  lensFit,
-  lensSum,
-  besides,
-  sizesFit,
-  scansFit,
-  readyOf,
-}
-use Rattle.ready.proofs.Sizes.{WindowIn, and-both, sizes-tell, sizes-yes}
+use Rattle.scans.specs.Scans.{rowsBelow, belowTo, slotsBelow}
+use Rattle.ready_place.specs.Place.{sumFits, readFits, purposeFits, namedBelow, placeFits}
+use Rattle.ready_sizes.specs.Sizes.{besides, sizesFit}
+use Rattle.ready_queue.specs.Queue.{lensFit, lensSum}
+use Rattle.ready_worker.specs.Worker.{poolFits, rangesFit, handFits, workerFits}
+use Rattle.ready.specs.Ready.{workersFit, scansFit, readyOf}
+use Rattle.ready_sizes.proofs.Sizes.{WindowIn, and-both, sizes-tell, sizes-yes}
 use Rattle.simulation.specs.Memory.{Memory}
 use Rattle.simulation.specs.Left.{ready}
 use Rattle.simulation.specs.Ranges.{TimesRead, PurposeInRange, PlaceInRange, WorkerInRange, InRanges, ReadyExactly}

@@ -34,7 +34,9 @@ use Rattle.queue.specs.State.{Begins}
 use Rattle.queue.specs.Rep.{joinedRanges}
 use Rattle.queue.proofs.Rep.{lens-held, words-held}
 use Rattle.flush.specs.Flush.{partOf}
-use Rattle.ready.specs.Ready.{poolFits, listFits, rangesFit, handFits, namedBelow, readFits, purposeFits, placeFits, workerFits, lensSum}
+use Rattle.ready_place.specs.Place.{namedBelow, readFits, purposeFits, placeFits}
+use Rattle.ready_queue.specs.Queue.{lensSum}
+use Rattle.ready_worker.specs.Worker.{poolFits, listFits, rangesFit, handFits, workerFits}
 use Rattle.simulation.specs.Memory.{Memory, memory, hubRep, handWords, inHandWords, write}
 use Rattle.simulation.specs.Left.{Sized, ready}
 use Rattle.simulation.specs.Shell.{queueIn}

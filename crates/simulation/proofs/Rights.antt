@@ -12,7 +12,7 @@ use borrow.Author.Tests.{le-leb, leb-true, eq-eqb, eqb-true}
 use Rattle.lists.specs.Over.{over}
 use Rattle.lists.proofs.Over.{over-nil, getD-over-in}
 use Rattle.model.specs.Rights.{eachOf, workerOf, rightsOf, firstRegister, lastRegister, lastPair, rightFits, tableStands}
-use Rattle.ready.proofs.Sizes.{and-both}
+use Rattle.ready_sizes.proofs.Sizes.{and-both}
 use Rattle.state.specs.declared.Hub.{Hub}
 use Rattle.state.specs.State.{tableKept, tableSound, standing, standingCount}
 use Rattle.simulation.specs.Ranges.{RightInRange}

@@ -27,20 +27,12 @@ use Rattle.state.specs.State.{workerIn}
 use Rattle.ranges.specs.Words.{flat}
 use Rattle.ranges.proofs.WordLaws.{length-flat}
 use Rattle.queue.specs.Rep.{joinedRanges}
-use Rattle.ready.specs.Ready.{
-  rowsBelow,
-  belowTo,
-  slotsBelow,
-  poolFits,
-  listFits,
-  rangesFit,
-  namedBelow,
-  workerFits,
-  workersFit,
-  lensFit,
-  lensSum,
-}
-use Rattle.ready.proofs.Sizes.{and-both}
+use Rattle.scans.specs.Scans.{rowsBelow, belowTo, slotsBelow}
+use Rattle.ready_place.specs.Place.{namedBelow}
+use Rattle.ready_queue.specs.Queue.{lensFit, lensSum}
+use Rattle.ready_worker.specs.Worker.{poolFits, listFits, rangesFit, workerFits}
+use Rattle.ready.specs.Ready.{workersFit}
+use Rattle.ready_sizes.proofs.Sizes.{and-both}
 
 ------------------------------------------------------------------------
 -- A test of all below k

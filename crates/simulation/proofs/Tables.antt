@@ -16,8 +16,9 @@ use Rattle.model.specs.Apply.{giveTable}
 use Rattle.values.specs.declared.Answer.{Answer}
 use Rattle.values.specs.declared.Answer.the-variants.{Ok, No}
 use Rattle.values.specs.Meaning.{answerOf}
-use Rattle.ready.proofs.Sizes.{and-both}
-use Rattle.ready.specs.Ready.{sizesFit, scansFit, readyOf}
+use Rattle.ready_sizes.proofs.Sizes.{and-both}
+use Rattle.ready_sizes.specs.Sizes.{sizesFit}
+use Rattle.ready.specs.Ready.{scansFit, readyOf}
 use Rattle.slots.specs.Slots.{slotOf}
 use Rattle.state.specs.declared.Hub.{Hub}
 use Rattle.state.specs.State.{standing, tableSound}

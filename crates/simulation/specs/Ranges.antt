@@ -19,7 +19,7 @@ use Rattle.slots.specs.Slots.{vacantSlot}
 use Rattle.state.specs.declared.Hub.{Hub}
 use Rattle.state.specs.State.{workerIn}
 use Rattle.queue.specs.State.{Begins}
-use Rattle.ready.specs.Ready.{lensSum}
+use Rattle.ready_queue.specs.Queue.{lensSum}
 use Rattle.simulation.specs.Memory.{Memory}
 use Rattle.simulation.specs.Left.{ready}
 

@@ -5,6 +5,7 @@ use Prim.Native.Nat.{_-_, _≤_}
 use native.Mathlib.Numerals.{add-one}
 use native.Mathlib.Omega.{arith}
 use borrow.Author.Needs.{needs}
+use borrow.Author.Tests.{le-leb}
 use Rattle.ready.specs.Ready.{workersFit}
 use Rattle.ready.proofs.workers_fit.Statement.{statement}
 use Rattle.ready.proofs.workers_fit.Tie as tie
@@ -48,7 +49,12 @@ loop-less c = omega arith
 
 loop-again : tie.Need-loop-again Inv-loop μ-loop
 unfolding workersFit
-loop-again c = (omega arith, rw (add-one, ← c .before .before .before .loop .inv .1, ← c .worker-fits .ensures))
+loop-again c =
+    let a = c .before .before .before .before .args in
+    let l : a .local ≤ 64 = omega arith in
+    let h : a .list ≤ 256 = omega arith in
+    let e = rw (le-leb (a .local) 64 l, le-leb (a .list) 256 h) at (c .worker-fits .ensures) in
+    (omega arith, rw (add-one, ← c .before .before .before .loop .inv .1, ← e))
 
 returns : tie.Need-returns Inv-loop μ-loop
 returns c = let e : c .before .loop .w ≡ c .before .before .args .t1 .site .p = omega arith in rw e at (c .before .loop .inv .1)
