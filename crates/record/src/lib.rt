@@ -1,7 +1,7 @@
 // The record decoder.
 ghost use mathlib.Core.Path.{_≡_};
 ghost use mathlib.Core.Bool.{cond};
-ghost use Prim.Native.Nat.{_+_, _*_, _≤_, _<_};
+ghost use Prim.Native.Nat.{_+_, _≤_, _<_};
 ghost use lib.Dec.{ltb};
 ghost use lib.ListN.{length, getD};
 ghost use Rattle.model.specs.Record.{number, zeros};
@@ -42,19 +42,7 @@ fn wide16(x: u8) -> u16
     x as u16
 }
 
-fn wide32(x: u16) -> u32
-    ensures { λ r. ⌜ (r ≡ x) × (r < 65536) ⌝ }
-{
-    x as u32
-}
-
-fn wide64(x: u32) -> u64
-    ensures { λ r. ⌜ (r ≡ x) × (r < 4294967296) ⌝ }
-{
-    x as u64
-}
-
-// The numbers in one, two, four and eight bytes from place i on, least byte first; four are a row of the list of totals too.
+// The numbers in one, two, four and eight bytes from place i on.
 fn one(b: &[u8], i: usize) -> u8
     requires { ⌜ i + 1 ≤ length (now b) ⌝ }
     ensures { λ r. ⌜ r ≡ number (now (b .entry)) i 1 ⌝ }
@@ -66,79 +54,51 @@ fn two(b: &[u8], i: usize) -> u16
     requires { ⌜ i + 2 ≤ length (now b) ⌝ }
     ensures { λ r. ⌜ r ≡ number (now (b .entry)) i 2 ⌝ }
 {
-    wide16(one(b, i)) + 256 * wide16(one(b, i + 1))
+    le::two(b, i)
 }
 
-pub fn four(b: &[u8], i: usize) -> u32
+fn four(b: &[u8], i: usize) -> u32
     requires { ⌜ i + 4 ≤ length (now b) ⌝ }
     ensures { λ r. ⌜ r ≡ number (now (b .entry)) i 4 ⌝ }
 {
-    wide32(two(b, i)) + 65536 * wide32(two(b, i + 2))
+    le::four(b, i)
 }
 
-pub fn eight(b: &[u8], i: usize) -> u64
+fn eight(b: &[u8], i: usize) -> u64
     requires { ⌜ i + 8 ≤ length (now b) ⌝ }
     ensures { λ r. ⌜ r ≡ number (now (b .entry)) i 8 ⌝ }
 {
-    wide64(four(b, i)) + 4294967296 * wide64(four(b, i + 4))
+    le::eight(b, i)
 }
 
-// Whether the one, two, four or eight bytes from place i on are zero: their number is.
-fn no_one(b: &[u8], i: usize) -> bool
-    requires { ⌜ i + 1 ≤ length (now b) ⌝ }
-    ensures { λ r. ⌜ r ≡ zeros (now (b .entry)) i 1 ⌝ }
-{
-    one(b, i) == 0
-}
-
-fn no_two(b: &[u8], i: usize) -> bool
-    requires { ⌜ i + 2 ≤ length (now b) ⌝ }
-    ensures { λ r. ⌜ r ≡ zeros (now (b .entry)) i 2 ⌝ }
-{
-    two(b, i) == 0
-}
-
-fn no_four(b: &[u8], i: usize) -> bool
-    requires { ⌜ i + 4 ≤ length (now b) ⌝ }
-    ensures { λ r. ⌜ r ≡ zeros (now (b .entry)) i 4 ⌝ }
-{
-    four(b, i) == 0
-}
-
-fn no_eight(b: &[u8], i: usize) -> bool
-    requires { ⌜ i + 8 ≤ length (now b) ⌝ }
-    ensures { λ r. ⌜ r ≡ zeros (now (b .entry)) i 8 ⌝ }
-{
-    eight(b, i) == 0
-}
-
-// Whether the bytes 5 to 7 are zero, whether the bytes 5 to 15 are, whether the bytes 4 to 15 are, and whether the bytes 2 to 15 are.
+// Whether the bytes 5 to 7 are zero, whether the bytes 5 to 15 are, whether the bytes 4 to 15 are, and whether the bytes 2 to 15 are: they
+// are where their number is.
 fn none_5_to_7(b: &[u8]) -> bool
     requires { ⌜ 16 ≤ length (now b) ⌝ }
     ensures { λ r. ⌜ r ≡ zeros (now (b .entry)) 5 3 ⌝ }
 {
-    no_one(b, 5) & no_two(b, 6)
+    (one(b, 5) == 0) & (two(b, 6) == 0)
 }
 
 fn none_from_5(b: &[u8]) -> bool
     requires { ⌜ 16 ≤ length (now b) ⌝ }
     ensures { λ r. ⌜ r ≡ zeros (now (b .entry)) 5 11 ⌝ }
 {
-    none_5_to_7(b) & no_eight(b, 8)
+    none_5_to_7(b) & (eight(b, 8) == 0)
 }
 
 fn none_from_4(b: &[u8]) -> bool
     requires { ⌜ 16 ≤ length (now b) ⌝ }
     ensures { λ r. ⌜ r ≡ zeros (now (b .entry)) 4 12 ⌝ }
 {
-    no_four(b, 4) & no_eight(b, 8)
+    (four(b, 4) == 0) & (eight(b, 8) == 0)
 }
 
 fn none_from_2(b: &[u8]) -> bool
     requires { ⌜ 16 ≤ length (now b) ⌝ }
     ensures { λ r. ⌜ r ≡ zeros (now (b .entry)) 2 14 ⌝ }
 {
-    no_two(b, 2) & none_from_4(b)
+    (two(b, 2) == 0) & none_from_4(b)
 }
 
 // Operation 0.
@@ -146,7 +106,7 @@ fn set_up(rec: &[u8]) -> Decoded
     requires { ⌜ 16 ≤ length (now rec) ⌝ }
     ensures { λ r. ⌜ decodedOf r ≡ checkedOf (now (rec .entry)) 0 ⌝ }
 {
-    if no_two(rec, 6) & no_four(rec, 12) {
+    if (two(rec, 6) == 0) & (four(rec, 12) == 0) {
         return Decoded::Asks(Command::SetUp {
             p: one(rec, 1),
             v: two(rec, 2),

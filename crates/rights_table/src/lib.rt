@@ -23,7 +23,7 @@ fn fill_table(rights: &mut [u64; 64], table: &[u8])
     let to: &mut [u64] = rights;
     let room = bounds::at_most(table.len() / 8, to.len());
     for i in 0..room {
-        to[i] = record::eight(table, 8 * i);
+        to[i] = le::eight(table, 8 * i);
     }
 }
 

@@ -41,7 +41,7 @@ pub fn list_ok(list: &[u8], v: u16) -> bool
     let mut last: u16 = 0;
     let rows = list.len() / 4;
     for i in 0..rows {
-        let row = record::four(list, 4 * i);
+        let row = le::four(list, 4 * i);
         let stand = rows_before(group, last, row);
         if may_follow(v, group, stand, row) {
             group = total_row::group_of(row);
@@ -60,6 +60,6 @@ pub fn fill_rows(rows: &mut [u32; 1024], list: &[u8])
     let to: &mut [u32] = rows;
     let room = total_row::counted(to, list.len() / 4);
     for i in 0..room {
-        to[i] = record::four(list, 4 * i);
+        to[i] = le::four(list, 4 * i);
     }
 }

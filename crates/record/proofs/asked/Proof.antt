@@ -1,12 +1,17 @@
 -- `asked` meets its contract: each arm rewrites with its operation, and the last has an operation above 11.
-use Prim.Native.Nat.{_<_, zero-le}
+use mathlib.Core.Path.{_≡_}
+use Prim.Native.Nat.{ℕ, _+_, _<_, _≤_, zero-le}
+use native.Mathlib.Omega.{arith}
 use lib.ListN.{getD}
 use borrow.Author.Tests.{lt-ltb}
 use Rattle.model.specs.Record.{commandOf, unusedZero}
-use Rattle.record.proofs.Numbers.{past-three}
 use borrow.Author.Needs.{needs}
 use Rattle.record.proofs.asked.Statement.{statement}
 use Rattle.record.proofs.asked.Tie as tie
+
+-- a number from k on that is none of the first three is past them
+past-three : {n : ℕ} (k : ℕ) → k ≤ n → (n ≡ k → ⊥) → (n ≡ k + 1 → ⊥) → (n ≡ k + 2 → ⊥) → k + 3 ≤ n
+past-three k l a b c = omega arith
 
 shared-slice-read-operation : tie.Need-shared-slice-read-operation
 shared-slice-read-operation c = search needs

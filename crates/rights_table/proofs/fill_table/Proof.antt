@@ -1,11 +1,12 @@
 -- `fill_table` meets its contract. The invariant: the first i rows of the table have replaced the first i entries.
 use mathlib.Core.Path.{_≡_, sym, ap, _∙_}
 use mathlib.Core.List.{List}
-use Prim.Native.Nat.{ℕ, _-_, _≤_, min}
+use Prim.Native.Nat.{ℕ, _*_, _-_, _≤_, min}
 use native.Mathlib.Omega.{arith}
 use lib.ListN.{length, take}
 use borrow.Author.Needs.{needs}
 use Rattle.lists.specs.Over.{over}
+use Rattle.le.proofs.Numbers.{number-there}
 use Rattle.lists.proofs.Over.{over-nil}
 use Rattle.model.specs.Rights.{tableOf}
 use Rattle.bounds.proofs.Room.{take-room}
@@ -29,7 +30,7 @@ mul-eight : tie.Need-mul-eight Inv-loop μ-loop
 mul-eight c = omega arith
 
 eight-requires : tie.Need-eight-requires Inv-loop μ-loop
-eight-requires c κs = omega arith
+eight-requires c κs = search needs
 
 mul-to : tie.Need-mul-to Inv-loop μ-loop
 mul-to c = omega arith
@@ -46,7 +47,9 @@ loop-less c = omega arith
 loop-again : tie.Need-loop-again Inv-loop μ-loop
 loop-again c =
     let a = c .before .before in
-    (omega arith, filled-more _ _ _ _ _ (omega arith) (omega arith) (c .eight .ensures) (a .loop .inv .1), search needs)
+    let b = c .before .before .before .before .before .before .args .table .now in
+    let e = c .eight .ensures ∙ number-there b (8 * a .loop .i) 8 (omega arith) in
+    (omega arith, filled-more _ _ _ _ _ (omega arith) (omega arith) e (a .loop .inv .1), search needs)
 
 returns : tie.Need-returns Inv-loop μ-loop
 returns c =

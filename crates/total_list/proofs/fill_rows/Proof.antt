@@ -1,11 +1,12 @@
 -- `fill_rows` meets its contract. The invariant: the first i rows of the list have replaced the first i entries.
 use mathlib.Core.Path.{_≡_, sym, ap, _∙_}
 use mathlib.Core.List.{List}
-use Prim.Native.Nat.{ℕ, _-_, _≤_}
+use Prim.Native.Nat.{ℕ, _*_, _-_, _≤_}
 use native.Mathlib.Omega.{arith}
 use lib.ListN.{length, take}
 use borrow.Author.Needs.{needs}
 use Rattle.lists.specs.Over.{over}
+use Rattle.le.proofs.Numbers.{number-there}
 use Rattle.lists.proofs.Over.{over-nil}
 use Rattle.model.specs.Record.{rowsOf}
 use Rattle.total_list.proofs.Listed.{length-rows, filled-more}
@@ -29,7 +30,7 @@ mul-four : tie.Need-mul-four Inv-loop μ-loop
 mul-four c = omega arith
 
 four-requires : tie.Need-four-requires Inv-loop μ-loop
-four-requires c κs = omega arith
+four-requires c κs = search needs
 
 mul-to : tie.Need-mul-to Inv-loop μ-loop
 mul-to c = omega arith
@@ -46,7 +47,9 @@ loop-less c = omega arith
 loop-again : tie.Need-loop-again Inv-loop μ-loop
 loop-again c =
     let a = c .before .before in
-    (omega arith, filled-more _ _ _ _ _ (omega arith) (omega arith) (c .four .ensures) (a .loop .inv .1), search needs)
+    let b = c .before .before .before .before .before .before .before .args .list .now in
+    let e = c .four .ensures ∙ number-there b (4 * a .loop .i) 4 (omega arith) in
+    (omega arith, filled-more _ _ _ _ _ (omega arith) (omega arith) e (a .loop .inv .1), search needs)
 
 returns : tie.Need-returns Inv-loop μ-loop
 returns c =

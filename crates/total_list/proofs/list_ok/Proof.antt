@@ -1,12 +1,13 @@
 -- `list_ok` meets its contract. The invariant: the rows before i pass, and so many rows of the group stand last among them.
 use mathlib.Core.Path.{_≡_, refl, sym, _∙_}
 use mathlib.Core.Bool.{and-false}
-use Prim.Native.Nat.{_-_, _/_, _%_, _≤_, _<_}
+use Prim.Native.Nat.{_*_, _-_, _/_, _%_, _≤_, _<_}
 use native.Mathlib.Omega.{arith}
 use lib.ListN.{length}
 use borrow.Author.Needs.{needs}
 use borrow.Author.Tests.{eq-eqb, ne-eqb}
 use Rattle.model.specs.Record.{rowsOf, listFits}
+use Rattle.le.proofs.Numbers.{number-there}
 use Rattle.total_list.proofs.Listed.{length-rows, row-in}
 use Rattle.total_list.proofs.Follow.{Passed, Turn, passed-more, failed, passed-all, long-fails}
 use Rattle.total_list.proofs.list_ok.Statement.{statement}
@@ -36,7 +37,7 @@ mul-four : tie.Need-mul-four Inv-loop μ-loop
 mul-four c = omega arith
 
 four-requires : tie.Need-four-requires Inv-loop μ-loop
-four-requires c κs = omega arith
+four-requires c κs = search needs
 
 rows-before-requires : tie.Need-rows-before-requires Inv-loop μ-loop
 rows-before-requires c κs = search needs
@@ -58,7 +59,7 @@ turn c =
     record {
       passed = l .loop .inv .2;
       inside = omega (arith, length-rows (s .list .now));
-      row = read .four .ensures ∙ sym (row-in (s .list .now) (l .loop .i) inside);
+      row = read .four .ensures ∙ number-there (s .list .now) (4 * l .loop .i) 4 (omega arith) ∙ sym (row-in (s .list .now) (l .loop .i) inside);
       stand = c .before .rows-before .ensures .0;
       test = c .may-follow .ensures;
     }

@@ -1,14 +1,14 @@
--- Laws of the numbers, the unused bytes and the operation of a record: a number is put together from two parts, bytes are zero where their
--- number is, and a number that is none of three in a row is past them. By induction on the count of bytes, and by `omega`.
+-- Laws of numbers in bytes: a number is put together from two parts, and bytes are zero where their number is. By induction
+-- on the count of bytes.
 use mathlib.Core.Path.{_≡_, refl, sym, ap, _∙_}
-use mathlib.Core.Bool.{Bool, _&&_, and-assoc}
+use mathlib.Core.Bool.{Bool, cond, _&&_, and-assoc}
 use mathlib.Core.List.{List}
 use Prim.Native.Nat.{ℕ, zero, suc, _+_, _*_, _^_, _≤_}
 use native.Mathlib.Nat.{add-zero, zero-add, suc-add, add-assoc, mul-add, mul-assoc, pow-succ', one-mul}
 use native.Mathlib.Omega.{arith}
-use borrow.Author.Tests.{ne-eqb}
-use lib.Dec.{eqb, eqb·suc-zero}
-use lib.ListN.{getD}
+use borrow.Author.Tests.{ne-eqb, le-leb}
+use lib.Dec.{leb, eqb, eqb·suc-zero}
+use lib.ListN.{length, getD}
 use Rattle.model.specs.Record.{number, zeros}
 
 -- a number is zero where its first byte and the rest are
@@ -19,6 +19,10 @@ sum-zero (suc x) y =
     ne-eqb (suc x + 256 * y) 0 (λ e. absurd (omega (arith, e))) ∙ ap (λ (t : Bool). t && eqb y 0) (sym (eqb·suc-zero x))
 
 module _ (b : List ℕ) where
+  -- a number is read where its bytes are there
+  pub number-there : (i n : ℕ) → i + n ≤ length b → cond (leb (i + n) (length b)) (number b i n) 0 ≡ number b i n
+  number-there i n h = rw (le-leb (i + n) (length b) h)
+
   -- the number in m + n bytes from those in the first m and in the next n,
   number-parts : (i m n : ℕ) → number b i m + 256 ^ m * number b (i + m) n ≡ number b i (m + n)
   number-parts i zero n = simp (add-zero, zero-add, one-mul)
@@ -43,7 +47,3 @@ module _ (b : List ℕ) where
   zeros-parts i (suc m) n =
       let s : i + suc m ≡ suc i + m = omega arith in
       rw (suc-add m n, ← zeros-parts (suc i) m n, s, and-assoc)
-
--- a number from k on that is none of the first three is past them
-pub past-three : {n : ℕ} (k : ℕ) → k ≤ n → (n ≡ k → ⊥) → (n ≡ k + 1 → ⊥) → (n ≡ k + 2 → ⊥) → k + 3 ≤ n
-past-three k l a b c = omega arith
