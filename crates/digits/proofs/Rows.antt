@@ -1,45 +1,20 @@
--- The bytes of a row as they are written, and the loops over the rows of a buffer. What the rows that are left are tested by, or given, leads
--- to the same for all rows: a turn takes the first of them off, by the definitions' own recursion; at the end none is left.
+-- The loops over the rows of a buffer. What the rows that are left are tested by, or given, leads to the same for all rows: a turn takes the first
+-- of them off, by the definitions' own recursion; at the end none is left.
 use mathlib.Core.Path.{_≡_, refl, sym, ap, _∙_}
 use mathlib.Core.Bool.{Bool, true, false, _&&_}
-use mathlib.Core.List.{List, [], _∷_, _++_, append-assoc, append-nil}
+use mathlib.Core.List.{List, _++_, append-assoc}
 use Prim.Native.Nat.{ℕ, suc, _+_, _-_, _*_, _≤_, _<_}
 use native.Mathlib.Omega.{arith}
-use lib.ListN.{length, take, drop, set, length-append, length-drop, length-set, take-append-drop, drop-of-length-le}
-use lib.Seq.{take-at, take-suc-set, drop-at, drop-drop, length-take-le}
-use Rattle.lists.specs.Over.{overAt}
-use Rattle.model.specs.Row.{bytesOf}
-use Rattle.model.specs.Digits.{bcdOf, Form, dif, vif, mayBe, inForm, allMayBe, allInForm}
+use lib.ListN.{length, take, drop, length-append, length-drop, take-append-drop}
+use lib.Seq.{take-at, drop-at, drop-drop, length-take-le}
+use Rattle.model.specs.Digits.{Form, mayBe, inForm, allMayBe, allInForm}
 use Rattle.model.proofs.Digits.{length-inForm}
-
-------------------------------------------------------------------------
--- One row
-
--- bytes written over the last ones
-over-last : (i : ℕ) (p d : List ℕ) → i + length p ≡ length d → overAt i p d ≡ take i d ++ p
-unfolding overAt
-over-last i p d h = rw (drop-of-length-le d {i = i + length p} (omega arith)) (append-nil (take i d ++ p))
-
-pub put-old : (row : List ℕ) (x : ℕ) → length row ≡ 16 → overAt 8 (bytesOf 8 x) row ≡ take 8 row ++ bytesOf 8 x
-put-old row x l = over-last 8 (bytesOf 8 x) row (omega arith)
-
-pub put-new : (row : List ℕ) (x : ℕ) → length row ≡ 16
-    → overAt 10 (bcdOf 6 x) (set (set row 8 dif) 9 vif) ≡ take 8 row ++ (dif ∷ vif ∷ bcdOf 6 x)
-put-new row x l =
-    let e : length (set row 8 dif) ≡ 16 = length-set row 8 dif ∙ l in
-    let f : length (set (set row 8 dif) 9 vif) ≡ 16 = length-set (set row 8 dif) 9 vif ∙ e in
-    rw (
-      over-last 10 (bcdOf 6 x) (set (set row 8 dif) 9 vif) (sym f),
-      take-suc-set (set row 8 dif) 9 vif (omega arith),
-      take-suc-set row 8 dif (omega arith),
-    )
-    (append-assoc (take 8 row ++ (dif ∷ [])) (vif ∷ []) (bcdOf 6 x) ∙ append-assoc (take 8 row) (dif ∷ []) (vif ∷ bcdOf 6 x))
 
 ------------------------------------------------------------------------
 -- The rows of a buffer
 
 -- row i as it is lent on
-abbrev lent : List ℕ → ℕ → List ℕ
+abbrev pub lent : List ℕ → ℕ → List ℕ
 lent buf i = take (16 * i + 16 - 16 * i) (drop (16 * i) buf)
 
 -- it has sixteen bytes, and the next row is behind it
@@ -49,6 +24,9 @@ module _ (buf : List ℕ) (i : ℕ) where
 
   behind : drop 16 (drop (16 * i) buf) ≡ drop (16 * (i + 1)) buf
   behind = let e : 16 * i + 16 ≡ 16 * (i + 1) = omega arith in drop-drop 16 (16 * i) buf ∙ ap (λ (k : ℕ). drop k buf) e
+
+  pub lent-long : (n : ℕ) → 16 * n ≤ length buf → i < n → length (lent buf i) ≡ 16
+  lent-long n fits h = rw sixteen (length-take-le 16 (drop (16 * i) buf) (rw (length-drop (16 * i) buf) (omega arith)))
 
 ------------------------------------------------------------------------
 -- The test of all rows

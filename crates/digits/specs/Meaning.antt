@@ -1,13 +1,7 @@
--- What the forms and the answers of this crate mean: those of H14, as the model has them.
+-- What the answers of this crate mean: those of H14, as the model has them.
 use Rattle.model.specs.Digits as Model
-use Rattle.digits.specs.declared.Form.{Form}
-use Rattle.digits.specs.declared.Form.the-variants.{Old, New}
 use Rattle.digits.specs.declared.RowsAnswer.{RowsAnswer}
 use Rattle.digits.specs.declared.RowsAnswer.the-variants.{Converted, No}
-
-abbrev pub formOf : Form → Model.Form
-formOf Old = Model.Old
-formOf New = Model.New
 
 -- converted, or the number of the refusal
 abbrev pub rowsAnswerOf : RowsAnswer → Model.RowsAnswer

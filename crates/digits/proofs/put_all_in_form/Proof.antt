@@ -1,8 +1,10 @@
 -- `put_all_in_form` meets its contract: the loop keeps `Putting`, by which the rows that are left lead to what is to be left behind.
 use Prim.Native.Nat.{_-_}
-use Rattle.digits.specs.Meaning.{formOf}
-use Rattle.digits.proofs.Rows.{Putting, putting-start, putting-turn, putting-end}
+use Rattle.row_form.specs.Meaning.{formOf}
+use Rattle.digits.proofs.Rows.{lent-long, Putting, putting-start, putting-turn, putting-end}
+use native.Mathlib.Omega.{arith}
 use borrow.Author.Needs.{needs}
+use borrow.Author.Tests.{eq-eqb}
 use Rattle.digits.proofs.put_all_in_form.Statement.{statement}
 use Rattle.digits.proofs.put_all_in_form.Tie as tie
 
@@ -42,7 +44,11 @@ loop-less c = search needs
 loop-again : tie.Need-loop-again Inv-loop μ-loop
 loop-again c =
     let t = c .before .before .before .before in
-    putting-turn _ _ _ (search needs) _ _ _ (t .before .loop .inv) (t .loop-test .taken) (c .before .before .put-in-form .ensures)
+    let s = t .before .before .before in
+    let k = t .before .loop .inv .kept in
+    let l = lent-long (t .before .loop .rows) (t .before .loop .i) (s .args .n) (omega (arith, k, s .pre)) (t .loop-test .taken) in
+    let e = rw (eq-eqb _ _ l) at (c .before .before .put-in-form .ensures) in
+    putting-turn _ _ _ (search needs) _ _ _ (t .before .loop .inv) (t .loop-test .taken) e
 
 same-length : tie.Need-same-length Inv-loop μ-loop
 same-length c = c .before .loop .inv .kept

@@ -4,8 +4,8 @@ use Prim.Native.Nat.{_-_}
 use Rattle.lists.proofs.Storing.{Storing, storing-start, storing-turn, storing-end}
 use Rattle.model.specs.Digits.{bcdOf}
 use borrow.Author.Needs.{needs}
-use Rattle.digits.proofs.put_bcd.Statement.{statement}
-use Rattle.digits.proofs.put_bcd.Tie as tie
+use Rattle.row_form.proofs.put_bcd.Statement.{statement}
+use Rattle.row_form.proofs.put_bcd.Tie as tie
 
 abbrev Inv-loop : tie.InvT-loop
 Inv-loop row₀ x rest₀ i₀ row rest i = Storing bcdOf row₀ row 10 6 x rest i

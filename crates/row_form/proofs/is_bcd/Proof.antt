@@ -3,8 +3,8 @@ use mathlib.Core.Bool.{and-true}
 use lib.ListN.{getD}
 use Rattle.model.specs.Digits.{isBcdByte}
 use borrow.Author.Needs.{needs}
-use Rattle.digits.proofs.is_bcd.Statement.{statement}
-use Rattle.digits.proofs.is_bcd.Tie as tie
+use Rattle.row_form.proofs.is_bcd.Statement.{statement}
+use Rattle.row_form.proofs.is_bcd.Tie as tie
 
 is-bcd-at-requires : tie.Need-is-bcd-at-requires
 is-bcd-at-requires c κs = search needs

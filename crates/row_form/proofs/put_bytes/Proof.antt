@@ -4,8 +4,8 @@ use Prim.Native.Nat.{_-_}
 use Rattle.lists.proofs.Storing.{Storing, storing-start, storing-turn, storing-end}
 use Rattle.model.specs.Row.{bytesOf}
 use borrow.Author.Needs.{needs}
-use Rattle.digits.proofs.put_bytes.Statement.{statement}
-use Rattle.digits.proofs.put_bytes.Tie as tie
+use Rattle.row_form.proofs.put_bytes.Statement.{statement}
+use Rattle.row_form.proofs.put_bytes.Tie as tie
 
 abbrev Inv-loop : tie.InvT-loop
 Inv-loop row₀ x rest₀ i₀ row rest i = Storing bytesOf row₀ row 8 8 x rest i
