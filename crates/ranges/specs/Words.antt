@@ -21,7 +21,3 @@ flat (ρ ∷ l) = ρ .slot ∷ ρ .low ∷ ρ .high ∷ flat l
 -- the range at place k replaced
 abbrev pub putAt : List ℕ → ℕ → Range → List ℕ
 putAt s k ρ = set (set (set s (3 * k) (ρ .slot)) (3 * k + 1) (ρ .low)) (3 * k + 2) (ρ .high)
-
--- the ranges at places i and k exchanged
-abbrev pub swapAt : List ℕ → ℕ → ℕ → List ℕ
-swapAt s i k = putAt (putAt s i (rangeAt s k)) k (rangeAt s i)

@@ -6,7 +6,7 @@ use lib.ListN.{length}
 use Rattle.lists.specs.Over.{over}
 use Rattle.model.specs.Ranges.{neededOf, needlessOf}
 use Rattle.ranges.specs.Words.{rangesAt, flat}
-use Rattle.ranges.specs.Split.{Parted}
+use Rattle.range_split.specs.Split.{Parted}
 use Rattle.flush.specs.Flush.{partOf, withPart}
 use Rattle.flush.proofs.PartLaws.{lent, back, lent-part, back-part}
 

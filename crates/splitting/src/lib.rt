@@ -101,7 +101,7 @@ fn split_part(
     let all = &times[..];
     let from = 28 * w;
     let to = from + 28;
-    ranges::split(&mut merged[at..e], m, &all[from..to], read, needed)
+    range_split::split(&mut merged[at..e], m, &all[from..to], read, needed)
 }
 
 // Whether the counts allow a split.

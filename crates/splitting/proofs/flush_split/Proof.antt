@@ -5,7 +5,7 @@ use mathlib.Core.Bool.{true}
 use Prim.Native.Nat.{_≤_, _<_}
 use native.Mathlib.Omega.{arith}
 use borrow.Author.Needs.{needs}
-use Rattle.ranges.proofs.SplitLaws.{needless-few}
+use Rattle.range_split.proofs.SplitLaws.{needless-few}
 use Rattle.queue.specs.State.{poolsIn}
 use Rattle.flush.specs.Flush.{partOf}
 use Rattle.splitting.specs.Splitting.{mayCut}

@@ -1,0 +1,4 @@
+pub mod Fingers
+pub mod SplitLaws
+pub mod Splitting
+pub mod Reversing
