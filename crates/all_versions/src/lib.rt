@@ -11,7 +11,7 @@ pub fn all_linked(row: &[[u64; 6]], n: usize) -> bool
     let mut ok = true;
     for i in 0..most {
         let s = versions::load(row, i);
-        ok = slots::linked_and(ok, s, n);
+        ok = one_slot::linked_and(ok, s, n);
     }
     ok
 }
@@ -22,7 +22,7 @@ pub fn set_up(row: &mut [[u64; 6]], v: usize, n: usize)
 {
     for i in 0..n {
         let s = versions::load(row, i);
-        let t = slots::made(i, v, s);
+        let t = one_slot::made(i, v, s);
         versions::store(row, i, t);
     }
 }

@@ -1,7 +1,7 @@
-// The version slots: one lent row of structs, of which one slot is loaded or stored, and what the test of memory and a setup make of a slot.
+// The version slots: one lent row of structs, of which one slot is loaded or stored.
 ghost use mathlib.Core.Path.{_≡_};
 ghost use lib.ListN.{set, getD};
-ghost use Rattle.slots.specs.Slots.{vacantSlot, linkedAnd, madeSlot};
+ghost use Rattle.slots.specs.Slots.{vacantSlot};
 use values::Content;
 
 // H1.7: a slot for a version. H8.9: an unset low, an open high and an absent neighbour are 4294967296.
@@ -44,31 +44,4 @@ pub fn store(slots: &mut [Slot], i: usize, s: Slot)
         return;
     }
     slots[i] = s;
-}
-
-// Whether the neighbours of a slot are slots below n or absent, where those of all slots before it were.
-pub fn linked_and(ok: bool, s: Slot, n: usize) -> bool
-    ensures { λ r. ⌜ r ≡ linkedAnd ok s n ⌝ }
-{
-    ok & ((s.older < n) | (s.older == 4294967296)) & ((s.newer < n) | (s.newer == 4294967296))
-}
-
-// The slot that a setup of v registers makes of slot i.
-pub fn made(i: usize, v: usize, s: Slot) -> Slot
-    ensures { λ r. ⌜ r ≡ madeSlot i v s ⌝ }
-{
-    if i < v {
-        return Slot {
-            value: Content::NoReading,
-            low: 0,
-            high: 4294967296,
-            older: 4294967296,
-            newer: 4294967296,
-        };
-    }
-    Slot {
-        older: 4294967296,
-        newer: 4294967296,
-        ..s
-    }
 }

@@ -1,7 +1,7 @@
 -- `made` meets its contract: each arm builds the slot of its own arm of `madeSlot`, by the test of i against v.
 use borrow.Author.Tests.{lt-ltb, le-ltb}
-use Rattle.slots.proofs.made.Statement.{statement}
-use Rattle.slots.proofs.made.Tie as tie
+use Rattle.one_slot.proofs.made.Statement.{statement}
+use Rattle.one_slot.proofs.made.Tie as tie
 
 returns : tie.Need-returns
 returns c = rw (lt-ltb _ _ (c .if1 .taken))
