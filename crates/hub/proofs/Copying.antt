@@ -41,7 +41,7 @@ use Rattle.slots.proofs.Calls.{Mut, Shr, slice}
 use Rattle.slots.proofs.Growth.{none-done, all-done}
 use Rattle.slots.proofs.Row.{vals, lowered, typed}
 use Rattle.versions.specs.Versions.{slotAtIn}
-use Rattle.hub.specs.Doors.{copiedTo}
+use Rattle.hub.specs.Rows.{copiedTo}
 use Rattle.hub.proofs.Growth.{copied-none, copied-more}
 
 ------------------------------------------------------------------------

@@ -7,7 +7,7 @@ use lib.ListN.{length, set, length-set}
 use Rattle.slots.specs.declared.Slot.{Slot}
 use Rattle.slots.proofs.Growth.{none-done}
 use Rattle.versions.specs.Versions.{slotAtIn}
-use Rattle.hub.specs.Doors.{copiedTo}
+use Rattle.hub.specs.Rows.{copiedTo}
 
 -- before the first of n turns nothing is copied,
 pub copied-none : (slots onto : List Slot) (n : ℕ) → onto ≡ copiedTo slots onto (n - n)

@@ -34,7 +34,7 @@ use Rattle.slots.proofs.Slot as T
 use Rattle.slots.proofs.Calls.{Mut, Shr, slice, call-value}
 use Rattle.slots.proofs.Row.{Slots}
 use Rattle.versions.specs.Versions.{rowOf}
-use Rattle.hub.specs.Doors.{copiedTo}
+use Rattle.hub.specs.Rows.{copiedTo}
 use Rattle.hub.proofs.Words.{Words, Row}
 use Rattle.hub.proofs.Lends.{call-two}
 use Rattle.hub.proofs.zeros as zeros

@@ -9,7 +9,7 @@ use lib.Seq.{take-nil, take-suc, take-suc-set, drop-set-lt}
 use Rattle.slots.specs.declared.Slot.{Slot}
 use Rattle.slots.specs.Slots.{vacantSlot}
 use Rattle.versions.specs.Versions.{slotIn, rowOf, slotAtIn}
-use Rattle.hub.specs.Doors.{copiedTo}
+use Rattle.hub.specs.Rows.{copiedTo}
 use Rattle.hub.proofs.Growth.{length-copied}
 
 -- as many of a list as it has, or m

@@ -8,6 +8,7 @@ use Rattle.values.specs.declared.Answer.the-variants.{Ok}
 use Rattle.called.specs.declared.Called.{Called}
 use Rattle.simulation.specs.Memory.{Memory}
 use Rattle.simulation.specs.Left.{Sized}
+use Rattle.simulation.specs.Shell.{doneOf}
 use Rattle.simulation.specs.Loop.{Ran}
 use Rattle.simulation.specs.Public.{Does}
 use Rattle.simulation.specs.Buffer.{Applies}
@@ -17,6 +18,9 @@ pub record OneApplied (m : Memory) (given : Given) (b : List ℕ) (r : Called) (
   -- the arrays are as long as their types say
   pub sized : Sized m
   pub does : Does m given b (r .answer) m′
+  -- what is done and answered, in the words of the code
+  pub memory : m′ ≡ doneOf m given b .memory
+  pub answer : r .answer ≡ doneOf m given b .answer
   pub count : r .count ≡ 1
 
 -- The records of the bytes met the memory m, as many as there is room for; r was given back, and the memory m′ and the two rows were left.

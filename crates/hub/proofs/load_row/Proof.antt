@@ -40,7 +40,7 @@ use Rattle.versions.specs.Versions.{rowOf}
 use Rattle.versions.proofs.store.Symbol as store-def
 use Rattle.versions.proofs.store.Symbol.{name as #versions·store}
 use Rattle.versions.proofs.store.Met as store-thm
-use Rattle.hub.specs.Doors.{copiedTo}
+use Rattle.hub.specs.Rows.{copiedTo}
 use Rattle.hub.proofs.Words.{Words, Row, StoreWords, call-store-words}
 use Rattle.hub.proofs.Copying.{copied}
 use Rattle.hub.proofs.load_row.Key.{name as #hub·load-row}

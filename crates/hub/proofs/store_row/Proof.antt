@@ -41,7 +41,7 @@ use Rattle.versions.specs.Versions.{rowOf}
 use Rattle.versions.proofs.load.Symbol as load-def
 use Rattle.versions.proofs.load.Symbol.{name as #versions·load}
 use Rattle.versions.proofs.load.Met as load-thm
-use Rattle.hub.specs.Doors.{copiedTo}
+use Rattle.hub.specs.Rows.{copiedTo}
 use Rattle.hub.proofs.Words.{Words, RowShared, LoadWords, call-load-words}
 use Rattle.hub.proofs.Copying.{copied}
 use Rattle.hub.proofs.store_row.Key.{name as #hub·store-row}

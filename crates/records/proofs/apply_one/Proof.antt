@@ -1,6 +1,7 @@
 -- `apply_one` meets its contract: the loop ran for one record.
 use mathlib.Core.Path.{refl}
 use borrow.Author.Needs.{needs}
+use Rattle.records.proofs.First.{one-memory, one-answer}
 use Rattle.records.proofs.One.{one-done}
 use Rattle.records.proofs.apply_one.Statement.{statement}
 use Rattle.records.proofs.apply_one.Tie as tie
@@ -24,6 +25,8 @@ returns c =
     record {
       sized = p .run .ensures .sized;
       does = one-done (p .run .ensures .sized) (λ i. k .shared-slice-known2 .given i .fits) (p .run .ensures .ran);
+      memory = one-memory (p .run .ensures .ran);
+      answer = one-answer (p .run .ensures .ran);
       count = refl;
     }
 
