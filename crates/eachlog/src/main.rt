@@ -1,9 +1,11 @@
-// The log of the records on standard input, as `hublog` writes it, with one call of `hub::apply` for each record. The arguments say how many
+// The log of the records on standard input, as `hublog` writes it, with one call of `hub::call_owned` for each record. The arguments say how many
 // slots the lent row has (2048 without one), and from which record on it has another number of them: eachlog [SLOTS [RECORD SLOTS [LIST [TABLE]]]].
 // LIST names the file with the list of totals, TABLE that with the table of rights.
 ghost use Prim.Native.Nat.{_≤_};
 ghost use lib.ListN.{length};
+use calls::Call;
 use state::Hub;
+use tables::Table;
 use values::Answer;
 
 // The number with one decimal digit more, at most 100000000; other bytes change nothing.
@@ -68,7 +70,17 @@ fn hub_with(table: &[u8]) -> Hub {
     let lens = [0u32; 4096];
     let merged = [0u32; 12288];
     let hub = Hub::empty();
-    let given = hub::give_table_words(&[], hub, table, &newest, &free, &queue, &lens, &merged);
+    let given = tables::give(
+        &[],
+        hub,
+        Table::Rights,
+        table,
+        &newest,
+        &free,
+        &queue,
+        &lens,
+        &merged,
+    );
     let answer = given.answer;
     // All but `Ok` is a refusal, and on memory that is not set up none but 24 is given.
     if answers::kind(answer) != 0 {
@@ -125,12 +137,15 @@ fn main() {
         if k == at as u64 {
             lent = later;
         }
-        let done = hub::apply_row(
+        let done = hub::call_owned(
             slots,
             lent,
             hub,
+            Call::Record,
             &list[0..end],
             &rec[0..n],
+            &mut [],
+            &mut [],
             &mut newest,
             &mut free,
             &mut queue,
@@ -138,11 +153,11 @@ fn main() {
             &mut merged,
         );
         let s = done.slots;
-        let applied = done.applied;
-        let h = applied.hub;
+        let called = done.called;
+        let h = called.hub;
         slots = s;
         hub = h;
-        let answer = applied.answer;
+        let answer = called.answer;
         if !write_answer(k, answer) {
             input::say(b"eachlog: cannot write standard output\n");
             return;

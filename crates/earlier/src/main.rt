@@ -2,6 +2,7 @@
 // be had they been put at that time. First, a put leaves a version and another one begins. What is sent after that shows the stored value, ends
 // the put that had begun, refuses a new one and frees the slots. Then, a total meets such a value and is refused (H12.9), and a read shows it. The
 // records are those of the runs `changing` and `over` in crates/model/specs/Runs.antt, and the lines have to be their logs.
+use calls::Call;
 use libc::STDOUT_FILENO;
 use slots::Slot;
 use state::Hub;
@@ -48,20 +49,23 @@ fn after_with(m: Memory, list: &[u8], rec: [u8; 16]) -> Memory {
     let mut lens = m.lens;
     let mut merged = m.merged;
     let line = m.line;
-    let done = hub::apply_row(
+    let done = hub::call_owned(
         slots,
         2048,
         hub,
+        Call::Record,
         list,
         &rec,
+        &mut [],
+        &mut [],
         &mut newest,
         &mut free,
         &mut queue,
         &mut lens,
         &mut merged,
     );
-    let applied = done.applied;
-    let answer = applied.answer;
+    let called = done.called;
+    let answer = called.answer;
     let kinds = [answers::kind(answer)];
     let numbers = [answers::number(answer)];
     let mut space = [0u8; 70];
@@ -69,7 +73,7 @@ fn after_with(m: Memory, list: &[u8], rec: [u8; 16]) -> Memory {
     let used = lines::write_lines(text, line, &kinds, &numbers, 1);
     let log = &text[..];
     io::write_all(STDOUT_FILENO, &log[0..used]);
-    let left = applied.hub;
+    let left = called.hub;
     let row = done.slots;
     Memory {
         hub: left,

@@ -2,6 +2,7 @@
 // next read. The first argument names the file with the list of totals, the second that with the table of rights (H10.7, H15.11). This crate owns
 // the memory of the hub.
 use state::Hub;
+use tables::Table;
 
 // The hub without setup: no worker, no register, no slot, and the table of rights, where it is accepted.
 fn with_table<'a>(
@@ -14,7 +15,17 @@ fn with_table<'a>(
     merged: &'a [u32; 12288],
 ) -> Hub {
     let hub = Hub::empty();
-    let given = hub::give_table_words(row, hub, table, newest, free, queue, lens, merged);
+    let given = tables::give(
+        row,
+        hub,
+        Table::Rights,
+        table,
+        newest,
+        free,
+        queue,
+        lens,
+        merged,
+    );
     let answer = given.answer;
     // All but `Ok` is a refusal, and on memory that is not set up none but 24 is given.
     if answers::kind(answer) != 0 {

@@ -32,7 +32,7 @@ pub struct Logged {
 pub fn log_part(
     row: &mut [[u64; 6]],
     hub: Hub,
-    list: &[u8],
+    given: &[u8],
     bytes: &[u8],
     first: u64,
     text: &mut [u8],
@@ -48,7 +48,7 @@ pub fn log_part(
         Logs
         (memory hub (rowOf (now (row .entry)))
         (now (newest .entry)) (now (free .entry)) (now (queue .entry)) (now (lens .entry)) (now (merged .entry)))
-        (ofTotals (now (list .entry))) (now (bytes .entry)) first (now (text .entry)) (now (kinds .entry)) (now (numbers .entry)) (r .count) (r .used)
+        (ofTotals (now (given .entry))) (now (bytes .entry)) first (now (text .entry)) (now (kinds .entry)) (now (numbers .entry)) (r .count) (r .used)
         (memory (r .hub) (rowOf (now (row .exit)))
         (now (newest .exit)) (now (free .exit)) (now (queue .exit)) (now (lens .exit)) (now (merged .exit)))
         (now (text .exit)) (now (kinds .exit)) (now (numbers .exit))
@@ -56,10 +56,10 @@ pub fn log_part(
     ensures { λ r. ⌜ r .used ≤ length (now (text .exit)) ⌝ }
 {
     let n = fitting(bytes.len(), text.len());
-    let done = hub::apply_words(
+    let done = records::apply_all(
         row,
         hub,
-        list,
+        given,
         &bytes[0..n],
         kinds,
         numbers,

@@ -80,7 +80,7 @@ fn main() {
     let kinds: &mut [u16] = &mut kind_space;
     let mut number_space = [0u64; 22];
     let numbers: &mut [u64] = &mut number_space;
-    let done = hub::apply_words(
+    let done = records::apply_all(
         row,
         hub,
         &[],

@@ -5,11 +5,11 @@ use Rattle.eachlog.proofs.main.Statement.{statement}
 use Rattle.eachlog.proofs.main.Tie as tie
 
 abbrev Inv-loop : tie.InvT-loop
-Inv-loop long at later rec₀ newest₀ free₀ queue₀ lens₀ merged₀ list end rows slots₀ hub₀ k₀ lent₀ turns₀ t39 rec newest free queue lens merged slots hub k lent turns =
+Inv-loop long at later rec₀ newest₀ free₀ queue₀ lens₀ merged₀ list end rows slots₀ hub₀ k₀ lent₀ turns₀ t35 rec newest free queue lens merged slots hub k lent turns =
     Unit {0}
 
 abbrev μ-loop : tie.MeasureT-loop
-μ-loop long at later rec₀ newest₀ free₀ queue₀ lens₀ merged₀ list end rows slots₀ hub₀ k₀ lent₀ turns₀ t39 rec newest free queue lens merged slots hub k lent turns =
+μ-loop long at later rec₀ newest₀ free₀ queue₀ lens₀ merged₀ list end rows slots₀ hub₀ k₀ lent₀ turns₀ t35 rec newest free queue lens merged slots hub k lent turns =
     turns
 
 argument-requires : tie.Need-argument-requires Inv-loop μ-loop
@@ -87,29 +87,35 @@ fill-requires c κs = search needs
 returns-3 : tie.Need-returns-3 Inv-loop μ-loop
 returns-3 c = search needs
 
-sub-apply-row : tie.Need-sub-apply-row Inv-loop μ-loop
-sub-apply-row c = search needs
+sub-call-owned : tie.Need-sub-call-owned Inv-loop μ-loop
+sub-call-owned c = search needs
 
-part-apply-row-start : tie.Need-part-apply-row-start Inv-loop μ-loop
-part-apply-row-start c = search needs
+part-call-owned-start : tie.Need-part-call-owned-start Inv-loop μ-loop
+part-call-owned-start c = search needs
 
-part-apply-row-end : tie.Need-part-apply-row-end Inv-loop μ-loop
-part-apply-row-end c =
+part-call-owned-end : tie.Need-part-call-owned-end Inv-loop μ-loop
+part-call-owned-end c =
     let s = c .before .before .before .before .before .before .before .before .before .before .before .before in
     let r = s .before .before .before .before .before .before .before .before .before .before .before .before in
     search (needs, r .read-named .ensures)
 
-sub-apply-row-2 : tie.Need-sub-apply-row-2 Inv-loop μ-loop
-sub-apply-row-2 c = search needs
+sub-call-owned-2 : tie.Need-sub-call-owned-2 Inv-loop μ-loop
+sub-call-owned-2 c = search needs
 
-part-apply-row-start-2 : tie.Need-part-apply-row-start-2 Inv-loop μ-loop
-part-apply-row-start-2 c = search needs
+part-call-owned-start-2 : tie.Need-part-call-owned-start-2 Inv-loop μ-loop
+part-call-owned-start-2 c = search needs
 
-part-apply-row-end-2 : tie.Need-part-apply-row-end-2 Inv-loop μ-loop
-part-apply-row-end-2 c = search needs
+part-call-owned-end-2 : tie.Need-part-call-owned-end-2 Inv-loop μ-loop
+part-call-owned-end-2 c = search needs
 
-apply-row-requires : tie.Need-apply-row-requires Inv-loop μ-loop
-apply-row-requires c κs = search needs
+slice-aggregate-call-owned : tie.Need-slice-aggregate-call-owned Inv-loop μ-loop
+slice-aggregate-call-owned c = search needs
+
+slice-aggregate-call-owned-2 : tie.Need-slice-aggregate-call-owned-2 Inv-loop μ-loop
+slice-aggregate-call-owned-2 c = search needs
+
+call-owned-requires : tie.Need-call-owned-requires Inv-loop μ-loop
+call-owned-requires c κs = search needs
 
 write-answer-requires : tie.Need-write-answer-requires Inv-loop μ-loop
 write-answer-requires c κs = search needs
@@ -125,8 +131,8 @@ wrapping-add-u64-requires c κs = search needs
 
 loop-less : tie.Need-loop-less Inv-loop μ-loop
 loop-less c =
-    let s = c .before .before .before .before .before .before .before .before .before .before .before .before in
-    let t = s .before .before .before .before .before .before .before .before .before .before .before .before in
+    let s = c .before .before .before .before .before .before .before .before .before .before .before .before .before .before in
+    let t = s .before .before .before .before .before .before .before .before .before .before .before .before .before .before in
     omega (arith, t .loop-test .taken)
 
 loop-again : tie.Need-loop-again Inv-loop μ-loop
@@ -164,13 +170,15 @@ main-spec =
     sub-turns
     fill-requires
     returns-3
-    sub-apply-row
-    part-apply-row-start
-    part-apply-row-end
-    sub-apply-row-2
-    part-apply-row-start-2
-    part-apply-row-end-2
-    apply-row-requires
+    sub-call-owned
+    part-call-owned-start
+    part-call-owned-end
+    sub-call-owned-2
+    part-call-owned-start-2
+    part-call-owned-end-2
+    slice-aggregate-call-owned
+    slice-aggregate-call-owned-2
+    call-owned-requires
     write-answer-requires
     slice-aggregate-say-3
     say-requires-3

@@ -10,17 +10,17 @@ use Rattle.logs.proofs.log_part.Tie as tie
 fitting-requires : tie.Need-fitting-requires
 fitting-requires c κs = search needs
 
-sub-apply-words : tie.Need-sub-apply-words
-sub-apply-words c = search needs
+sub-apply-all : tie.Need-sub-apply-all
+sub-apply-all c = search needs
 
-part-apply-words-start : tie.Need-part-apply-words-start
-part-apply-words-start c = search needs
+part-apply-all-start : tie.Need-part-apply-all-start
+part-apply-all-start c = search needs
 
-part-apply-words-end : tie.Need-part-apply-words-end
-part-apply-words-end c = search needs
+part-apply-all-end : tie.Need-part-apply-all-end
+part-apply-all-end c = search needs
 
-apply-words-requires : tie.Need-apply-words-requires
-apply-words-requires c κs = search needs
+apply-all-requires : tie.Need-apply-all-requires
+apply-all-requires c κs = search needs
 
 write-lines-requires : tie.Need-write-lines-requires
 write-lines-requires c κs = search needs
@@ -45,17 +45,17 @@ returns c =
     let x = f .before .before .before .before .before .before .args in
     let e = w .write-lines .ensures in
     let b = f .fitting .result - 0 in
-    (part-logged _ _ _ (handed-on (ofTotals (x .list .now)) (x .bytes .now) (x .text .now) b (omega (arith, f .fitting .ensures)) (a .apply-words .ensures)) e, e .inside)
+    (part-logged _ _ _ (handed-on (ofTotals (x .given .now)) (x .bytes .now) (x .text .now) b (omega (arith, f .fitting .ensures)) (a .apply-all .ensures .applies)) e, e .inside)
 
 pub log-part-spec : {M : Type 1} → statement M
 log-part-spec =
     tie.close
     (tie.spec
     fitting-requires
-    sub-apply-words
-    part-apply-words-start
-    part-apply-words-end
-    apply-words-requires
+    sub-apply-all
+    part-apply-all-start
+    part-apply-all-end
+    apply-all-requires
     write-lines-requires
     same-length
     same-length-2

@@ -1,3 +1,0 @@
-pub mod First
-pub mod Within
-pub mod Given
