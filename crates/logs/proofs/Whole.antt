@@ -23,7 +23,7 @@ use Rattle.simulation.specs.Memory.{Memory, lentIn}
 use Rattle.simulation.specs.Holds.{Holds, sent, memoryAfter, AsModel}
 use Rattle.simulation.specs.Records.{recordAt, recordsIn}
 use Rattle.simulation.specs.Buffer.{answerAt, exchangeAt, Applies}
-use Rattle.simulation.specs.Demands.{ForBuffer}
+use Rattle.simulation.specs.Demands.{ForRecords}
 use Rattle.simulation.proofs.Below.{map-map, map-last, map-long, at-below}
 use Rattle.simulation.proofs.Parts.{whole, in-parts, call-records}
 use Rattle.lines.specs.Written.{linesFrom, firstOf}
@@ -65,7 +65,7 @@ module _ (h : Hub) (m : Memory) (given : Given) (bytes : List ℕ) (first : ℕ)
   asModel = applies .asModel h H
 
   sent-is : sent es ≡ allUnder (inForce given) (recordsOf bytes)
-  sent-is = call-records (ForBuffer given bytes (C .kinds) (C .numbers) n (C .kinds′) (C .numbers′) m′) all-records
+  sent-is = call-records (ForRecords given bytes (C .kinds) (C .numbers) n (C .kinds′) (C .numbers′) m′) all-records
 
   answered : map (λ (e : Exchange). e .answer) es ≡ answersTo h (allUnder (inForce given) (recordsOf bytes))
   answered =

@@ -15,22 +15,24 @@ use Rattle.model.specs.Store as Model
 use Rattle.model.specs.Store.{Store, blank, up}
 use Rattle.model.specs.Rules.{Given, inForce, under}
 use Rattle.model.specs.Answer.{said, Applied}
+use Rattle.model.specs.Rights.{tableFits}
 use Rattle.model.specs.Record.{Sizes, SetUp, Begin, Step, Decoded, Asks, Refuses, decode, listFits}
 use Rattle.model.specs.Apply.{refuse, inRanges, fresh, setUp, obey, applyDecoded, apply}
 use Rattle.model.proofs.Basic.{le-cases, and-both}
 use Rattle.theorem.proofs.Setup.{in-ranges}
 use Rattle.values.specs.declared.Answer.{Answer}
+use Rattle.values.specs.declared.Answer.the-variants.{Ok, No}
 use Rattle.values.specs.Meaning.{answerOf}
 use Rattle.slots.specs.declared.Slot.{Slot}
 use Rattle.slots.specs.Slots.{slotRep, slotOf, vacantSlot, linkedAnd, linkedTo}
 use Rattle.state.specs.declared.Hub.{Hub}
 use Rattle.state.specs.State.{standing}
-use Rattle.ready_sizes.specs.Sizes.{sizesFit}
-use Rattle.ready.specs.Ready.{scansFit, readyOf}
-use Rattle.simulation.specs.Memory.{Memory, lentIn, cut, write, withHub, nextHub, writeHub}
+use Rattle.ready.specs.Ready.{sizesFit, scansFit, readyOf}
+use Rattle.simulation.specs.Memory.{Memory, lentIn, cut, write, withHub, nextHub, writeHub, Result, answered}
 use Rattle.simulation.specs.Left.{LeftByRecords, Left, Sized, ready}
 use Rattle.simulation.specs.Shell.{doneOf}
 use Rattle.simulation.specs.Holds.{Holds, AsModel}
+use Rattle.simulation.specs.Tables.{withTable, tableGiven, Gives}
 use Rattle.simulation.specs.Public.{takesStepIn, idledIn, EndsBy, OnAny, exchangeOf, Does}
 use Rattle.simulation.proofs.Bytes.{Bytes}
 use Rattle.simulation.proofs.Laws.{over-take, over-drop, both-parts, map-take}
@@ -240,7 +242,7 @@ module _ (m m′ : Memory) (rest : drop 2048 (m′ .slots) ≡ drop 2048 (m .slo
         subst (λ (q : Model.Lent). AsModel (blank q) m (exchangeOf given b y ∷ []) m′) (sym (H .1)) (blank-as-model-cut (H .0))
 
 -- the contract with the first 2048 slots is the contract with the whole row, where the rest of the row is as it was
-does-cut : (m m′ : Memory) (given : Given) (b : List ℕ) (y : Answer) → Sized m → Does (cut m) given b y (cut m′) → drop 2048 (m′ .slots) ≡ drop 2048 (m .slots)
+pub does-cut : (m m′ : Memory) (given : Given) (b : List ℕ) (y : Answer) → Sized m → Does (cut m) given b y (cut m′) → drop 2048 (m′ .slots) ≡ drop 2048 (m .slots)
     → Does m given b y m′
 does-cut m m′ given b y Z D rest =
     record {
@@ -263,6 +265,43 @@ sized-cut m Z =
       lens = Z .lens;
       merged = Z .merged;
     }
+
+pub sized-whole : (m : Memory) → Sized (cut m) → Sized m
+sized-whole m Z =
+    record {
+      workers = Z .workers;
+      times = Z .times;
+      marks = Z .marks;
+      reading = Z .reading;
+      rows = Z .rows;
+      rights = Z .rights;
+      newest = Z .newest;
+      free = Z .free;
+      queue = Z .queue;
+      lens = Z .lens;
+      merged = Z .merged;
+    }
+
+-- a table that is given with the first 2048 slots is given with the whole row: by the two tests
+abbrev byTests : Memory → List ℕ → Bool → Bool → Result
+byTests x bytes t u = cond t (answered x (No 9)) (cond u (answered (withHub x (withTable (x .hub) bytes)) Ok) (answered x (No 24)))
+
+pub gives-cut : (m m′ : Memory) (bytes : List ℕ) (y : Answer) → Gives (cut m) bytes y (cut m′) → drop 2048 (m′ .slots) ≡ drop 2048 (m .slots)
+    → Gives m bytes y m′
+unfolding tableGiven
+gives-cut m m′ bytes y G rest =
+    let e : cut m′ ≡ byTests (cut m) bytes (ready m) (tableFits bytes) .memory =
+    G .memory ∙ ap (λ (t : Bool). byTests (cut m) bytes t (tableFits bytes) .memory) (ready-cut m) in
+    let a : y ≡ byTests (cut m) bytes (ready m) (tableFits bytes) .answer =
+    G .answer ∙ ap (λ (t : Bool). byTests (cut m) bytes t (tableFits bytes) .answer) (ready-cut m) in
+    let w = by (ready m) (tableFits bytes) e a in
+    record { memory = w .0; answer = w .1 }
+  where
+    by : (t u : Bool) → cut m′ ≡ byTests (cut m) bytes t u .memory → y ≡ byTests (cut m) bytes t u .answer
+        → (m′ ≡ byTests m bytes t u .memory) × (y ≡ byTests m bytes t u .answer)
+    by true u e a = (whole m m′ rest m refl e, a)
+    by false true e a = (whole m m′ rest (withHub m (withTable (m .hub) bytes)) refl e, a)
+    by false false e a = (whole m m′ rest m refl e, a)
 
 -- so what the code answers and leaves with the first 2048 slots is right for the whole row
 pub does-whole : (m m′ : Memory) (given : Given) (b : List ℕ) (y : Answer) → Sized m → Bytes b

@@ -29,13 +29,13 @@ use Rattle.queue.specs.State.{Begins}
 use Rattle.model.specs.Rights.{eachOf, tableStands}
 use Rattle.simulation.specs.Memory.{Memory, lentIn, write}
 use Rattle.simulation.proofs.Rights.{standing-stands}
-use Rattle.simulation.proofs.Tables.{table, late, empty}
+use Rattle.simulation.proofs.Tables.{table, late, empty, refused-kept}
 use Rattle.simulation.specs.Left.{LeftUnder, Left, ready}
 use Rattle.simulation.specs.Holds.{Holds, Decided, sent, AsModel}
 use Rattle.simulation.specs.Public.{OnAny, exchangeOf}
 use Rattle.simulation.specs.Records.{recordAt}
 use Rattle.simulation.specs.Buffer.{exchangeAt, setsUp, EachOnAny}
-use Rattle.simulation.specs.Demands.{CallIn, ForRecord, ForBuffer, leftBy, Called, Calls, leftByAll, exchanged, exchanges}
+use Rattle.simulation.specs.Demands.{CallIn, ForRecord, ForRecords, ForTable, leftBy, Called, Among, Calls, leftByAll, exchanged, exchanges}
 use Rattle.simulation.specs.Demands.{Accepts, CodeDemand3, OnEarlier, Demands}
 use Rattle.simulation.proofs.Below.{map-long, at-below}
 use Rattle.simulation.proofs.Parts.{parts-records}
@@ -102,7 +102,7 @@ from-setup m (ForRecord l₀ b₀ y m′) D es fs given b S =
     not-ready m
     (no-setup (ready m) m m′ b₀ y (D .onAny) (S .sizes) (ap (λ (q : Exchange). decode (q .bytes)) is ∙ S .setup)
     (ap (λ (q : Exchange). said (q .answer) .ok) is))
-from-setup m (ForBuffer l₀ bytes kinds numbers n kinds′ numbers′ m′) A es fs given b S =
+from-setup m (ForRecords l₀ bytes kinds numbers n kinds′ numbers′ m′) A es fs given b S =
     let x : Exchange = record { given = given; bytes = b; answer = Ok } in
     let f : ℕ → Exchange = exchangeAt l₀ bytes kinds′ numbers′ in
     let k : ℕ = length es in
@@ -126,6 +126,8 @@ from-setup m (ForBuffer l₀ bytes kinds numbers n kinds′ numbers′ m′) A e
         ∙ getD-over-in (map g ys) l k 0 (omega (arith, h, length-map ys g))
         ∙ ap (λ (o : ℕ). getD (map g ys) k o) (sym z)
         ∙ List·getD-map g ys k Is.Ok
+from-setup m (ForTable bytes y m′) G es fs given b S =
+    absurd (omega (arith, within [] es fs (record { given = given; bytes = b; answer = Ok }) (S .place)))
 
 ------------------------------------------------------------------------
 -- All calls together
@@ -134,17 +136,18 @@ held : (h : Hub) (m : Memory) → Holds h m → BlankOrLeft (lentIn m) h
 held (blank row) m H = inl (ap blank (H .1))
 held (up s) m L = inr (s, refl, L .store)
 
-call-as-model : (h : Hub) (m : Memory) (c : CallIn) → Holds h m → Called m c → AsModel h m (exchanged c) (leftBy c)
-call-as-model h m (ForRecord given b y m′) H D = D .asModel h H
-call-as-model h m (ForBuffer given bytes kinds numbers n kinds′ numbers′ m′) H A = A .asModel h H
+call-as-model : (h : Hub) (m : Memory) (c : CallIn) → Holds h m → Called m c → Among c → AsModel h m (exchanged c) (leftBy c)
+call-as-model h m (ForRecord given b y m′) H D n = D .asModel h H
+call-as-model h m (ForRecords given bytes kinds numbers k kinds′ numbers′ m′) H A n = A .asModel h H
+call-as-model h m (ForTable bytes y m′) H G n = subst (AsModel h m []) (sym (refused-kept m m′ bytes y G n)) (nothing-sent h m H)
 
 calls-as-model : (h : Hub) (m : Memory) (cs : List CallIn) → Holds h m → Calls m cs → AsModel h m (exchanges cs) (leftByAll m cs)
 unfolding Calls exchanges leftByAll
 calls-as-model h m [] H C = nothing-sent h m H
 calls-as-model h m (c ∷ cs) H C =
-    let A = call-as-model h m c H (C .0) in
+    let A = call-as-model h m c H (C .0) (C .1) in
     both-sent h m (leftBy c) (leftByAll (leftBy c) cs) (exchanged c) (exchanges cs) A
-    (calls-as-model (hubAfter h (sent (exchanged c))) (leftBy c) cs (A .holds) (C .1))
+    (calls-as-model (hubAfter h (sent (exchanged c))) (leftBy c) cs (A .holds) (C .2))
 
 map-exchange : (es : List Event) → map (λ (e : Exchange). e .answer) (map exchange es) ≡ map (λ (e : Event). e .answer) es
 map-exchange [] = refl
@@ -154,7 +157,7 @@ map-exchange (e ∷ es) = ap (λ (l : List Answer). e .answer ∷ l) (map-exchan
 calls-behind : (m : Memory) (cs ds : List CallIn) → Calls m (cs ++ ds) → Calls (leftByAll m cs) ds
 unfolding Calls leftByAll
 calls-behind m [] ds C = C
-calls-behind m (c ∷ cs) ds C = calls-behind (leftBy c) cs ds (C .1)
+calls-behind m (c ∷ cs) ds C = calls-behind (leftBy c) cs ds (C .2)
 
 -- demand 3 of a setup in the first call
 first-setup : (m : Memory) (c : CallIn) (ds : List CallIn) → Calls m (c ∷ ds) → (es fs : List Exchange) (given : Given) (b : List ℕ) → Accepts (exchanged c) es given b fs

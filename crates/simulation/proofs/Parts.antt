@@ -13,7 +13,7 @@ use Rattle.model.specs.Demand.{Exchange}
 use Rattle.simulation.specs.Holds.{sent}
 use Rattle.simulation.specs.Records.{recordAt, recordsIn}
 use Rattle.simulation.specs.Buffer.{exchangeAt}
-use Rattle.simulation.specs.Demands.{CallIn, ForRecord, ForBuffer, exchanged, exchanges, givenIn, bytesIn, AppliedAll, InParts}
+use Rattle.simulation.specs.Demands.{CallIn, ForRecord, ForRecords, ForTable, exchanged, exchanges, givenIn, bytesIn, AppliedAll, InParts}
 use Rattle.simulation.proofs.Below.{map-map}
 
 -- k records are taken, and the bytes l are left
@@ -88,11 +88,12 @@ one-record (x ∷ l) h k =
 -- the records that a call was sent, each with the call's list
 pub call-records : (c : CallIn) → AppliedAll c → sent (exchanged c) ≡ allUnder (inForce (givenIn c)) (recordsOf (bytesIn c))
 call-records (ForRecord given b y m) (h, k) = ap (allUnder (inForce given)) (one-record b h k)
-call-records (ForBuffer given bytes kinds numbers n kinds′ numbers′ m) e =
+call-records (ForRecords given bytes kinds numbers n kinds′ numbers′ m) e =
     sym (map-map (λ (x : Exchange). under (inForce (x .given)) (x .bytes)) (exchangeAt given bytes kinds′ numbers′) (upFrom 0 n))
     ∙ map-map (under (inForce given)) (recordAt bytes) (upFrom 0 n)
     ∙ ap (λ (k : ℕ). allUnder (inForce given) (map (recordAt bytes) (upFrom 0 k))) e
     ∙ ap (allUnder (inForce given)) (whole bytes)
+call-records (ForTable bytes y m) e = absurd e
 
 pub parts-records : (given : Given) (cs : List CallIn) (file : List ℕ) → InParts given cs file
     → sent (exchanges cs) ≡ allUnder (inForce given) (recordsOf file)

@@ -1,7 +1,7 @@
 -- A table that is given does to memory what the model does: where it is accepted, the hub by value is an empty one with its rows, which stand at the
 -- front of their array, so that a setup finds them.
 use mathlib.Core.Path.{_≡_, refl, sym, ap, _∙_, subst}
-use mathlib.Core.Bool.{Bool, true, false, cond, _&&_}
+use mathlib.Core.Bool.{Bool, true, false, true≢false, cond, _&&_}
 use mathlib.Core.List.{List, [], map}
 use Prim.Native.Nat.{ℕ, _/_, _%_}
 use lib.Dec.{leb, eqb}
@@ -82,6 +82,17 @@ unfolding tableGiven
 late s m m′ bytes y L Z G =
     let r : tableGiven m bytes ≡ answered m (No 9) = cond-yes (ready m) (answered m (No 9)) _ (left-ready m L Z) in
     (ap answerOf (G .answer ∙ ap (λ (q : Result). q .answer) r), G .memory ∙ ap (λ (q : Result). q .memory) r)
+
+-- one that is refused changes nothing
+pub refused-kept : (m m′ : Memory) (bytes : List ℕ) (y : Answer) → Gives m bytes y m′ → Answers.said (answerOf y) .ok ≡ false → m′ ≡ m
+unfolding tableGiven
+refused-kept m m′ bytes y G n = by (ready m) (tableFits bytes) (G .memory) (G .answer)
+  where
+    by : (t u : Bool) → let q : Result = cond t (answered m (No 9)) (cond u (answered (withHub m (withTable (m .hub) bytes)) Ok) (answered m (No 24))) in
+        m′ ≡ q .memory → y ≡ q .answer → m′ ≡ m
+    by true u e a = e
+    by false true e a = absurd (true≢false (sym (ap (λ (z : Answer). Answers.said (answerOf z) .ok) a) ∙ n))
+    by false false e a = e
 
 pub empty : (m : Memory) → Holds (blank (record { row = map slotOf (m .slots); table = [] })) (emptiedIn m)
 unfolding ready readyOf scansFit sizesFit eachOf

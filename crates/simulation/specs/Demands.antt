@@ -1,5 +1,5 @@
 -- The demands, H6.1 to H6.3, of what the code answers and leaves, for every list of calls. This is the statement to read first.
--- Demand 1 and, call by call, demand 2 are parts of the contracts of the public functions, `Does` and `Applies`; the rest is proved in
+-- Demand 1 and, call by call, demand 2 are parts of the contracts of the public functions, `Does`, `Applies` and `Gives`; the rest is proved in
 -- proofs/Demands.antt from these contracts alone.
 use mathlib.Core.Path.{_≡_}
 use mathlib.Core.Bool.{true, false}
@@ -8,8 +8,8 @@ use mathlib.Core.List.{List, [], _∷_, _++_, map}
 use Prim.Native.Nat.{ℕ, _%_, _≤_}
 use lib.ListN.{length}
 use Rattle.model.specs.Store.{Content, Store, Hub, blank, up, upFrom}
-use Rattle.model.specs.Rules.{Given, document01, inForce, Ruled, allUnder}
-use Rattle.model.specs.Answer.{Ok, No}
+use Rattle.model.specs.Rules.{Given, ofTotals, document01, inForce, Ruled, allUnder}
+use Rattle.model.specs.Answer.{Ok, No, said}
 use Rattle.model.specs.Record.{Sizes, SetUp, Asks, decode, recordsOf}
 use Rattle.model.specs.Apply.{giveTable, emptied, apply, applyRuled, answersTo}
 use Rattle.model.specs.Demand.{events, Exchange, exchange, history, startOf, Demand3, rowsIn}
@@ -29,53 +29,68 @@ use Rattle.simulation.specs.Buffer.{exchangeAt, Applies}
 ------------------------------------------------------------------------
 -- Calls one after the other
 
--- a call for one record, or for a buffer: what it was lent and gave back beside the memory, and the memory after it
+-- a call, by what it asks: what it was lent and gave back beside the memory, and the memory after it
 pub data CallIn : Type 0 where
-  -- what was given for a setup, the record, its answer
+  -- one record: what was given for a setup, the record, its answer
   ForRecord : Given → List ℕ → Answer → Memory → CallIn
-  -- what was given for a setup, the bytes, the two rows before it, how many records it applied, the rows after it
-  ForBuffer : Given → List ℕ → List ℕ → List ℕ → ℕ → List ℕ → List ℕ → Memory → CallIn
+  -- records: what was given for a setup, the bytes, the two rows before it, how many records it applied, the rows after it
+  ForRecords : Given → List ℕ → List ℕ → List ℕ → ℕ → List ℕ → List ℕ → Memory → CallIn
+  -- a table of rights: its bytes, its answer
+  ForTable : List ℕ → Answer → Memory → CallIn
 
 abbrev pub leftBy : CallIn → Memory
 leftBy (ForRecord given b y m) = m
-leftBy (ForBuffer given bytes kinds numbers n kinds′ numbers′ m) = m
+leftBy (ForRecords given bytes kinds numbers n kinds′ numbers′ m) = m
+leftBy (ForTable bytes y m) = m
 
 -- the call, on memory m, did what its contract says
 abbrev pub Called : Memory → CallIn → Type 0
 Called m (ForRecord given b y m′) = Does m given b y m′
-Called m (ForBuffer given bytes kinds numbers n kinds′ numbers′ m′) = Applies m given bytes kinds numbers n m′ kinds′ numbers′
+Called m (ForRecords given bytes kinds numbers n kinds′ numbers′ m′) = Applies m given bytes kinds numbers n m′ kinds′ numbers′
+Called m (ForTable bytes y m′) = Gives m bytes y m′
+
+-- A table among other calls is one that is refused, as every table after a setup is (`late` below). One that is accepted changes memory that is not set
+-- up (`table` below): a list of calls begins behind it.
+abbrev pub Among : CallIn → Type 0
+Among (ForRecord given b y m) = Unit {0}
+Among (ForRecords given bytes kinds numbers n kinds′ numbers′ m) = Unit {0}
+Among (ForTable bytes y m) = said (answerOf y) .ok ≡ false
 
 -- Calls in any mix, the first on memory m: each is lent the memory as the one before left it, and nobody else writes to it (H6.5).
 unfoldable pub Calls : Memory → List CallIn → Type 0
 Calls m [] = Unit {0}
-Calls m (c ∷ cs) = Called m c × Calls (leftBy c) cs
+Calls m (c ∷ cs) = Called m c × Among c × Calls (leftBy c) cs
 
 -- the memory after them
 unfoldable pub leftByAll : Memory → List CallIn → Memory
 leftByAll m [] = m
 leftByAll m (c ∷ cs) = leftByAll (leftBy c) cs
 
--- what was sent and answered, in a call and in a list of them
+-- what was sent and answered, in a call and in a list of them; a table is no record
 abbrev pub exchanged : CallIn → List Exchange
 exchanged (ForRecord given b y m) = exchangeOf given b y ∷ []
-exchanged (ForBuffer given bytes kinds numbers n kinds′ numbers′ m) = map (exchangeAt given bytes kinds′ numbers′) (upFrom 0 n)
+exchanged (ForRecords given bytes kinds numbers n kinds′ numbers′ m) = map (exchangeAt given bytes kinds′ numbers′) (upFrom 0 n)
+exchanged (ForTable bytes y m) = []
 
 unfoldable pub exchanges : List CallIn → List Exchange
 exchanges [] = []
 exchanges (c ∷ cs) = exchanged c ++ exchanges cs
 
--- what a call was given for a setup, its bytes, and that it applied all records of them
+-- what a call was given for a setup, its bytes, and that it applied all records of them; a table has none
 abbrev pub givenIn : CallIn → Given
 givenIn (ForRecord given b y m) = given
-givenIn (ForBuffer given bytes kinds numbers n kinds′ numbers′ m) = given
+givenIn (ForRecords given bytes kinds numbers n kinds′ numbers′ m) = given
+givenIn (ForTable bytes y m) = ofTotals []
 
 abbrev pub bytesIn : CallIn → List ℕ
 bytesIn (ForRecord given b y m) = b
-bytesIn (ForBuffer given bytes kinds numbers n kinds′ numbers′ m) = bytes
+bytesIn (ForRecords given bytes kinds numbers n kinds′ numbers′ m) = bytes
+bytesIn (ForTable bytes y m) = bytes
 
 abbrev pub AppliedAll : CallIn → Type 0
 AppliedAll (ForRecord given b y m) = (1 ≤ length b) × (length b ≤ 16)
-AppliedAll (ForBuffer given bytes kinds numbers n kinds′ numbers′ m) = n ≡ recordsIn bytes
+AppliedAll (ForRecords given bytes kinds numbers n kinds′ numbers′ m) = n ≡ recordsIn bytes
+AppliedAll (ForTable bytes y m) = ⊥
 
 -- The calls, all given the same for a setup, apply a file part by part: each part but the last is whole records.
 unfoldable pub InParts : Given → List CallIn → List ℕ → Type 0
