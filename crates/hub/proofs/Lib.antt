@@ -11,4 +11,5 @@ pub mod Performs
 pub mod Rows
 pub mod SlotArray
 pub mod Values
+pub mod Whole
 pub mod Words

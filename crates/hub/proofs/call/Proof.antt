@@ -54,6 +54,7 @@ use Rattle.calls.proofs.Call.Laws as D′
 use Rattle.hub.proofs.Rows.{through}
 use Rattle.hub.proofs.Lends.{big-lit}
 use Rattle.hub.proofs.Local.{lends-local, takes-back}
+use Rattle.hub.proofs.Whole.{on-row}
 use Rattle.hub.proofs.Words.{Words}
 use Rattle.hub.proofs.Values.{hub-vals, call-vals, called-vals, typed-hub, typed-call, typed-called}
 use Rattle.hub.proofs.Passed.{Lent, LentLeft, lent-types, lent-vals, lent-spells, lent-tells, lent-list, lent-end}
@@ -114,7 +115,7 @@ module _ {M : Type 1} (𝓤 : URA M) (H : Heap 𝓤) (A : Atoms 𝓤) (W : Given
   -- as the contract has it
   row-done : (zs : List Slot) (r : Called) (z : LentLeft) → (rest-of 2048 zs ≡ rest-of 2048 ys) × Did r z (take 2048 ys) (take 2048 zs)
       → RowDone what hub ys x r zs z
-  row-done zs r z e = record { performed = e .1; rest = e .0 }
+  row-done zs r z e = on-row _ _ (e .0) _ _ _ _ r _ _ what (e .1)
 
   exits : (zs : List Slot) (r : Called) (z : LentLeft) → RowDone what hub ys x r zs z → length zs ≡ n
       → SameLong x z → Is P.the-row r (called-vals r)
