@@ -1,6 +1,4 @@
 // The calls for records, on slots that are words: one record, or as many of a buffer as there is room for answers. Both go through the loop of `core`.
-ghost use mathlib.Core.Path.{_≡_};
-ghost use Prim.Native.Nat.{_+_, _/_};
 ghost use Rattle.model.specs.Rules.{ofTotals};
 ghost use Rattle.versions.specs.Versions.{rowOf};
 ghost use Rattle.simulation.specs.Memory.{memory};
@@ -107,16 +105,6 @@ pub fn apply_one(
 
 // ---- the records of a buffer
 
-// How many records n bytes are. A rest of fewer than sixteen is one more.
-fn count_records(n: usize) -> usize
-    ensures { λ r. ⌜ r ≡ (n + 15) / 16 ⌝ }
-{
-    if n % 16 == 0 {
-        return n / 16;
-    }
-    n / 16 + 1
-}
-
 // Applies the records of the bytes, as many as there is room for answers: the kind and the number of answer k stand at k.
 pub fn apply_all(
     row: &mut [[u64; 6]],
@@ -141,8 +129,7 @@ pub fn apply_all(
         (now (kinds .exit)) (now (numbers .exit))
         ⌝ }
 {
-    let room = bounds::at_most(kinds.len(), numbers.len());
-    let count = bounds::at_most(count_records(bytes.len()), room);
+    let count = record_count::answerable(bytes.len(), kinds.len(), numbers.len());
     let done = run(
         row,
         hub,
