@@ -1,1 +1,2 @@
+pub mod InDemands
 pub mod Within
