@@ -27,7 +27,7 @@ use Rattle.simulation.specs.Memory.{Memory, memory}
 use Rattle.called.specs.declared.Called.{Called}
 use Rattle.calls.specs.declared.Call.{Call}
 use Rattle.calls.specs.Calls.{Performed}
-use Rattle.hub.specs.Rows.{OnRow}
+use Rattle.hub.specs.OnRow.{OnRow}
 
 -- ---- the five arrays
 abbrev Newest : RattleType

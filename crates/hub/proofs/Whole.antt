@@ -13,7 +13,7 @@ use Rattle.called.specs.declared.Called.{Called}
 use Rattle.calls.specs.declared.Call.{Call}
 use Rattle.calls.specs.declared.Call.the-variants.{Record, Records, Give}
 use Rattle.calls.specs.Calls.{Performed}
-use Rattle.hub.specs.Rows.{WithRow, OnRow}
+use Rattle.hub.specs.OnRow.{WithRow, OnRow}
 
 module _ (m m′ : Memory) (rest : drop 2048 (m′ .slots) ≡ drop 2048 (m .slots)) (given : Given) (bytes kinds numbers : List ℕ) (r : Called)
     (kinds′ numbers′ : List ℕ) where

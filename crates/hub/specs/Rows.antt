@@ -1,34 +1,11 @@
--- Slots copied from one row into another, and what a call on a lent row of slots promises.
-use mathlib.Core.Path.{_≡_}
+-- Slots copied from one row into another.
 use mathlib.Core.List.{List}
 use Prim.Native.Nat.{ℕ, zero, suc}
-use lib.ListN.{set, drop}
-use Rattle.model.specs.Rules.{Given}
+use lib.ListN.{set}
 use Rattle.slots.specs.declared.Slot.{Slot}
 use Rattle.versions.specs.Versions.{slotAtIn}
-use Rattle.simulation.specs.Memory.{Memory, cut}
-use Rattle.simulation.specs.Public.{Does}
-use Rattle.values.specs.declared.Answer.{Answer}
-use Rattle.tables.specs.Tables.{GivesTable}
-use Rattle.called.specs.declared.Called.{Called}
-use Rattle.calls.specs.declared.Call.{Call}
-use Rattle.calls.specs.declared.Call.the-variants.{Record, Records, Give}
-use Rattle.calls.specs.Calls.{Performed}
 
 -- the first n slots are copied from one row into another
 unfoldable pub copiedTo : List Slot → List Slot → ℕ → List Slot
 copiedTo slots onto zero = onto
 copiedTo slots onto (suc n) = set (copiedTo slots onto n) n (slotAtIn slots n)
-
--- what is said of one record, or of a table, with the whole row
-abbrev pub WithRow : Call → Memory → Given → List ℕ → Answer → Memory → Type 0
-WithRow Record m given bytes y m′ = Does m given bytes y m′
-WithRow Records m given bytes y m′ = Unit {0}
-WithRow (Give table) m given bytes y m′ = GivesTable table m bytes y m′
-
--- The call `what` on the memory m, whose row has any length: it keeps to the first 2048 slots (H8.7).
-pub record OnRow (what : Call) (m : Memory) (given : Given) (bytes kinds numbers : List ℕ) (r : Called) (m′ : Memory) (kinds′ numbers′ : List ℕ) : Type 0 where
-  pub performed : Performed what (cut m) given bytes kinds numbers r (cut m′) kinds′ numbers′
-  -- the rest of the row is as it was
-  pub rest : drop 2048 (m′ .slots) ≡ drop 2048 (m .slots)
-  pub whole : WithRow what m given bytes (r .answer) m′

@@ -3,13 +3,11 @@ use mathlib.Core.Path.{_≡_}
 use mathlib.Core.List.{List}
 use Prim.Native.Nat.{ℕ}
 use Rattle.model.specs.Rules.{Given}
-use Rattle.values.specs.declared.Answer.{Answer}
 use Rattle.values.specs.declared.Answer.the-variants.{Ok}
 use Rattle.called.specs.declared.Called.{Called}
 use Rattle.simulation.specs.Memory.{Memory}
 use Rattle.simulation.specs.Left.{Sized}
 use Rattle.simulation.specs.Shell.{doneOf}
-use Rattle.simulation.specs.Loop.{Ran}
 use Rattle.simulation.specs.Public.{Does}
 use Rattle.simulation.specs.Buffer.{Applies}
 
@@ -29,8 +27,3 @@ pub record AllApplied (m : Memory) (given : Given) (bytes kinds numbers : List �
   pub applies : Applies m given bytes kinds numbers (r .count) m′ kinds′ numbers′
   -- the answers stand in the rows
   pub answer : r .answer ≡ Ok
-
--- the loop ran for n records, on memory whose arrays are as long as their types say
-pub record RanSized (m : Memory) (given : Given) (bytes kinds numbers : List ℕ) (n : ℕ) (m′ : Memory) (kinds′ numbers′ : List ℕ) (y : Answer) : Type 0 where
-  pub sized : Sized m
-  pub ran : Ran m given bytes kinds numbers n m′ kinds′ numbers′ y

@@ -2,7 +2,8 @@
 ghost use Rattle.model.specs.Rules.{ofTotals};
 ghost use Rattle.versions.specs.Versions.{rowOf};
 ghost use Rattle.simulation.specs.Memory.{memory};
-ghost use Rattle.records.specs.Records.{RanSized, OneApplied, AllApplied};
+ghost use Rattle.records.specs.Records.{OneApplied, AllApplied};
+ghost use Rattle.records.specs.Sized.{RanSized};
 use called::Called;
 use core::Ended;
 use state::Hub;

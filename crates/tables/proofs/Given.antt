@@ -18,7 +18,8 @@ use Rattle.simulation.specs.Tables.{withTable, tableGiven, Gives}
 use Rattle.simulation.proofs.Laid.{cond-yes, cond-no}
 use Rattle.tables.specs.declared.Table.{Table}
 use Rattle.tables.specs.declared.Table.the-variants.{Rights}
-use Rattle.tables.specs.Tables.{GivesTable, TableGiven, RightsTaken}
+use Rattle.tables.specs.Tables.{GivesTable}
+use Rattle.tables.specs.Taken.{RightsTaken}
 
 -- what the test says of the memory
 pub tested : (h : Hub) (row : List (List ℕ)) (newest free queue lens merged : List ℕ) (up linked : Bool)

@@ -1,15 +1,11 @@
 -- What the call that gives a table promises, on the memory that is lent.
 use mathlib.Core.Path.{_≡_}
-use mathlib.Core.Bool.{cond}
 use mathlib.Core.List.{List}
 use Prim.Native.Nat.{ℕ}
-use Rattle.model.specs.Rights.{tableFits}
 use Rattle.values.specs.declared.Answer.{Answer}
-use Rattle.values.specs.declared.Answer.the-variants.{Ok, No}
-use Rattle.state.specs.declared.Hub.{Hub}
 use Rattle.called.specs.declared.Called.{Called}
 use Rattle.simulation.specs.Memory.{Memory}
-use Rattle.simulation.specs.Tables.{withTable, Gives}
+use Rattle.simulation.specs.Tables.{Gives}
 use Rattle.tables.specs.declared.Table.{Table}
 use Rattle.tables.specs.declared.Table.the-variants.{Rights}
 
@@ -21,10 +17,4 @@ GivesTable Rights m bytes y m′ = Gives m bytes y m′
 pub record TableGiven (table : Table) (m : Memory) (bytes : List ℕ) (r : Called) (m′ : Memory) : Type 0 where
   pub gives : GivesTable table m bytes (r .answer) m′
   -- no record was applied
-  pub count : r .count ≡ 0
-
--- what is given back for a table of rights where the memory, with the hub h by value, does not count as set up
-pub record RightsTaken (h : Hub) (bytes : List ℕ) (r : Called) : Type 0 where
-  pub hub : r .hub ≡ cond (tableFits bytes) (withTable h bytes) h
-  pub answer : r .answer ≡ cond (tableFits bytes) Ok (No 24)
   pub count : r .count ≡ 0

@@ -1,7 +1,8 @@
 // The call that gives a table, on slots that are words.
 ghost use Rattle.versions.specs.Versions.{rowOf};
 ghost use Rattle.simulation.specs.Memory.{memory};
-ghost use Rattle.tables.specs.Tables.{RightsTaken, TableGiven};
+ghost use Rattle.tables.specs.Tables.{TableGiven};
+ghost use Rattle.tables.specs.Taken.{RightsTaken};
 use called::Called;
 use state::Hub;
 use values::Answer;
