@@ -1,4 +1,4 @@
-//! `eachlog` applies each record by itself, with one call of `hub::apply`. It prints what the second program and `hublog` print, and on rows of
+//! `eachlog` applies each record by itself, with one call of `hub::call_owned`. It prints what the second program and `hublog` print, and on rows of
 //! other lengths what the second program says of such a row.
 
 use hublog_tests::{each_printed, printed_with};
