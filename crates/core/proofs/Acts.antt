@@ -29,7 +29,8 @@ use Rattle.turns.specs.declared.Arm.{Arm}
 use Rattle.turns.specs.declared.Arm.the-variants.{Says, Sets, Times, Reads, Makes, HandsIn, Splits, Moves}
 use Rattle.turns.specs.declared.Fixed.{Fixed}
 use Rattle.turns.specs.declared.Turn.{Turn}
-use Rattle.turns.specs.Parts.{Parts, parts, clockIn, freeIn, windowIn, countsAs}
+use Rattle.counts.specs.Counts.{clockIn, freeIn, windowIn, countsAs}
+use Rattle.turns.specs.Parts.{Parts, parts}
 use Rattle.turns.specs.Turns.{Turned, nextTurn, steppedIn, partsAfter, goTurn, turnBy}
 use Rattle.simulation.specs.Memory.{Memory, Result}
 use Rattle.simulation.specs.Shell.{takenIn, handedIn, tookIn, readIn, allReadIn, markedIn, splitIn, freedIn, offWorker, nextIn, goIn, setUpIn, obeyIn}

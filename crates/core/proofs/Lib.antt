@@ -5,3 +5,4 @@ pub mod Moving
 pub mod Acts
 pub mod Loop
 pub mod Stretches
+pub mod Sizes

@@ -31,7 +31,8 @@ use Rattle.turns.specs.declared.Arm.the-variants.{Says, Sets, Times, Reads, Mak
 use Rattle.turns.specs.declared.Fixed.{Fixed}
 use Rattle.turns.specs.declared.Sizes.{Sizes}
 use Rattle.turns.specs.declared.Turn.{Turn}
-use Rattle.turns.specs.Parts.{Parts, parts, freeIn, windowIn, countsAs}
+use Rattle.counts.specs.Counts.{freeIn, windowIn, countsAs}
+use Rattle.turns.specs.Parts.{Parts, parts}
 use Rattle.turns.specs.Turns.{Turned, turnBy, decidedIn, turnOf}
 use Rattle.simulation.specs.Memory.{Memory, Result}
 use Rattle.simulation.specs.Shell.{offWorker, setUpIn, obeyIn, gateIn, doneAs}

@@ -12,7 +12,8 @@ use Rattle.state.specs.declared.Site.{Site}
 use Rattle.state.specs.declared.Hub.{Hub}
 use Rattle.turns.specs.declared.Fixed.{Fixed}
 use Rattle.turns.specs.declared.Sizes.{Sizes}
-use Rattle.turns.specs.Parts.{Parts, clockIn, freeIn, windowIn}
+use Rattle.counts.specs.Counts.{clockIn, freeIn, windowIn}
+use Rattle.turns.specs.Parts.{Parts}
 use Rattle.simulation.specs.Memory.{Memory, memory}
 use Rattle.simulation.specs.Shell.{setUpIn}
 use Rattle.simulation.specs.Loop.{State, after}

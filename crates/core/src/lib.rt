@@ -7,11 +7,11 @@ ghost use lib.ListN.{length, set};
 ghost use Rattle.model.specs.Rules.{ofTotals};
 ghost use Rattle.versions.specs.Versions.{rowOf};
 ghost use Rattle.simulation.specs.Memory.{memory};
-ghost use Rattle.simulation.specs.Loop.{Ran};
 ghost use Rattle.simulation.specs.Records.{recordAt};
 ghost use Rattle.pools.specs.Placed.{placed};
 ghost use Rattle.worker.specs.Rep.{timeOf};
 ghost use Rattle.turns.specs.Parts.{parts};
+ghost use Rattle.core.specs.Sized.{RanSized};
 ghost use Rattle.core.specs.Stretch.{siteOf, memoryOf, stateWith, Went, RestRefused};
 use answers::Said;
 use state::Hub;
@@ -227,7 +227,7 @@ fn run_lent<'a>(
                 let f = splitting::flush_split(
                     queue,
                     lens,
-                    turns::window_of(counts),
+                    counts::window_of(counts),
                     merged,
                     w,
                     t.merged,
@@ -240,7 +240,7 @@ fn run_lent<'a>(
                     &mut joined,
                 );
                 let window = f.window;
-                turns::set_window(counts, window);
+                counts::set_window(counts, window);
                 workers[w] = Worker {
                     doing: Doing::FlushFree { left: f.left },
                     pool: worker::EMPTY,
@@ -437,7 +437,7 @@ pub fn run(
     merged: &mut [u32; 12288],
 ) -> Ended
     ensures { λ r. ⌜
-        Ran
+        RanSized
         (memory start (rowOf (now (row .entry)))
         (now (newest .entry)) (now (free .entry)) (now (queue .entry)) (now (lens .entry)) (now (merged .entry)))
         (ofTotals (now (list .entry))) (now (bytes .entry)) (now (kinds .entry)) (now (numbers .entry))
@@ -447,6 +447,12 @@ pub fn run(
         (now (kinds .exit)) (now (numbers .exit)) (r .last)
         ⌝ }
 {
+    // Where an array is lent as a slice, the proof learns how long it is.
+    let newest_long: &[u16] = newest;
+    let free_long: &[u16] = free;
+    let queue_long: &[u32] = queue;
+    let lens_long: &[u32] = lens;
+    let merged_long: &[u32] = merged;
     let linked = all_versions::all_linked(row, start.site.n);
     let mut up = ready::ready(start, newest, free, queue, lens, merged, linked, row.len());
     let room = bounds::at_most(kinds.len(), numbers.len());

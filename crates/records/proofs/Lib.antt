@@ -1,3 +1,3 @@
 pub mod First
 pub mod One
-pub mod Sizes
+pub mod Room

@@ -27,7 +27,8 @@ use Rattle.slots.specs.declared.Slot.{Slot}
 use Rattle.slots.specs.Slots.{slotRep, slotOf, vacantSlot, linkedAnd, linkedTo}
 use Rattle.state.specs.declared.Hub.{Hub}
 use Rattle.state.specs.State.{standing}
-use Rattle.ready.specs.Ready.{sizesFit, scansFit, readyOf}
+use Rattle.ready_sizes.specs.Sizes.{sizesFit}
+use Rattle.ready.specs.Ready.{scansFit, readyOf}
 use Rattle.simulation.specs.Memory.{Memory, lentIn, cut, write, withHub, nextHub, writeHub, Result, answered}
 use Rattle.simulation.specs.Left.{LeftByRecords, Left, Sized, ready}
 use Rattle.simulation.specs.Shell.{doneOf}

@@ -29,7 +29,8 @@ use Rattle.freeing.specs.Freeing.{freedStep, freedRow, freedFree}
 use Rattle.turns.specs.declared.Arm.the-variants.{Sets}
 use Rattle.turns.specs.declared.Fixed.{Fixed}
 use Rattle.turns.specs.declared.Turn.{Turn}
-use Rattle.turns.specs.Parts.{Parts, parts, clockAs, freeIn, windowIn, countsAs}
+use Rattle.counts.specs.Counts.{clockAs, freeIn, windowIn, countsAs}
+use Rattle.turns.specs.Parts.{Parts, parts}
 use Rattle.turns.specs.Turns.{leftTo, takenTurn, handTurn, readTurn, splitTurn, freeTurn, Turned, tookMerged, marksRead, nextTurn, steppedIn}
 use Rattle.turns.specs.Turns.{partsAfter, goTurn, turnBy, turnOf}
 

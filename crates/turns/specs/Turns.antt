@@ -38,7 +38,8 @@ use Rattle.turns.specs.declared.Arm.the-variants.{Says, Sets, Times, Rea
 use Rattle.turns.specs.declared.Sizes.{Sizes}
 use Rattle.turns.specs.declared.Turn.{Turn}
 use Rattle.turns.specs.declared.Fixed.{Fixed}
-use Rattle.turns.specs.Parts.{Parts, parts, clockIn, clockAs, freeIn, windowIn, countsAs}
+use Rattle.counts.specs.Counts.{clockIn, clockAs, freeIn, windowIn, countsAs}
+use Rattle.turns.specs.Parts.{Parts, parts}
 
 ------------------------------------------------------------------------
 -- What is left to the loop

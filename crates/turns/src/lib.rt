@@ -12,14 +12,14 @@ ghost use Rattle.flush.specs.Flush.{handedOn};
 ghost use Rattle.freeing.specs.Freeing.{freedStep, freedRow, freedFree};
 ghost use Rattle.turns.specs.declared.Arm.the-variants.{Sets};
 ghost use Rattle.versions.specs.Versions.{rowOf};
-ghost use Rattle.turns.specs.Parts.{parts, clockAs, freeIn, windowIn, countsAs};
+ghost use Rattle.counts.specs.Counts.{clockAs, freeIn, windowIn, countsAs};
+ghost use Rattle.turns.specs.Parts.{parts};
 ghost use Rattle.turns.specs.Turns.{leftTo, takenTurn, handTurn, readTurn, splitTurn, freeTurn, madeTurn, tookMerged, marksRead, goTurn, turnOf};
 use announcing::Outcome;
 use answers::Said;
 use gate::Gate;
 use step::Next;
 use values::Answer;
-use values::Window;
 use worker::Announced;
 use worker::Doing;
 
@@ -109,44 +109,6 @@ fn made(p: u8, v: u16, n: u16, clock: u32) -> Turn
     Turn { sizes, ..t }
 }
 
-// ---- the counts
-
-pub fn window_of(counts: &[usize; 5]) -> Window
-    ensures { λ r. ⌜ r ≡ windowIn (now (counts .entry)) ⌝ }
-{
-    Window {
-        first: counts[1],
-        pools: counts[2],
-        from: counts[3],
-        queued: counts[4],
-    }
-}
-
-fn set_clock(clock: &mut [u32; 1], k: u32)
-    ensures { λ _. ⌜ now (clock .exit) ≡ clockAs k ⌝ }
-{
-    let to: &mut [u32] = clock;
-    to[0] = k;
-}
-
-fn set_free(counts: &mut [usize; 5], n: usize)
-    ensures { λ _. ⌜ now (counts .exit) ≡ countsAs n (windowIn (now (counts .entry))) ⌝ }
-{
-    let to: &mut [usize] = counts;
-    to[0] = n;
-}
-
-// The queue's window, behind how many slots are free.
-pub fn set_window(counts: &mut [usize; 5], w: Window)
-    ensures { λ _. ⌜ now (counts .exit) ≡ countsAs (freeIn (now (counts .entry))) w ⌝ }
-{
-    let to: &mut [usize] = counts;
-    to[1] = w.first;
-    to[2] = w.pools;
-    to[3] = w.from;
-    to[4] = w.queued;
-}
-
 // ---- steps
 
 // A step that is done at once.
@@ -164,8 +126,8 @@ fn taken(
     ensures { λ _. ⌜ now (counts .exit) ≡ countsAs (o .free) (windowIn (now (counts .entry))) ⌝ }
     ensures { λ _. ⌜ now (reading .exit) ≡ set (now (reading .entry)) w (readNext d (o .doing) (getD (now (reading .entry)) w 0)) ⌝ }
 {
-    set_clock(clock, o.clock);
-    set_free(counts, o.free);
+    counts::set_clock(clock, o.clock);
+    counts::set_free(counts, o.free);
     let doing = o.doing;
     let old = reading[w];
     reading[w] = marks::read_next(d, doing, old);
@@ -214,9 +176,9 @@ fn take(
         ≡ tookMerged (poolsIn (now (queue .entry)) (now (lens .entry)) (windowIn (now (counts .entry)))) (now (merged .entry)) w
         ⌝ }
 {
-    let f = flush::flush_take(queue, lens, window_of(counts), merged, w);
+    let f = flush::flush_take(queue, lens, counts::window_of(counts), merged, w);
     let window = f.window;
-    set_window(counts, window);
+    counts::set_window(counts, window);
     left_to(
         Arm::Sets,
         Doing::FlushRead {
@@ -305,7 +267,7 @@ fn free_one(
         ⌝ }
 {
     let f = freeing::flush_free(row, free, merged, w, left, counts[0]);
-    set_free(counts, f.free);
+    counts::set_free(counts, f.free);
     let t = left_to(
         Arm::Moves,
         Doing::FlushFree { left: left - 1 },

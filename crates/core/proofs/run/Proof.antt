@@ -10,6 +10,7 @@ use Rattle.simulation.specs.Memory.{memory}
 use Rattle.simulation.specs.Loop.{after}
 use Rattle.core.specs.Stretch.{stateWith}
 use Rattle.core.proofs.Tested.{ready-few}
+use Rattle.core.proofs.Sizes.{hub-long}
 use Rattle.core.proofs.Stretches.{Reached, went-on, went-up, whole-fits, whole-short, ready-is, finished}
 use Rattle.core.proofs.run.Statement.{statement}
 use Rattle.core.proofs.run.Tie as tie
@@ -131,11 +132,29 @@ returns c =
     let L = c .before .before .before .before .before .before .before .before in
     let M = L .before in
     let Y = M .before .before .before in
-    let A = Y .before .before .before .before .before .before .before .before .before .before .before .before in
-    finished _ _ _ _ _ _ _ _ _ _ _ _ _ _ (L .loop .inv .0) (c .before .before .before .before .before .before .before .loop-test .left) (Q .refuse-rest .ensures)
-    (whole-short (A .args .bytes .now) _ _ (M .at-most3 .ensures .0))
-    (M .before .at-most2 .ensures .0 ∙ ap (min _) (M .before .before .at-most .ensures .0))
-    (ready-is _ (A .args .row .now) _ _ _ _ _ _ _ (Y .before .before .before .before .before .before .all-linked .ensures) (Y .ready .ensures))
+    let G = Y .before .before .before .before .before .before .before .before in
+    let A = G .before .before .before .before .before .before .before .before .before .before .before .before .before .before in
+    let h = hub-long (A .args .start) (A .good .1 .0) in
+    record {
+      sized = record {
+        workers = h .workers;
+        times = h .times;
+        marks = h .marks;
+        reading = h .reading;
+        rows = h .rows;
+        rights = h .rights;
+        newest = G .before .before .before .before .before .before .before .before .newest-long2 .given .0;
+        free = G .before .before .before .before .before .before .free-long2 .given .0;
+        queue = G .before .before .before .before .queue-long2 .given .0;
+        lens = G .before .before .lens-long2 .given .0;
+        merged = G .merged-long2 .given .0;
+      };
+      ran =
+          finished _ _ _ _ _ _ _ _ _ _ _ _ _ _ (L .loop .inv .0) (c .before .before .before .before .before .before .before .loop-test .left) (Q .refuse-rest .ensures)
+          (whole-short (A .args .bytes .now) _ _ (M .at-most3 .ensures .0))
+          (M .before .at-most2 .ensures .0 ∙ ap (min _) (M .before .before .at-most .ensures .0))
+          (ready-is _ (A .args .row .now) _ _ _ _ _ _ _ (Y .before .before .before .before .before .before .all-linked .ensures) (Y .ready .ensures));
+    }
 
 pub run-spec : {M : Type 1} → statement M
 run-spec =

@@ -1,6 +1,7 @@
 -- `apply_all` meets its contract: the loop ran for as many records as there are and as there is room for.
 use mathlib.Core.Path.{refl}
 use borrow.Author.Needs.{needs}
+use Rattle.records.proofs.Room.{ran-all}
 use Rattle.simulation.proofs.Main.{applies}
 use Rattle.records.proofs.apply_all.Statement.{statement}
 use Rattle.records.proofs.apply_all.Tie as tie
@@ -29,7 +30,7 @@ returns c =
       sized = p .run .ensures .sized;
       applies =
           applies _ _ _ _ _ _ _ _ _ (p .run .ensures .sized) (λ i. k .shared-slice-known2 .given i .fits)
-          (record { count = n .answerable .ensures; last = p .run .result .last; ran = p .run .ensures .ran });
+          (record { count = n .answerable .ensures; last = p .run .result .last; ran = ran-all (n .answerable .ensures) (p .run .ensures .ran) });
       answer = refl;
     }
 

@@ -1,8 +1,8 @@
 -- `set_free` meets its contract: the array has five entries.
-use Rattle.turns.proofs.Counts.{free-set}
+use Rattle.counts.proofs.Counts.{free-set}
 use borrow.Author.Needs.{needs}
-use Rattle.turns.proofs.set_free.Statement.{statement}
-use Rattle.turns.proofs.set_free.Tie as tie
+use Rattle.counts.proofs.set_free.Statement.{statement}
+use Rattle.counts.proofs.set_free.Tie as tie
 
 slice-write-to : tie.Need-slice-write-to
 slice-write-to c = search needs

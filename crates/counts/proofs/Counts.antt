@@ -5,7 +5,7 @@ use Prim.Native.Nat.{ℕ, suc}
 use native.Mathlib.Omega.{arith}
 use lib.ListN.{length, set}
 use Rattle.values.specs.declared.Window.{Window}
-use Rattle.turns.specs.Parts.{clockAs, freeIn, windowIn, countsAs}
+use Rattle.counts.specs.Counts.{clockAs, freeIn, windowIn, countsAs}
 
 pub clock-set : (l : List ℕ) (k : ℕ) → length l ≡ 1 → set l 0 k ≡ clockAs k
 clock-set [] k e = absurd (omega (arith, e))
@@ -13,9 +13,6 @@ clock-set (a ∷ []) k e = refl
 clock-set (a ∷ b ∷ l) k e = absurd (omega (arith, e))
 
 -- five entries
-Five : (List ℕ → Type 0) → Type 0
-Five P = (l : List ℕ) → length l ≡ 5 → P l
-
 five : (P : List ℕ → Type 0) → ((a b c d e : ℕ) → P (a ∷ b ∷ c ∷ d ∷ e ∷ [])) → (l : List ℕ) → length l ≡ 5 → P l
 five P f [] e = absurd (omega (arith, e))
 five P f (a ∷ []) e = absurd (omega (arith, e))

@@ -1,8 +1,8 @@
 -- `set_window` meets its contract: the array has five entries.
-use Rattle.turns.proofs.Counts.{window-set}
+use Rattle.counts.proofs.Counts.{window-set}
 use borrow.Author.Needs.{needs}
-use Rattle.turns.proofs.set_window.Statement.{statement}
-use Rattle.turns.proofs.set_window.Tie as tie
+use Rattle.counts.proofs.set_window.Statement.{statement}
+use Rattle.counts.proofs.set_window.Tie as tie
 
 slice-write-to : tie.Need-slice-write-to
 slice-write-to c = search needs

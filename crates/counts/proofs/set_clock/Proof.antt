@@ -1,8 +1,8 @@
 -- `set_clock` meets its contract: the array has one entry.
-use Rattle.turns.proofs.Counts.{clock-set}
+use Rattle.counts.proofs.Counts.{clock-set}
 use borrow.Author.Needs.{needs}
-use Rattle.turns.proofs.set_clock.Statement.{statement}
-use Rattle.turns.proofs.set_clock.Tie as tie
+use Rattle.counts.proofs.set_clock.Statement.{statement}
+use Rattle.counts.proofs.set_clock.Tie as tie
 
 slice-write-to : tie.Need-slice-write-to
 slice-write-to c = search needs
