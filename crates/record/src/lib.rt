@@ -42,7 +42,20 @@ fn wide16(x: u8) -> u16
     x as u16
 }
 
-// The numbers in one, two, four and eight bytes from place i on.
+fn wide32(x: u16) -> u32
+    ensures { λ r. ⌜ (r ≡ x) × (r < 65536) ⌝ }
+{
+    x as u32
+}
+
+fn wide64(x: u32) -> u64
+    ensures { λ r. ⌜ (r ≡ x) × (r < 4294967296) ⌝ }
+{
+    x as u64
+}
+
+// The numbers in one, two, four and eight bytes from place i on. They are read here and not by `le`, whose tests of the length shape the loop
+// otherwise: a record would take ten instructions more.
 fn one(b: &[u8], i: usize) -> u8
     requires { ⌜ i + 1 ≤ length (now b) ⌝ }
     ensures { λ r. ⌜ r ≡ number (now (b .entry)) i 1 ⌝ }
@@ -54,21 +67,21 @@ fn two(b: &[u8], i: usize) -> u16
     requires { ⌜ i + 2 ≤ length (now b) ⌝ }
     ensures { λ r. ⌜ r ≡ number (now (b .entry)) i 2 ⌝ }
 {
-    le::two(b, i)
+    wide16(one(b, i)) + 256 * wide16(one(b, i + 1))
 }
 
 fn four(b: &[u8], i: usize) -> u32
     requires { ⌜ i + 4 ≤ length (now b) ⌝ }
     ensures { λ r. ⌜ r ≡ number (now (b .entry)) i 4 ⌝ }
 {
-    le::four(b, i)
+    wide32(two(b, i)) + 65536 * wide32(two(b, i + 2))
 }
 
 fn eight(b: &[u8], i: usize) -> u64
     requires { ⌜ i + 8 ≤ length (now b) ⌝ }
     ensures { λ r. ⌜ r ≡ number (now (b .entry)) i 8 ⌝ }
 {
-    le::eight(b, i)
+    wide64(four(b, i)) + 4294967296 * wide64(four(b, i + 4))
 }
 
 // Whether the bytes 5 to 7 are zero, whether the bytes 5 to 15 are, whether the bytes 4 to 15 are, and whether the bytes 2 to 15 are: they
