@@ -64,7 +64,8 @@ module _ (n k : ℕ) (row part : List (List ℕ)) (is : k ≡ min n (length row)
   first-out = ap rowOf (sym (take-at part (drop (k - 0) row) k part-long) ∙ take-most n k left left-long) ∙ row-take n left
 
   -- ---- what a call does to the first words is what is said of the first slots, by what is asked
-  module _ {h : Hub} {newest free queue lens merged newest′ free′ queue′ lens′ merged′ : List ℕ} {given : Given} {bytes kinds numbers kinds′ numbers′ : List ℕ}
+  module _ {h : Hub} {newest free queue lens merged newest′ free′ queue′ lens′ merged′ : List ℕ} {given : Given} {bytes kinds numbers kinds′
+      numbers′ : List ℕ}
       {r : Called} where
     pub performed : (what this : Call) → what ≡ this
         → Performed this (memory h (rowOf (take (k - 0) row)) newest free queue lens merged) given bytes kinds numbers r

@@ -19,8 +19,10 @@ DoneBy Record m given bytes kinds numbers r m′ kinds′ numbers′ = OneApplie
 DoneBy Records m given bytes kinds numbers r m′ kinds′ numbers′ = AllApplied m given bytes kinds numbers r m′ kinds′ numbers′
 DoneBy (Give table) m given bytes kinds numbers r m′ kinds′ numbers′ = TableGiven table m bytes r m′ × (kinds′ ≡ kinds) × (numbers′ ≡ numbers)
 
--- The call `what` met the memory m, with what is given for a setup, the bytes and the two rows; r was given back, and the memory m′ and the rows were left.
-pub record Performed (what : Call) (m : Memory) (given : Given) (bytes kinds numbers : List ℕ) (r : Called) (m′ : Memory) (kinds′ numbers′ : List ℕ) : Type 0 where
+-- The call `what` met the memory m, with what is given for a setup, the bytes and the two rows; r was given back, and the memory m′ and the
+-- rows were left.
+pub record Performed (what : Call) (m : Memory) (given : Given) (bytes kinds numbers : List ℕ) (r : Called) (m′ : Memory)
+    (kinds′ numbers′ : List ℕ) : Type 0 where
   pub done : DoneBy what m given bytes kinds numbers r m′ kinds′ numbers′
 
 -- ---- the call as the demands have it

@@ -1,4 +1,5 @@
--- What a function has at its end of what it was lent beside the slots and handed on for good: what says the last values. It has n lifetimes, and each
+-- What a function has at its end of what it was lent beside the slots and handed on for good: what says the last values. It has n lifetimes,
+-- and each
 -- of the lent things one of them.
 use mathlib.Core.Path.{refl}
 use Prim.Native.Nat.{ℕ}

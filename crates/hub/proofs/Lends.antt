@@ -55,7 +55,8 @@ module _ {M : Type 1} {𝓤 : URA M} {H : Heap 𝓤} {A : Atoms 𝓤} {K : Type 
   -- one slice, lent on as a `&mut [T]` beside j, which is handed over for good: T is the tokens as the callee's contract has them, j′ what comes
   -- back of j with them, L has the last values of the parameters, `last` the slice's among them, F is what is said of the others, and Φ is what
   -- the `ensures` says
-  module _ (Q : RattleType) (vals : Q .Denot → List Val) (tells : Tells Q (Is Q) vals) (R : RattleType) {κ : Lft} {p : Share} {γ : GName} (n b o : ℕ)
+  module _ (Q : RattleType) (vals : Q .Denot
+      → List Val) (tells : Tells Q (Is Q) vals) (R : RattleType) {κ : Lft} {p : Share} {γ : GName} (n b o : ℕ)
       (ys : List (R .Denot)) (len : length ys ≡ n) (room : Room R n) (x : Lft → GName → c .Ghost) (T : Lft → Item 𝓤)
       (S : Lft → GName → Q .Denot → SProp 𝓤) (j j′ : Item 𝓤) (L : Type 0) (last : L → List (R .Denot)) (F : L → Item 𝓤)
       (Φ : Q .Denot → L → Type 0) where
@@ -92,7 +93,8 @@ module _ {M : Type 1} {𝓤 : URA M} {H : Heap 𝓤} {A : Atoms 𝓤} {K : Type 
       (room₀ : Room R₀ n₀) (n₁ b₁ o₁ : ℕ) (zs : List (R₁ .Denot)) (len₁ : length zs ≡ n₁) (room₁ : Room R₁ n₁)
       (x : Lft → GName → Lft → GName → c .Ghost) (Toks : Lft → Lft → Item 𝓤) (S : Lft → GName → Lft → GName → Unit {0} → SProp 𝓤) (L : Type 0)
       (last : L → List (R₁ .Denot)) (G : GName → L → Fml) (Φ : L → Type 0) where
-    pub call-two : ((δ : GName) (l : L) → ent 𝓤 (sem 𝓤 H A (G δ l)) (sem 𝓤 H A (fsep (finally R₁ δ (last l)) (feq ℕ (length (last l)) (length zs)))))
+    pub call-two : ((δ : GName) (l : L) → ent 𝓤 (sem 𝓤 H A (G δ l)) (sem 𝓤 H A (fsep (finally R₁ δ (last l)) (feq ℕ (length (last l))
+        (length zs)))))
         → ((ν μ : Lft) → ent 𝓤 (mean 𝓤 H A (Toks ν μ)) (sep 𝓤 (A .lft ν fullShare) (A .lft μ fullShare)))
         → ((ν : Lft) (δ : GName) (μ : Lft) (ε : GName) → ent 𝓤 (sep 𝓤 (A .lft ν fullShare)
         (sep 𝓤 (sem 𝓤 H A (Shr R₀ ν n₀ b₀ o₀ δ ys)) (sep 𝓤 (A .lft μ fullShare) (sem 𝓤 H A (Mut R₁ μ n₁ b₁ o₁ ε zs))))) (c .pre (x ν δ μ ε)))
@@ -107,7 +109,8 @@ module _ {M : Type 1} {𝓤 : URA M} {H : Heap 𝓤} {A : Atoms 𝓤} {K : Type 
         → Seq K W (‵ (Mut R₀ κ₀ n₀ b₀ o₀ γ₀ ys) ∷ ‵ (flft κ₀ p₀) ∷ ‵ (Mut R₁ κ₁ n₁ b₁ o₁ γ₁ zs) ∷ ‵ (flft κ₁ p₁) ∷ Γ)
         (runs C Λ E (seq (call f xs dst) rest) q)
     call-two outs tokens goes after says os k =
-        rewrite t 0 (λ (m : ℕ). ‵ (Mut R₀ κ₀ m b₀ o₀ γ₀ ys)) (sym len₀) refl $ rewrite t 2 (λ (m : ℕ). ‵ (Mut R₁ κ₁ m b₁ o₁ γ₁ zs)) (sym len₁) refl $
+        rewrite t 0 (λ (m : ℕ). ‵ (Mut R₀ κ₀ m b₀ o₀ γ₀ ys)) (sym len₀) refl $
+        rewrite t 2 (λ (m : ℕ). ‵ (Mut R₁ κ₁ m b₁ o₁ γ₁ zs)) (sym len₁) refl $
         lft-new t tt (λ α. lft-new t tt (λ β. move t (2 ∷ 3 ∷ []) $
         use2 W (later (some (λ (δ : GName). ‵ (Shr R₀ (α ∷ []) (length ys) b₀ o₀ δ ys) ⊛ ‵ (SharedAgain R₀ κ₀ (α ∷ []) p₀ γ₀ b₀ o₀ ys))))
         (shares-again R₀ κ₀ (α ∷ []) p₀ γ₀ b₀ o₀ ys 𝓤 H A W (named 0) (named 0)) $ await t tt $ pick t (λ δ. split t $

@@ -124,7 +124,8 @@ module _ {M : Type 1} (𝓤 : URA M) (H : Heap 𝓤) (A : Atoms 𝓤) (W : Given
   -- that the caller has what they ask
   goes-copy : (n b o : ℕ) (ys : List (R₀ .Denot)) (n₁ b₁ o₁ : ℕ) (ws : List (R₁ .Denot)) (m : ℕ) → m < 2 ^ 64
       → (ν : Lft) (δ : GName) (μ : Lft) (ε : GName)
-      → ent 𝓤 (sep 𝓤 (A .lft ν fullShare) (sep 𝓤 (sem 𝓤 H A (Shr R₀ ν n b o δ ys)) (sep 𝓤 (A .lft μ fullShare) (sem 𝓤 H A (Mut R₁ μ n₁ b₁ o₁ ε ws)))))
+      → ent 𝓤 (sep 𝓤 (A .lft ν fullShare) (sep 𝓤 (sem 𝓤 H A (Shr R₀ ν n b o δ ys)) (sep 𝓤 (A .lft μ fullShare)
+      (sem 𝓤 H A (Mut R₁ μ n₁ b₁ o₁ ε ws)))))
       (sep 𝓤 (mean 𝓤 H A ((‵ (flft ν fullShare) ⊛ (‵ (flft μ fullShare) ⊛ ‵ ftrue))
       ⊛ ‵ (owns (ShrSlice (named 0) ν R₀ ∷ MutSlice (named 1) μ R₁ ∷ usize ∷ []) (slice b o δ ys, (slice b₁ o₁ ε ws, (m, tt)))
       (sliceVal (b, o) n ∷ [], (sliceVal (b₁, o₁) n₁ ∷ [], (vint w64 m ∷ [], tt)))))) (emp 𝓤))
@@ -161,10 +162,12 @@ module _ {M : Type 1} {𝓤 : URA M} {H : Heap 𝓤} {A : Atoms 𝓤} {K : Type 
       → ((j : Item 𝓤) → Opds K W (j ∷ Γ) E xs []) → (Is RowArray ws (row-vals ws) → Seq K W Γ (lands C Λ E dst (only (row-vals ws)) rest q))
       → Seq K W Γ (runs C Λ E (seq (call #hub·zeros xs dst) rest) q)
   call-zeros t mem run fm known ws is os k =
-      call-value t fm (Zeros 𝓤 H A mem run) known RowArray row-vals (array-tells Words word-vals word-tells 2048) ws (to-zeros 𝓤 H A W mem run ws is)
+      call-value t fm (Zeros 𝓤 H A mem run) known RowArray row-vals (array-tells Words word-vals word-tells 2048) ws
+      (to-zeros 𝓤 H A W mem run ws is)
       (Zeroed 𝓤 H A W mem run ws is) (goes-zeros 𝓤 H A W mem run ws is) (λ w. id⊢ 𝓤 _) (zeroed 𝓤 H A W mem run ws is) os k
 
-  pub call-at-most : K → (mem : Memory → SProp 𝓤) (run : Routine → Fun 𝓤) → FmC 𝓤 H (W .laws) C → Triple 𝓤 (C #bounds·at-most) (AtMost 𝓤 H A mem run)
+  pub call-at-most : K → (mem : Memory → SProp 𝓤) (run : Routine → Fun 𝓤) → FmC 𝓤 H (W .laws) C
+      → Triple 𝓤 (C #bounds·at-most) (AtMost 𝓤 H A mem run)
       → (n m k : ℕ) → min n m ≡ k → n < 2 ^ 64 → m < 2 ^ 64
       → ((j : Item 𝓤) → Opds K W (j ∷ Γ) E xs (vint w64 n ∷ vint w64 m ∷ [])) → (k < 2 ^ 64 → Seq K W Γ (lands C Λ E dst (vint w64 k) rest q))
       → Seq K W Γ (runs C Λ E (seq (call #bounds·at-most xs dst) rest) q)

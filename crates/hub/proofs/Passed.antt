@@ -1,4 +1,5 @@
--- What a call is lent beside the slots, and hands on for good: what is given for a setup, the bytes, the two rows of answers and the five arrays. What is
+-- What a call is lent beside the slots, and hands on for good: what is given for a setup, the bytes, the two rows of answers and the five
+-- arrays. What is
 -- owned of it on the way in, what is said of it on the way out, and what memory that is.
 use mathlib.Core.Path.{_≡_}
 use Prim.Native.Nat.{ℕ}
@@ -101,7 +102,8 @@ LentLeft = Unit {0} × (Unit {0} × (List ℕ × (List ℕ × Lists)))
 
 abbrev pub lent-types : Lfts 9 → List RattleType
 lent-types ks =
-    ShrSlice (named 0) (ks .0) u8 ∷ ShrSlice (named 0) (ks .1 .0) u8 ∷ MutSlice (named 0) (ks .1 .1 .0) u16 ∷ MutSlice (named 0) (ks .1 .1 .1 .0) u64 ∷ array-types (ks .1 .1 .1 .1)
+    ShrSlice (named 0) (ks .0) u8 ∷ ShrSlice (named 0) (ks .1 .0) u8 ∷ MutSlice (named 0) (ks .1 .1 .0) u16 ∷ MutSlice (named 0)
+    (ks .1 .1 .1 .0) u64 ∷ array-types (ks .1 .1 .1 .1)
 
 abbrev pub lent-vals : Lent → List Val × (List Val × (List Val × (List Val × Each)))
 lent-vals x = (slice-vals (x .0), (slice-vals (x .1 .0), (slice-vals (x .1 .1 .0), (slice-vals (x .1 .1 .1 .0), array-vals (x .1 .1 .1 .1)))))
@@ -111,18 +113,30 @@ lent-spells ks = (slice-vals, (slice-vals, (slice-vals, (slice-vals, array-spell
 
 pub lent-tells : (ks : Lfts 9) → Tellss (lent-types ks) (Ises (lent-types ks)) (lent-spells ks)
 lent-tells ks =
-    let a : Tellss (array-types (ks .1 .1 .1 .1)) (Ises (array-types (ks .1 .1 .1 .1))) (array-spells (ks .1 .1 .1 .1)) = arrays-tell (ks .1 .1 .1 .1) in
-    (shr-slice-tells (named 0) (ks .0) u8, (shr-slice-tells (named 0) (ks .1 .0) u8, (mut-slice-tells (named 0) (ks .1 .1 .0) u16, (mut-slice-tells (named 0) (ks .1 .1 .1 .0) u64, a))))
+    let a : Tellss (array-types (ks .1 .1 .1 .1)) (Ises (array-types (ks .1 .1 .1 .1)))
+    (array-spells (ks .1 .1 .1 .1)) = arrays-tell (ks .1 .1 .1 .1) in (
+      shr-slice-tells (named 0) (ks .0) u8,
+      (
+        shr-slice-tells (named 0) (ks .1 .0) u8,
+        (
+          mut-slice-tells (named 0)
+              (ks .1 .1 .0) u16,
+          (mut-slice-tells (named 0) (ks .1 .1 .1 .0) u64, a),
+        ),
+      ),
+    )
 
 abbrev pub lent-list : Lent → List Val
-lent-list x = only (slice-vals (x .0)) ∷ only (slice-vals (x .1 .0)) ∷ only (slice-vals (x .1 .1 .0)) ∷ only (slice-vals (x .1 .1 .1 .0)) ∷ array-list (x .1 .1 .1 .1)
+lent-list x = only (slice-vals (x .0)) ∷ only (slice-vals (x .1 .0)) ∷ only (slice-vals (x .1 .1 .0)) ∷ only (slice-vals (x .1 .1 .1 .0)) ∷
+    array-list (x .1 .1 .1 .1)
 
 abbrev pub lent-own : Lfts 9 → Lent → Fml
 lent-own ks x = owns (lent-types ks) x (lent-vals x)
 
 abbrev pub lent-end : Lent → LentLeft → Fml
 lent-end x z =
-    fsep (finally u16 (x .1 .1 .0 .name) (z .1 .1 .0)) (fsep (finally u64 (x .1 .1 .1 .0 .name) (z .1 .1 .1 .0)) (arrays-end (x .1 .1 .1 .1) (z .1 .1 .1 .1)))
+    fsep (finally u16 (x .1 .1 .0 .name) (z .1 .1 .0)) (fsep (finally u64 (x .1 .1 .1 .0 .name) (z .1 .1 .1 .0)) (arrays-end (x .1 .1 .1 .1)
+    (z .1 .1 .1 .1)))
 
 -- what a call did, of which r was given back
 abbrev pub Done : Call → Hub → List Slot → Lent → Called → List Slot → LentLeft → Type 0
@@ -151,5 +165,6 @@ pub lent-ends : {M : Type 1} (𝓤 : URA M) (H : Heap 𝓤) (A : Atoms 𝓤) (W 
     → ent 𝓤 (sem 𝓤 H A (lent-last x z)) (guard 𝓤 (SameLong x z) (sem 𝓤 H A (lent-end x z)))
 lent-ends 𝓤 H A W x z =
     qed W (‵ (lent-last x z) ∷ []) {P = guard 𝓤 (SameLong x z) (sem 𝓤 H A (lent-end x z))} (
-    fsplit ! $ drop ! $ fsplit ! $ drop ! $ fsplit ! $ fsplit ! $ move ! (1 ∷ []) $ feqL ! (λ e. move ! (1 ∷ []) $ fsplit ! $ fsplit ! $ move ! (1 ∷ []) $ feqL ! (λ e₁.
+    fsplit ! $ drop ! $ fsplit ! $ drop ! $ fsplit ! $ fsplit ! $ move ! (1 ∷ []) $ feqL ! (λ e. move ! (1 ∷ []) $ fsplit ! $ fsplit ! $
+    move ! (1 ∷ []) $ feqL ! (λ e₁.
     fjoin ! $ move ! (1 ∷ 0 ∷ []) $ fjoin ! $ check ! (e, e₁) $ done !)))

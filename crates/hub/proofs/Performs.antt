@@ -78,7 +78,8 @@ module _ {M : Type 1} (𝓤 : URA M) (H : Heap 𝓤) (A : Atoms 𝓤) (W : Given
       owned ! usize (Is usize) (uint-makes 𝓤 H A W w64) k _ (refl, gk) $ fjoin ! $ move ! (2 ∷ 0 ∷ []) $ fjoin ! $ move ! (1 ∷ 2 ∷ []) $
       join ! $ join ! $ frame ! $ done !
 
-  -- What it says of its answer and of what it leaves. That the words from k on keep their contents is left out: the caller does not read them again.
+  -- What it says of its answer and of what it leaves. That the words from k on keep their contents is left out: the caller does not read them
+  -- again.
   abbrev Last : Type 0
   Last = List (List ℕ) × (Unit {0} × (Unit {0} × (Unit {0} × LentLeft)))
 
@@ -104,14 +105,16 @@ module _ {M : Type 1} (𝓤 : URA M) (H : Heap 𝓤) (A : Atoms 𝓤) (W : Given
 module _ {M : Type 1} {𝓤 : URA M} {H : Heap 𝓤} {A : Atoms 𝓤} {K : Type 0} {W : Given 𝓤 H A} {Γ : List (Item 𝓤)} {E : Env 𝓤 H}
     {C : Calls 𝓤 H} {Λ : Loops 𝓤 H}
     {q : Post 𝓤 H} {dst : Place} {rest : Body} {xs : List Operand} {κ : Lft} {p : Share} {γ : GName} where
-  pub call-perform : (t : K) (mem : Memory → SProp 𝓤) (run : Routine → Fun 𝓤) → FmC 𝓤 H (W .laws) C → Triple 𝓤 (C #calls·perform) (Perform 𝓤 H A mem run)
+  pub call-perform : (t : K) (mem : Memory → SProp 𝓤) (run : Routine → Fun 𝓤) → FmC 𝓤 H (W .laws) C
+      → Triple 𝓤 (C #calls·perform) (Perform 𝓤 H A mem run)
       → (n b o : ℕ) (ws : List (List ℕ)) → length ws ≡ n → Room Words n → (k : ℕ) (h : Hub) (what : Call) (ks : Lfts 9) (qs : Shares 9) (x : Lent)
       → k < 2 ^ 64 → Is B.the-row h (hub-vals h) → Is D.the-row what (call-vals what)
       → ((i j : Item 𝓤) → Opds K W (i ∷ j ∷ Γ) E xs
       (sliceVal (b, o) n ∷ vint w64 k ∷ only (hub-vals h) ∷ only (call-vals what) ∷ lent-list x))
       → ((r : Called) (zs : List (List ℕ)) (z : LentLeft) → Done what h (take k (rowOf ws)) x r (take k (rowOf zs)) z × SameLong x z
       → length zs ≡ n → Is P.the-row r (called-vals r)
-      → Seq K W (‵ (Row κ n b o γ zs) ∷ ‵ (flft κ p) ∷ raw (toks 𝓤 A 9 ks qs) ∷ ‵ (lent-end x z) ∷ Γ) (lands C Λ E dst (only (called-vals r)) rest q))
+      → Seq K W (‵ (Row κ n b o γ zs) ∷ ‵ (flft κ p) ∷ raw (toks 𝓤 A 9 ks qs) ∷ ‵ (lent-end x z) ∷ Γ)
+      (lands C Λ E dst (only (called-vals r)) rest q))
       → Seq K W (‵ (Row κ n b o γ ws) ∷ ‵ (flft κ p) ∷ raw (toks 𝓤 A 9 ks qs) ∷ ‵ (lent-own ks x) ∷ Γ)
       (runs C Λ E (seq (call #calls·perform xs dst) rest) q)
   call-perform t mem run fm known n b o ws len room k h what ks qs x gk gh gw os next =

@@ -99,7 +99,8 @@ module _ {M : Type 1} {𝓤 : URA M} {H : Heap 𝓤} {A : Atoms 𝓤} {K : Type 
       → Seq K W (‵ (Row κ n b o γ ws) ∷ ‵ (flft κ p) ∷ Γ) (runs C Λ E (seq (call #versions·store xs dst) rest) q)
   call-store-words t mem run fm known n b o ws i s len room gi gs os k =
       nothing t $ move t (1 ∷ 2 ∷ 0 ∷ []) $
-      call-on t fm (StoreWords 𝓤 H A mem run) known Nothing nothing-vals nothing-tells Words n b o ws len room (to-store 𝓤 H A W mem run n b o ws i s)
+      call-on t fm (StoreWords 𝓤 H A mem run) known Nothing nothing-vals nothing-tells Words n b o ws len room
+      (to-store 𝓤 H A W mem run n b o ws i s)
       (λ ν. ‵ (flft ν fullShare) ⊛ ‵ ftrue) (Said 𝓤 H A W mem run n b o ws i s) (‵ ftrue) (‵ ftrue)
       (List (List ℕ) × (Unit {0} × (Unit {0} × Unit {0}))) (λ l. l .0) (λ l. ‵ (fsep ftrue (fsep ftrue ftrue)))
       (λ r l. rowOf (l .0) ≡ set (rowOf ws) i s) (λ ν. id⊢ 𝓤 _) (λ ν δ. goes-store 𝓤 H A W mem run n b o ws i s ν δ gi gs) (λ ν δ w. id⊢ 𝓤 _)

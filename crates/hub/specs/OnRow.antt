@@ -20,7 +20,8 @@ WithRow Records m given bytes y m′ = Unit {0}
 WithRow (Give table) m given bytes y m′ = GivesTable table m bytes y m′
 
 -- The call `what` on the memory m, whose row has any length: it keeps to the first 2048 slots (H8.7).
-pub record OnRow (what : Call) (m : Memory) (given : Given) (bytes kinds numbers : List ℕ) (r : Called) (m′ : Memory) (kinds′ numbers′ : List ℕ) : Type 0 where
+pub record OnRow (what : Call) (m : Memory) (given : Given) (bytes kinds numbers : List ℕ) (r : Called) (m′ : Memory)
+    (kinds′ numbers′ : List ℕ) : Type 0 where
   pub performed : Performed what (cut m) given bytes kinds numbers r (cut m′) kinds′ numbers′
   -- the rest of the row is as it was
   pub rest : drop 2048 (m′ .slots) ≡ drop 2048 (m .slots)

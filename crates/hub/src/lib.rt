@@ -1,4 +1,5 @@
-// The calls on slots that are structs: the first 2048 of a lent row, of any length, are read into words, the call of `calls` goes on the words, and they
+// The calls on slots that are structs: the first 2048 of a lent row, of any length, are read into words, the call of `calls` goes on the words,
+// and they
 // are written back. And the same for a caller that owns the row.
 ghost use mathlib.Core.Path.{_≡_};
 ghost use Prim.Native.Nat.{min};

@@ -46,7 +46,8 @@ module _ (b : List ℕ) where
   command-first zero =
       λ j. SetUp (record { P = worker-first j; V' = register-first j; N = number-first b 4 2 (lit≤ tt) j; clock = number-first b 8 4 (lit≤ tt) j })
   command-first (suc zero) =
-      λ j. Begin (worker-first j) (Put (register-first j) (record { count = number-first b 8 8 (lit≤ tt) j; status = number-first b 4 1 (lit≤ tt) j }))
+      λ j. Begin (worker-first j) (Put (register-first j)
+      (record { count = number-first b 8 8 (lit≤ tt) j; status = number-first b 4 1 (lit≤ tt) j }))
   command-first (suc (suc zero)) = λ j. Begin (worker-first j) Open
   command-first (suc (suc (suc zero))) = λ j. Begin (worker-first j) (Read (register-first j))
   command-first (suc (suc (suc (suc zero)))) = λ j. Begin (worker-first j) Close
@@ -96,7 +97,8 @@ decode-first b = by-length b (ltb (length b) 16) refl
 abbrev gateBy : Bool → Memory → Given → Decoded → ℕ → Gate
 gateBy up m given d u =
     let x = workerIn (m .hub) (u % 16) in
-    gateOf d up (m .hub .site .p) (m .hub .site .v) (length (m .slots)) (aboutOf (x .doing) .idle) (hasTime (x .announced)) (given .totals) (rowsKept (m .hub))
+    gateOf d up (m .hub .site .p) (m .hub .site .v) (length (m .slots)) (aboutOf (x .doing) .idle) (hasTime (x .announced)) (given .totals)
+    (rowsKept (m .hub))
     (m .hub .marks) (marksRead (m .hub)) (tableKept (m .hub))
 
 done-first : (up : Bool) (m : Memory) (given : Given) (b : List ℕ) → doneAs up m given (take 16 b) ≡ doneAs up m given b
@@ -104,12 +106,14 @@ unfolding doneAs
 done-first up m given b = λ i. obeyIn m given (gateBy up m given (decode-first b i) (getD-take 16 b 1 0 (lit< tt) i))
 
 -- one turn of the loop does to a record what is done to its first sixteen bytes
-pub one-memory : {m m′ : Memory} {given : Given} {b kinds numbers kinds′ numbers′ : List ℕ} {y : Answer} → Ran m given b kinds numbers 1 m′ kinds′ numbers′ y
+pub one-memory : {m m′ : Memory} {given : Given} {b kinds numbers kinds′ numbers′ : List ℕ} {y : Answer}
+    → Ran m given b kinds numbers 1 m′ kinds′ numbers′ y
     → m′ ≡ doneOf m given b .memory
 unfolding after next doneOf
 one-memory {m} {m′} {given} {b} r = r .memory ∙ ap (λ (d : Result). d .memory) (done-first (ready m) m given b)
 
-pub one-answer : {m m′ : Memory} {given : Given} {b kinds numbers kinds′ numbers′ : List ℕ} {y : Answer} → Ran m given b kinds numbers 1 m′ kinds′ numbers′ y
+pub one-answer : {m m′ : Memory} {given : Given} {b kinds numbers kinds′ numbers′ : List ℕ} {y : Answer}
+    → Ran m given b kinds numbers 1 m′ kinds′ numbers′ y
     → y ≡ doneOf m given b .answer
 unfolding after next doneOf
 one-answer {m} {m′} {given} {b} r = r .last ∙ ap (λ (d : Result). d .answer) (done-first (ready m) m given b)

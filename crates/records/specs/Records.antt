@@ -22,7 +22,8 @@ pub record OneApplied (m : Memory) (given : Given) (b : List ℕ) (r : Called) (
   pub count : r .count ≡ 1
 
 -- The records of the bytes met the memory m, as many as there is room for; r was given back, and the memory m′ and the two rows were left.
-pub record AllApplied (m : Memory) (given : Given) (bytes kinds numbers : List ℕ) (r : Called) (m′ : Memory) (kinds′ numbers′ : List ℕ) : Type 0 where
+pub record AllApplied (m : Memory) (given : Given) (bytes kinds numbers : List ℕ) (r : Called) (m′ : Memory)
+    (kinds′ numbers′ : List ℕ) : Type 0 where
   pub sized : Sized m
   pub applies : Applies m given bytes kinds numbers (r .count) m′ kinds′ numbers′
   -- the answers stand in the rows

@@ -87,13 +87,21 @@ use Rattle.hub.proofs.call.Code as code
 abbrev stayed : Stays (f.ended .signature .params) (f.ended .kept)
 stayed = (
   stay-slice (0 ∷ []) tt (plain (λ _. T.the-row)),
-  (stay-dropped (plain (λ _. B.the-row)) yes, (stay-dropped (plain (λ _. D.the-row)) yes, lent-gave 10 (1, tt) (2, tt) (3, tt) (4, tt) (5, tt) (6, tt) (7, tt) (8, tt) (9, tt))),
+  (
+    stay-dropped (plain (λ _. B.the-row)) yes,
+    (
+      stay-dropped (plain (λ _. D.the-row)) yes,
+      lent-gave 10 (1, tt) (2, tt) (3, tt) (4, tt) (5, tt)
+          (6, tt) (7, tt) (8, tt) (9, tt),
+    ),
+  ),
 )
 
 module _ {M : Type 1} (𝓤 : URA M) (H : Heap 𝓤) (A : Atoms 𝓤) (W : Given 𝓤 H A) (mem : Memory → SProp 𝓤) (run : Routine → Fun 𝓤)
     (κ : Lft) (ks : Lfts 9)
     (q : Share) (qs : Shares 9) (b o : ℕ) (γ : GName) (ys : List Slot) (hub : Hub) (what : Call) (x : Lent)
-    (room : Room T.the-row (length ys)) (gh : Is B.the-row hub (hub-vals hub)) (gd : Is D.the-row what (call-vals what)) (room₀ : Room u8 (length (x .0 .now)))
+    (room : Room T.the-row (length ys)) (gh : Is B.the-row hub (hub-vals hub)) (gd : Is D.the-row what (call-vals what))
+    (room₀ : Room u8 (length (x .0 .now)))
     (room₁ : Room u8 (length (x .1 .0 .now))) (room₂ : Room u16 (length (x .1 .1 .0 .now))) (room₃ : Room u64 (length (x .1 .1 .1 .0 .now)))
     (ws : List (List ℕ)) (is-zeros : replicate 2048 (replicate 6 0) ≡ ws) (k : ℕ) (is-k : min (length ys) 2048 ≡ k) where
   abbrev n : ℕ
@@ -124,14 +132,16 @@ module _ {M : Type 1} (𝓤 : URA M) (H : Heap 𝓤) (A : Atoms 𝓤) (W : Given
       qed W (‵ (Slots κ n b o γ zs) ∷ ‵ (flft κ q) ∷ raw (toks 𝓤 A 9 ks qs) ∷ ‵ (lent-end x z) ∷ []) ∵
       suffices ! _ (ends-at 𝓤 H A f.ended stayed (f.clauses 𝓤 H A mem run) W (((κ, ks), (q, qs), tt, (slice b o γ ys, (hub, (what, x))), at), tt)
       (only (called-vals r)) r (zs, (tt, (tt, z))) (l, (tt, (tt, (tt, (tt, (long .0, (long .1, (tt, (tt, (tt, (tt, (tt, tt))))))))))))) $
-      says ! e $ move ! (1 ∷ 2 ∷ []) $ join ! $ frame ! $ move ! (1 ∷ []) $ nothing ! $ fjoin ! $ nothing ! $ fjoin ! $ nothing ! $ fjoin ! $ nothing ! $ fjoin ! $
+      says ! e $ move ! (1 ∷ 2 ∷ []) $ join ! $ frame ! $ move ! (1 ∷ []) $ nothing ! $ fjoin ! $ nothing ! $ fjoin ! $ nothing ! $ fjoin ! $
+      nothing ! $ fjoin ! $
       move ! (1 ∷ 0 ∷ []) $ fjoin ! $
       frame ! $
       owned ! P.the-row (Is P.the-row) (LL.makes P.the-type P′.the-plain 𝓤 H A) r (called-vals r) g $ done !
 
   module _ (𝓣 : Tables 𝓤 H) (known-zeros : Triple 𝓤 (𝓣 .C #hub·zeros) (Zeros 𝓤 H A mem run))
       (known-most : Triple 𝓤 (𝓣 .C #bounds·at-most) (AtMost 𝓤 H A mem run)) (known-load : Triple 𝓤 (𝓣 .C #hub·load-row) (LoadRow 𝓤 H A mem run))
-      (known-perform : Triple 𝓤 (𝓣 .C #calls·perform) (Perform 𝓤 H A mem run)) (known-store : Triple 𝓤 (𝓣 .C #hub·store-row) (StoreRow 𝓤 H A mem run)) where
+      (known-perform : Triple 𝓤 (𝓣 .C #calls·perform) (Perform 𝓤 H A mem run)) (known-store : Triple 𝓤 (𝓣 .C #hub·store-row)
+      (StoreRow 𝓤 H A mem run)) where
     abbrev fm : FmC 𝓤 H (W .laws) (𝓣 .C)
     fm = fmOf 𝓤 H (W .laws) 𝓣
 
@@ -154,9 +164,11 @@ module _ {M : Type 1} (𝓤 : URA M) (H : Heap 𝓤) (A : Atoms 𝓤) (W : Given
         pass1 ! (init ! 60 refl (tt, (tt, (record { fits = room₃ .0 }, tt)))) $ pass1 ! (init ! 58 refl (tt, tt)) $
         pass1 ! (init ! 56 refl (tt, tt)) $
         pass1 ! (init ! 54 refl (tt, tt)) $ pass1 ! (init ! 52 refl (tt, tt)) $ pass1 ! (init ! 50 refl (tt, tt)) $ pass0 ! $
-        move ! (77 ∷ []) $ fsplit ! $ move ! (1 ∷ []) $ fsplit ! $ drop ! $ fsplit ! $ drop ! $ move ! (78 ∷ []) $ split ! $ move ! (3 ∷ 0 ∷ 1 ∷ 2 ∷ []) $
+        move ! (77 ∷ []) $ fsplit ! $ move ! (1 ∷ []) $ fsplit ! $ drop ! $ fsplit ! $ drop ! $ move ! (78 ∷ []) $ split ! $
+        move ! (3 ∷ 0 ∷ 1 ∷ 2 ∷ []) $
         -- [the slots; their token; the other tokens; what else is lent; _37; …; _0]: local i stands at 78 - 2 i
-        call-zeros ! mem run fm known-zeros ws is-zeros (λ j. no-more !) (λ gw. land ! (from ! (stop !)) (init ! 46 refl (typed-row 𝓤 H A W ws gw)) $
+        call-zeros ! mem run fm known-zeros ws is-zeros (λ j. no-more !) (λ gw. land ! (from ! (stop !))
+        (init ! 46 refl (typed-row 𝓤 H A W ws gw)) $
         assigns ! (of-opd ! (load ! (from ! (stop !)) (look ! 46 refl))) (from ! (stop !)) (init ! 52 refl (typed-row 𝓤 H A W ws gw)) $
         assigns ! (of-opd ! (load ! (from ! (fld ! refl (stop !))) (look-in ! 76 (sub ! 1 refl (whole !))))) (from ! (stop !))
         (init ! 44 refl (tt, record { fits = room .0 })) $
@@ -211,7 +223,8 @@ module _ {M : Type 1} (𝓤 : URA M) (H : Heap 𝓤) (A : Atoms 𝓤) (W : Given
         assigns ! (addr ! (from ! (stop !))) (from ! (stop !)) (init ! 13 refl (tt, tt)) $
         assigns ! (agg ! (and-then ! (load ! (from ! (stop !)) (look ! 13 refl)) (and-then ! (big-lit ! (record { fits = lit< tt })) (no-more !))))
         (from ! (stop !)) (init ! 11 refl (tt, (tt, (record { fits = lit< tt }, tt)))) $
-        assigns ! (addr ! (from ! (fld ! refl (hop ! (look-in ! 78 (sub ! 0 refl (whole !))) (stop !))))) (from ! (stop !)) (init ! 9 refl (tt, tt)) $
+        assigns ! (addr ! (from ! (fld ! refl (hop ! (look-in ! 78 (sub ! 0 refl (whole !))) (stop !))))) (from ! (stop !))
+        (init ! 9 refl (tt, tt)) $
         assigns ! (agg ! (and-then ! (load ! (from ! (stop !)) (look ! 9 refl))
         (and-then ! (load ! (from ! (fld ! refl (stop !))) (look-in ! 78 (sub ! 1 refl (whole !)))) (no-more !)))) (from ! (stop !))
         (init ! 7 refl (tt, (tt, (record { fits = room .0 }, tt)))) $
@@ -222,14 +235,16 @@ module _ {M : Type 1} (𝓤 : URA M) (H : Heap 𝓤) (A : Atoms 𝓤) (W : Given
         -- the row is given up, and `_13` is back
         move ! (0 ∷ 1 ∷ 6 ∷ []) $ takes-back ! tt Words tt word-vals word-tells 2048 l13 ν δ zs₂ (λ gz.
         assigns ! (of-opd ! (load ! (from ! (stop !)) (look ! 49 refl))) (from ! (stop !)) (init ! 78 refl (typed-called 𝓤 H A W r gr)) $
-        returns ! (look ! 78 refl) $ forget ! 78 refl $ forget ! 76 refl $ forget ! 74 refl $ forget ! 72 refl $ forget ! 70 refl $ forget ! 68 refl $ forget ! 66 refl $ forget ! 64 refl $
+        returns ! (look ! 78 refl) $ forget ! 78 refl $ forget ! 76 refl $ forget ! 74 refl $ forget ! 72 refl $ forget ! 70 refl $
+        forget ! 68 refl $ forget ! 66 refl $ forget ! 64 refl $
         forget ! 62 refl $ forget ! 60 refl $ forget ! 58 refl $ forget ! 56 refl $ forget ! 54 refl $ forget ! 0 refl $ forget ! 51 refl $
         forget ! 49 refl $ forget ! 47 refl $ forget ! 45 refl $ forget ! 43 refl $ forget ! 41 refl $ forget ! 39 refl $ forget ! 37 refl $
         forget ! 35 refl $ forget ! 33 refl $ forget ! 31 refl $ forget ! 29 refl $ forget ! 27 refl $ forget ! 25 refl $ forget ! 23 refl $
         forget ! 21 refl $ forget ! 19 refl $ forget ! 17 refl $ forget ! 15 refl $ forget ! 13 refl $ forget ! 11 refl $
         forget ! 9 refl $ forget ! 7 refl $
         forget ! 5 refl $
-        move ! (78 ∷ 79 ∷ []) $ free1 ! $ move ! (76 ∷ 77 ∷ []) $ free1 ! $ move ! (74 ∷ 75 ∷ []) $ free1 ! $ move ! (72 ∷ 73 ∷ []) $ free1 ! $ move ! (70 ∷ 71 ∷ []) $ free1 ! $ move ! (68 ∷ 69 ∷ []) $ free1 ! $
+        move ! (78 ∷ 79 ∷ []) $ free1 ! $ move ! (76 ∷ 77 ∷ []) $ free1 ! $ move ! (74 ∷ 75 ∷ []) $ free1 ! $ move ! (72 ∷ 73 ∷ []) $ free1 ! $
+        move ! (70 ∷ 71 ∷ []) $ free1 ! $ move ! (68 ∷ 69 ∷ []) $ free1 ! $
         move ! (66 ∷ 67 ∷ []) $ free1 ! $ move ! (64 ∷ 65 ∷ []) $ free1 ! $ move ! (62 ∷ 63 ∷ []) $ free1 ! $ move ! (60 ∷ 61 ∷ []) $ free1 ! $
         move ! (58 ∷ 59 ∷ []) $ free1 ! $ move ! (56 ∷ 57 ∷ []) $ free1 ! $ move ! (54 ∷ 55 ∷ []) $ free1 ! $ move ! (0 ∷ 53 ∷ []) $ free1 ! $
         move ! (50 ∷ 51 ∷ []) $ free1 ! $ move ! (48 ∷ 49 ∷ []) $ free1 ! $ move ! (46 ∷ 47 ∷ []) $ free1 ! $ move ! (44 ∷ 45 ∷ []) $ free1 ! $
@@ -249,9 +264,16 @@ module _ {M : Type 1} (𝓤 : URA M) (H : Heap 𝓤) (A : Atoms 𝓤) (W : Given
   call-walks =
       walked 𝓤 H A f.ended stayed (f.clauses 𝓤 H A mem run) (WpFn 𝓤 H (𝓣 .C) (𝓣 .Λ) code.function)
       (λ κs. (slice-vals, (hub-vals, (call-vals, lent-spells (κs .1)))))
-      (λ κs. (mut-slice-tells (named 0) (κs .0) T.the-row, (LL.tells B.the-type B′.the-laws, (EL.tells D.the-type D′.the-laws, lent-tells (κs .1)))))
+      (λ κs. (
+        mut-slice-tells (named 0) (κs .0) T.the-row,
+        (
+          LL.tells B.the-type B′.the-laws,
+          (EL.tells D.the-type D′.the-laws, lent-tells (κs .1)),
+        ),
+      ))
       (λ κs qs bounds a g are. via 𝓤 _ (fst∗ 𝓤 _ (emp 𝓤))
-      (walk 𝓤 H A W mem run (κs .0) (κs .1) (qs .0) (qs .1) (a .0 .ptr .0) (a .0 .ptr .1) (a .0 .name) (a .0 .now) (a .1 .0) (a .1 .1 .0) (a .1 .1 .1) (are .0 .0 .1)
+      (walk 𝓤 H A W mem run (κs .0) (κs .1) (qs .0) (qs .1) (a .0 .ptr .0) (a .0 .ptr .1) (a .0 .name) (a .0 .now) (a .1 .0) (a .1 .1 .0)
+      (a .1 .1 .1) (are .0 .0 .1)
       (are .1 .0) (are .1 .1 .0) (are .1 .1 .1 .0 .0 .1) (are .1 .1 .1 .1 .0 .0 .1) (are .1 .1 .1 .1 .1 .0 .0 .1) (are .1 .1 .1 .1 .1 .1 .0 .0 .1)
       (replicate 2048 (replicate 6 0)) refl (min (length (a .0 .now)) 2048) refl 𝓣 known-zeros known-most known-load known-perform known-store))
 
@@ -272,8 +294,10 @@ call-spec 𝓤 H 𝓜 𝓖 𝓡 =
     (tables 𝓤 H 𝓜 𝓡 code.env .C) (tables 𝓤 H 𝓜 𝓡 code.env .Λ) #hub·call code.function (code.unfolded 𝓤 H 𝓜 𝓡)
     (call-meets 𝓤 H (𝓖 .A) (givenOf 𝓤 H 𝓜 𝓖) (𝓜 .mem) (𝓡 .run) (tablesOf 𝓤 H 𝓜 (tables 𝓤 H 𝓜 𝓡 code.env))
     (cited 𝓤 H (Zeros 𝓤 H (𝓖 .A) (𝓜 .mem) (𝓡 .run)) 𝓜 𝓡 code.env #hub·zeros zeros-def.routine code.calls-hub·zeros (zeros-thm.met 𝓤 H 𝓜 𝓖 𝓡))
-    (cited 𝓤 H (AtMost 𝓤 H (𝓖 .A) (𝓜 .mem) (𝓡 .run)) 𝓜 𝓡 code.env #bounds·at-most at-most-def.routine code.calls-bounds·at-most (at-most-thm.met 𝓤 H 𝓜 𝓖 𝓡))
+    (cited 𝓤 H (AtMost 𝓤 H (𝓖 .A) (𝓜 .mem)
+    (𝓡 .run)) 𝓜 𝓡 code.env #bounds·at-most at-most-def.routine code.calls-bounds·at-most (at-most-thm.met 𝓤 H 𝓜 𝓖 𝓡))
     (cited 𝓤 H (LoadRow 𝓤 H (𝓖 .A) (𝓜 .mem) (𝓡 .run)) 𝓜 𝓡 code.env #hub·load-row load-def.routine code.calls-hub·load-row (load-thm.met 𝓤 H 𝓜 𝓖 𝓡))
-    (cited 𝓤 H (Perform 𝓤 H (𝓖 .A) (𝓜 .mem) (𝓡 .run)) 𝓜 𝓡 code.env #calls·perform perform-def.routine code.calls-calls·perform (perform-thm.met 𝓤 H 𝓜 𝓖 𝓡))
+    (cited 𝓤 H (Perform 𝓤 H (𝓖 .A) (𝓜 .mem)
+    (𝓡 .run)) 𝓜 𝓡 code.env #calls·perform perform-def.routine code.calls-calls·perform (perform-thm.met 𝓤 H 𝓜 𝓖 𝓡))
     (cited 𝓤 H (StoreRow 𝓤 H (𝓖 .A) (𝓜 .mem) (𝓡 .run)) 𝓜 𝓡 code.env #hub·store-row store-def.routine code.calls-hub·store-row
     (store-thm.met 𝓤 H 𝓜 𝓖 𝓡)))
