@@ -8,54 +8,6 @@ use called::Called;
 use state::Hub;
 use values::Answer;
 
-// The loop over the first `count` records of the bytes. Its arrays are as long as their types say, which is told here once: where an array is
-// lent as a
-// slice, the proof learns its length.
-fn run(
-    row: &mut [[u64; 6]],
-    hub: Hub,
-    given: &[u8],
-    bytes: &[u8],
-    count: usize,
-    kinds: &mut [u16],
-    numbers: &mut [u64],
-    newest: &mut [u16; 256],
-    free: &mut [u16; 2048],
-    queue: &mut [u32; 12288],
-    lens: &mut [u32; 4096],
-    merged: &mut [u32; 12288],
-) -> Ended
-    ensures { λ r. ⌜
-        RanSized
-        (memory hub (rowOf (now (row .entry)))
-        (now (newest .entry)) (now (free .entry)) (now (queue .entry)) (now (lens .entry)) (now (merged .entry)))
-        (ofTotals (now (given .entry))) (now (bytes .entry)) (now (kinds .entry)) (now (numbers .entry)) count
-        (memory (r .hub) (rowOf (now (row .exit)))
-        (now (newest .exit)) (now (free .exit)) (now (queue .exit)) (now (lens .exit)) (now (merged .exit)))
-        (now (kinds .exit)) (now (numbers .exit)) (r .last)
-        ⌝ }
-{
-    let newest_long: &[u16] = newest;
-    let free_long: &[u16] = free;
-    let queue_long: &[u32] = queue;
-    let lens_long: &[u32] = lens;
-    let merged_long: &[u32] = merged;
-    core::run(
-        row,
-        hub,
-        given,
-        bytes,
-        count,
-        kinds,
-        numbers,
-        newest,
-        free,
-        queue,
-        lens,
-        merged,
-    )
-}
-
 // ---- one record
 
 // Applies one record, of any bytes and any number of them, on any lent memory. What is given is for a setup; other records do not look at it.
