@@ -204,7 +204,8 @@ module _ {given : Given} {bytes : List ℕ} {from count k : ℕ} {s : ℕ → St
       one-more (left arm (f .up) v) R more (by-arm arm (f .up) e (ap (λ (y : Bool). f .up || y) not ∙ or-false (f .up)))
 
   -- and ends before a setup
-  pub on-makes : t .arm ≡ Makes → Went given bytes from count (k + 1) true (t .sizes) s (λ n. stateWith (f .up) (memoryOf (siteOf f n rows rights) ws a′) kinds′ numbers′ last′)
+  pub on-makes : t .arm ≡ Makes
+      → Went given bytes from count (k + 1) true (t .sizes) s (λ n. stateWith (f .up) (memoryOf (siteOf f n rows rights) ws a′) kinds′ numbers′ last′)
   on-makes e =
       let M = one-more (left Makes true v) R more (by-arm Makes true e (or-true (f .up))) in
       record {
@@ -231,7 +232,8 @@ module _ {given : Given} {bytes : List ℕ} {from count k : ℕ} {s : ℕ → St
   pub on-hands-in : (y : Worker) → t .arm ≡ HandsIn → y ≡ handedWorker (getD ws v nobody) t
       → SoFar given bytes from count (k + 1) s (λ n. stateWith (f .up) (memoryOf (siteOf f n rows rights) (set ws v y) a′) kinds′ numbers′ last′)
   on-hands-in y e ey =
-      subst (λ (z : Worker). SoFar given bytes from count (k + 1) s (λ n. stateWith (f .up) (memoryOf (siteOf f n rows rights) (set ws v z) a′) kinds′ numbers′ last′))
+      subst (λ (z : Worker). SoFar given bytes from count (k + 1) s
+      (λ n. stateWith (f .up) (memoryOf (siteOf f n rows rights) (set ws v z) a′) kinds′ numbers′ last′))
       (sym ey) (on-arm HandsIn refl e)
 
   -- flush (4), once the reads of all workers are moved

@@ -157,7 +157,8 @@ ready-is h row newest free queue lens merged up linked ek eu =
 -- all records are applied: the whole ones, and those behind them are refused
 pub finished : (m : Memory) (given : Given) (bytes kinds numbers : List ℕ) (count most whole k : ℕ) (up : Bool) (T : State) (kinds′ numbers′ : List ℕ)
     (last : Answer) → Reached (stateWith up m kinds numbers Ok) given bytes whole k T → whole ≤ k
-    → RestRefused whole most (T .kinds) (T .numbers) (T .last) kinds′ numbers′ last → (whole < most → length bytes < 16 * whole + 16) → most ≡ count → up ≡ ready m → Ran m given bytes kinds numbers count (T .memory) kinds′ numbers′ last
+    → RestRefused whole most (T .kinds) (T .numbers) (T .last) kinds′ numbers′ last → (whole < most → length bytes < 16 * whole + 16)
+    → most ≡ count → up ≡ ready m → Ran m given bytes kinds numbers count (T .memory) kinds′ numbers′ last
 finished m given bytes kinds numbers count most whole k up T kinds′ numbers′ last R all Q short cut tested =
     let i = R .inside in
     let S = stateWith up m kinds numbers Ok in

@@ -124,7 +124,8 @@ fn run_lent<'a>(
     marks: &mut [u64; 12],
     reading: &mut [u8; 16],
 ) -> Part
-    requires { ⌜ (fixed .up ≡ true → fixed .p ≤ 16) × (count ≤ length (now kinds)) × (count ≤ length (now numbers)) × (from ≤ count) × (16 * count ≤ length (now bytes)) ⌝ }
+    requires { ⌜ (fixed .up ≡ true → fixed .p ≤ 16) × (count ≤ length (now kinds)) × (count ≤ length (now numbers))
+        × (from ≤ count) × (16 * count ≤ length (now bytes)) ⌝ }
     ensures { λ r. ⌜
         Went (ofTotals (now (list .entry))) (now (bytes .entry)) from count (r .at) (r .made) (r .sizes)
         (λ n. stateWith (fixed .up)
@@ -310,7 +311,8 @@ fn run_stretch(
     lens: &mut [u32; 4096],
     merged: &mut [u32; 12288],
 ) -> Stretch
-    requires { ⌜ (up ≡ true → start .site .p ≤ 16) × (count ≤ length (now kinds)) × (count ≤ length (now numbers)) × (from ≤ count) × (16 * count ≤ length (now bytes)) ⌝ }
+    requires { ⌜ (up ≡ true → start .site .p ≤ 16) × (count ≤ length (now kinds)) × (count ≤ length (now numbers))
+        × (from ≤ count) × (16 * count ≤ length (now bytes)) ⌝ }
     ensures { λ r. ⌜
         Went (ofTotals (now (list .entry))) (now (bytes .entry)) from count (r .at) (r .made) (r .sizes)
         (λ _. stateWith up

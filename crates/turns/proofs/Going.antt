@@ -52,7 +52,8 @@ took queue lens counts merged w {queue′ = queue′} {lens′ = lens′} ev ec 
     )
 
 -- a range is freed only where one is left
-pub some-left : (d : Doing) (t : Announced) (k n p : ℕ) (l : List Slot) (newest free rows marks reading : List ℕ) {row : List Slot} {newest′ : List ℕ} {s : Next} {m : ℕ}
+pub some-left : (d : Doing) (t : Announced) (k n p : ℕ) (l : List Slot) (newest free rows marks reading : List ℕ)
+    {row : List Slot} {newest′ : List ℕ} {s : Next} {m : ℕ}
     → record { next = s; row = row; newest = newest′ } ≡ stepOf d t k n p l newest free rows marks reading → s ≡ Free m → 0 < m
 some-left d t k n p l newest free rows marks reading stepped e =
     subst (Said p) e (subst (λ (z : Stepped). Said p (z .next)) (sym stepped) (said d t k n p l newest free rows marks reading))

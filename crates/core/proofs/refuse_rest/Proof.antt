@@ -19,18 +19,22 @@ say-requires c κs = tt
 
 put-answer-requires : tie.Need-put-answer-requires Inv-loop μ-loop
 put-answer-requires c κs =
-    let L = c .before .before .before .before in
-    let p = c .before .before .before .before .before .before .before .pre in
-    (omega (arith, c .before .before .before .loop-test .taken, L .loop .inv .kinds-long, p .1), omega (arith, c .before .before .before .loop-test .taken, L .loop .inv .numbers-long, p .2))
+    let t = c .before .before .before in
+    let i = t .before .loop .inv in
+    let p = t .before .before .before .before .pre in
+    (omega (arith, t .loop-test .taken, i .kinds-long, p .1), omega (arith, t .loop-test .taken, i .numbers-long, p .2))
 
 add-k : tie.Need-add-k Inv-loop μ-loop
-add-k c = omega (arith, c .before .before .before .before .before .before .before .before .loop-test .taken, c .before .before .before .before .before .before .before .before .before .before .before .before .fits)
+add-k c = let t = c .before .before .before .before .before .before .before .before in omega (arith, t .loop-test .taken, t .before .before .before .before .fits)
 
 loop-less : tie.Need-loop-less Inv-loop μ-loop
 loop-less c = omega (arith, c .before .before .before .before .before .before .before .before .loop-test .taken)
 
 loop-again : tie.Need-loop-again Inv-loop μ-loop
-loop-again c = refuse-one (c .before .before .before .before .before .before .before .before .before .loop .inv) (c .before .before .before .before .before .before .before .before .loop-test .taken) (c .before .before .before .before .before .say .ensures) (c .before .before .before .before .put-answer .ensures)
+loop-again c =
+    let a = c .before .before .before .before in
+    let t = a .before .before .before .before in
+    refuse-one (t .before .loop .inv) (t .loop-test .taken) (a .before .say .ensures) (a .put-answer .ensures)
 
 same-length : tie.Need-same-length Inv-loop μ-loop
 same-length c = c .before .loop .inv .kinds-long

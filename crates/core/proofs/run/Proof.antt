@@ -76,36 +76,41 @@ set-up-requires c κs = tt
 
 loop-less : tie.Need-loop-less Inv-loop μ-loop
 loop-less c =
-    let W = c .before .before .before .before .before .before .before .before .before .before .before .before .before .run-stretch .ensures .0 in
-    let t = c .before .before .before .before .before .before .before .before .before .before .before .before .before .before .before .before .before .before .before .before .before .before .loop-test .taken in
+    let r = c .before .before .before .before .before .before .before .before .before .before .before .before .before in
+    let t = r .before .before .before .before .before .before .before .before .before .loop-test .taken in
+    let W = r .run-stretch .ensures .0 in
     omega (arith, t, W .inside, W .onward t)
 
 loop-again : tie.Need-loop-again Inv-loop μ-loop
 loop-again c =
-    let U = c .before in
-    let W = c .before .before .before .before .before .before .before .before .before .before .before .before .before in
-    let i = c .before .before .before .before .before .before .before .before .before .before .before .before .before .before .before .before .before .before .before .before .before .before .before .loop .inv in (
-      went-up (i .0) _ (W .run-stretch .ensures .0) (c .before .before .before .before .before .before .if1 .taken) _ _ _ _ (U .set-up .ensures .0) (U .set-up .ensures .1 .0) (U .set-up .ensures .1 .1 .0)
-          (U .set-up .ensures .1 .1 .1),
-      c .row2 .given ∙ c .before .before .before .before .before .before .before .before .before .before .before .before .row .given ∙ i .1,
-      c .before .before .before .before .before .before .before .before .before .before .before .kinds .given ∙ i .2,
-      c .before .before .before .before .before .before .before .before .before .numbers .given ∙ i .3,
+    let u = c .before .set-up .ensures in
+    let n = c .before .before .before .before .before .before .before .before .before in
+    let k = n .before .before in
+    let r = k .before .before in
+    let i = r .before .before .before .before .before .before .before .before .before .before .loop .inv in (
+      went-up (i .0) _ (r .run-stretch .ensures .0) (c .before .before .before .before .before .before .if1 .taken) _ _ _ _ (u .0) (u .1 .0) (u .1 .1 .0) (u .1 .1 .1),
+      c .row2 .given ∙ k .before .row .given ∙ i .1,
+      k .kinds .given ∙ i .2,
+      n .numbers .given ∙ i .3,
     )
 
 loop-less-2 : tie.Need-loop-less-2 Inv-loop μ-loop
 loop-less-2 c =
-    let W = c .before .before .before .before .before .before .before .run-stretch .ensures .0 in
-    let t = c .before .before .before .before .before .before .before .before .before .before .before .before .before .before .before .before .loop-test .taken in
+    let r = c .before .before .before .before .before .before .before in
+    let t = r .before .before .before .before .before .before .before .before .before .loop-test .taken in
+    let W = r .run-stretch .ensures .0 in
     omega (arith, t, W .inside, W .onward t)
 
 loop-again-2 : tie.Need-loop-again-2 Inv-loop μ-loop
 loop-again-2 c =
-    let W = c .before .before .before .before .before .before .before in
-    let i = c .before .before .before .before .before .before .before .before .before .before .before .before .before .before .before .before .before .loop .inv in (
-      went-on (i .0) _ (W .run-stretch .ensures .0) (c .if1 .left) refl (W .run-stretch .ensures .1),
-      c .before .before .before .before .before .before .row .given ∙ i .1,
-      c .before .before .before .before .before .kinds .given ∙ i .2,
-      c .before .before .before .numbers .given ∙ i .3,
+    let n = c .before .before .before in
+    let k = n .before .before in
+    let r = k .before .before in
+    let i = r .before .before .before .before .before .before .before .before .before .before .loop .inv in (
+      went-on (i .0) _ (r .run-stretch .ensures .0) (c .if1 .left) refl (r .run-stretch .ensures .1),
+      k .before .row .given ∙ i .1,
+      k .kinds .given ∙ i .2,
+      n .numbers .given ∙ i .3,
     )
 
 refuse-rest-requires : tie.Need-refuse-rest-requires Inv-loop μ-loop

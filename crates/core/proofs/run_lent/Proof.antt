@@ -1,7 +1,6 @@
 -- `run_lent` meets its contract. The invariant is `SoFar` (Loop.antt): the records so far have done what the definition says. Each arm of the loop is
 -- a law there. The inner loop moves the reads of the first j workers.
 use mathlib.Core.Path.{_≡_, refl, sym, ap, _∙_}
-use mathlib.Core.Bool.{false}
 use Prim.Native.Nat.{ℕ, _≤_, _-_, _%_}
 use native.Mathlib.Omega.{arith}
 use lib.ListN.{length}
@@ -29,8 +28,8 @@ abbrev μ-loop2 : tie.MeasureT-loop2
     16 - j
 
 abbrev Inv-loop : tie.InvT-loop
-Inv-loop row₀ fixed list rows rights bytes from count kinds₀ numbers₀ newest₀ free₀ queue₀ lens₀ merged₀ clock₀ counts₀ times₀ marks₀ reading₀ workers₀ last₀ needed₀ local₀ joined₀ k₀
-    row kinds numbers newest free queue lens merged clock counts times marks reading workers last needed local joined k =
+Inv-loop row₀ fixed list rows rights bytes from count kinds₀ numbers₀ newest₀ free₀ queue₀ lens₀ merged₀ clock₀ counts₀ times₀ marks₀ reading₀ workers₀ last₀
+    needed₀ local₀ joined₀ k₀ row kinds numbers newest free queue lens merged clock counts times marks reading workers last needed local joined k =
     SoFar (ofTotals list) bytes from count k
     (λ n. stateWith (fixed .up)
     (memoryOf (siteOf fixed n rows rights) workers₀
@@ -40,8 +39,8 @@ Inv-loop row₀ fixed list rows rights bytes from count kinds₀ numbers₀ newe
     × (length row ≡ length row₀) × (length kinds ≡ length kinds₀) × (length numbers ≡ length numbers₀) × (length workers ≡ 16)
 
 abbrev μ-loop : tie.MeasureT-loop
-μ-loop row₀ fixed list rows rights bytes from count kinds₀ numbers₀ newest₀ free₀ queue₀ lens₀ merged₀ clock₀ counts₀ times₀ marks₀ reading₀ workers₀ last₀ needed₀ local₀ joined₀ k₀
-    row kinds numbers newest free queue lens merged clock counts times marks reading workers last needed local joined k =
+μ-loop row₀ fixed list rows rights bytes from count kinds₀ numbers₀ newest₀ free₀ queue₀ lens₀ merged₀ clock₀ counts₀ times₀ marks₀ reading₀ workers₀ last₀
+    needed₀ local₀ joined₀ k₀ row kinds numbers newest free queue lens merged clock counts times marks reading workers last needed local joined k =
     count - k
 
 -- the length of the array of workers
@@ -54,10 +53,28 @@ lent c =
     let l = c .loop in
     parts (rowOf (l .row)) (l .newest) (l .free) (l .queue) (l .lens) (l .merged) (l .clock) (l .counts) (l .times) (l .marks) (l .reading)
 
+-- from where the answer is put back to the turn, to the record's byte 1, to the record, and to where the loop's test is passed
+abbrev turn : tie.After-put-answer Inv-loop2 μ-loop2 Inv-loop μ-loop → tie.After-take-turn Inv-loop2 μ-loop2 Inv-loop μ-loop
+turn c = c .before .before .before .before .before
+
+abbrev byte : tie.After-put-answer Inv-loop2 μ-loop2 Inv-loop μ-loop → tie.After-wide Inv-loop2 μ-loop2 Inv-loop μ-loop
+byte c = turn c .before .before .before .before .before .before .before .before .before .before .before .before .before .before
+
+abbrev cut : tie.After-put-answer Inv-loop2 μ-loop2 Inv-loop μ-loop → tie.After-record-at Inv-loop2 μ-loop2 Inv-loop μ-loop
+cut c = byte c .before .before
+
+abbrev passed : tie.After-put-answer Inv-loop2 μ-loop2 Inv-loop μ-loop → tie.In-loop Inv-loop2 μ-loop2 Inv-loop μ-loop
+passed c = cut c .before
+
+-- to the loop, and to the start
+abbrev loop-at : tie.After-put-answer Inv-loop2 μ-loop2 Inv-loop μ-loop → tie.At-loop Inv-loop2 μ-loop2 Inv-loop μ-loop
+loop-at c = passed c .before
+
+abbrev start : tie.After-put-answer Inv-loop2 μ-loop2 Inv-loop μ-loop → tie.Start Inv-loop2 μ-loop2 Inv-loop μ-loop
+start c = loop-at c .before .before .before .before .before
+
 loop-holds : tie.Need-loop-holds Inv-loop2 μ-loop2 Inv-loop μ-loop
-loop-holds c =
-    let S = c .before .before .before .before in
-    (begun (S .pre .3), refl, refl, refl, workers-long S)
+loop-holds c = let s = c .before .before .before .before in (begun (s .pre .3), refl, refl, refl, workers-long s)
 
 record-at-requires : tie.Need-record-at-requires Inv-loop2 μ-loop2 Inv-loop μ-loop
 record-at-requires c κs = omega (arith, c .loop-test .taken, c .before .before .before .before .before .before .pre .4)
@@ -79,37 +96,32 @@ take-turn-requires c κs = tt
 
 put-answer-requires : tie.Need-put-answer-requires Inv-loop2 μ-loop2 Inv-loop μ-loop
 put-answer-requires c κs =
-    let L = c .before .before .before .before .before .before .before .before .before .before .before .before .before .before .before .before .before .before .before .before .before .before in
-    let p = c .before .before .before .before .before .before .before .before .before .before .before .before .before .before .before .before .before .before .before .before .before .before .before .before .before .before .before .pre in
-    (omega (arith, c .before .before .before .before .before .before .before .before .before .before .before .before .before .before .before .before .before .before .before .before .before .loop-test .taken, L .loop .inv .2, p .1), omega (arith, c .before .before .before .before .before .before .before .before .before .before .before .before .before .before .before .before .before .before .before .before .before .loop-test .taken, L .loop .inv .3, p .2))
+    let t = c .before .before .before .before .before .before .before .before .before .before .before .before .before .before .before .before .before .before .before .before .before in
+    let i = t .before .loop .inv in
+    let p = t .before .before .before .before .before .before .pre in
+    (omega (arith, t .loop-test .taken, i .2, p .1), omega (arith, t .loop-test .taken, i .3, p .2))
 
 add-k : tie.Need-add-k Inv-loop2 μ-loop2 Inv-loop μ-loop
-add-k c = omega (arith, c .before .before .before .before .before .before .before .before .before .before .before .before .before .before .before .before .before .before .before .before .before .before .before .before .before .before .loop-test .taken, c .before .before .before .before .before .before .before .before .before .before .before .before .before .before .before .before .before .before .before .before .before .before .before .before .before .before .before .before .before .before .before .before .fits)
+add-k c = let p = c .before .before .before .before in omega (arith, passed p .loop-test .taken, start p .fits)
 
 enum-told : tie.Need-enum-told Inv-loop2 μ-loop2 Inv-loop μ-loop
 enum-told c = search needs
 
 loop-less : tie.Need-loop-less Inv-loop2 μ-loop2 Inv-loop μ-loop
-loop-less c = omega (arith, c .before .before .before .before .before .before .before .before .before .before .before .before .before .before .before .before .before .before .before .before .before .before .before .before .before .before .before .before .loop-test .taken)
+loop-less c = let p = c .before .before .before .before .before .before in omega (arith, passed p .loop-test .taken)
 
 loop-again : tie.Need-loop-again Inv-loop2 μ-loop2 Inv-loop μ-loop
 loop-again c =
-    let A = c .before .before .before .before .before .before in
-    let T = c .before .before .before .before .before .before .before .before .before .before .before in
-    let W = c .before .before .before .before .before .before .before .before .before .before .before .before .before .before .before .before .before .before .before .before .before .before .before .before .before in
-    let R = W .before .before in
-    let L0 = R .before in
-    let L = L0 .before in
-    let S = c .before .before .before .before .before .before .before .before .before .before .before .before .before .before .before .before .before .before .before .before .before .before .before .before .before .before .before .before .before .before .before .before .before .before in
-    let A0 = S .args in
-    let i = L .loop .inv in (
-      on-arm (A0 .fixed) (S .pre .0) (A0 .list .now) (A0 .rows .now) (A0 .rights .now) refl (L .loop .workers) (lent L) (L .loop .kinds) (L .loop .numbers)
-          (L .loop .last) (i .0) (L0 .loop-test .taken) _ (R .record-at .ensures .0) _ (ap (λ (l : ℕ). l % 16) (W .wide .ensures .0)) _ _ (T .take-turn .ensures) _ _ _
-          (A .put-answer .ensures) Says refl (c .enum-told .given .1),
-      c .before .before .before .before .before .before .before .before .before .before .row .given ∙ i .1,
-      kept-long (L .loop .kinds) _ _ (A .put-answer .ensures .1 .0) (i .2),
-      kept-long (L .loop .numbers) _ _ (A .put-answer .ensures .1 .1) (i .3),
-      i .4,
+    let p = c .before .before .before .before .before .before in
+    let s = start p in
+    let l = loop-at p .loop in (
+      on-arm (s .args .fixed) (s .pre .0) (s .args .list .now) (s .args .rows .now) (s .args .rights .now) refl (l .workers) (lent (loop-at p)) (l .kinds)
+          (l .numbers) (l .last) (l .inv .0) (passed p .loop-test .taken) _ (cut p .record-at .ensures .0) _
+          (ap (λ (j : ℕ). j % 16) (byte p .wide .ensures .0)) _ _ (turn p .take-turn .ensures) _ _ _ (p .put-answer .ensures) Says refl (c .enum-told .given .1),
+      p .before .before .before .before .row .given ∙ l .inv .1,
+      kept-long (l .kinds) _ _ (p .put-answer .ensures .1 .0) (l .inv .2),
+      kept-long (l .numbers) _ _ (p .put-answer .ensures .1 .1) (l .inv .3),
+      l .inv .4,
     )
 
 enum-told-2 : tie.Need-enum-told-2 Inv-loop2 μ-loop2 Inv-loop μ-loop
@@ -128,26 +140,20 @@ array-set-from-workers : tie.Need-array-set-from-workers Inv-loop2 μ-loop2 Inv-
 array-set-from-workers c = search needs
 
 loop-less-2 : tie.Need-loop-less-2 Inv-loop2 μ-loop2 Inv-loop μ-loop
-loop-less-2 c = omega (arith, c .before .before .before .before .before .before .before .before .before .before .before .before .before .before .before .before .before .before .before .before .before .before .before .before .before .before .before .before .before .before .loop-test .taken)
+loop-less-2 c = let p = c .before .before .before .before .before .before .before .before in omega (arith, passed p .loop-test .taken)
 
 loop-again-2 : tie.Need-loop-again-2 Inv-loop2 μ-loop2 Inv-loop μ-loop
 loop-again-2 c =
-    let A = c .before .before .before .before .before .before .before .before in
-    let T = c .before .before .before .before .before .before .before .before .before .before .before .before .before in
-    let W = c .before .before .before .before .before .before .before .before .before .before .before .before .before .before .before .before .before .before .before .before .before .before .before .before .before .before .before in
-    let R = W .before .before in
-    let L0 = R .before in
-    let L = L0 .before in
-    let S = c .before .before .before .before .before .before .before .before .before .before .before .before .before .before .before .before .before .before .before .before .before .before .before .before .before .before .before .before .before .before .before .before .before .before .before .before in
-    let A0 = S .args in
-    let i = L .loop .inv in (
-      on-arm (A0 .fixed) (S .pre .0) (A0 .list .now) (A0 .rows .now) (A0 .rights .now) refl (L .loop .workers) (lent L) (L .loop .kinds) (L .loop .numbers)
-          (L .loop .last) (i .0) (L0 .loop-test .taken) _ (R .record-at .ensures .0) _ (ap (λ (l : ℕ). l % 16) (W .wide .ensures .0)) _ _ (T .take-turn .ensures) _ _ _
-          (A .put-answer .ensures) Sets refl (c .before .before .enum-told2 .given .1),
-      c .before .before .before .before .before .before .before .before .before .before .before .before .row .given ∙ i .1,
-      kept-long (L .loop .kinds) _ _ (A .put-answer .ensures .1 .0) (i .2),
-      kept-long (L .loop .numbers) _ _ (A .put-answer .ensures .1 .1) (i .3),
-      replaced (L .loop .workers) _ _ (i .4),
+    let p = c .before .before .before .before .before .before .before .before in
+    let s = start p in
+    let l = loop-at p .loop in (
+      on-arm (s .args .fixed) (s .pre .0) (s .args .list .now) (s .args .rows .now) (s .args .rights .now) refl (l .workers) (lent (loop-at p)) (l .kinds)
+          (l .numbers) (l .last) (l .inv .0) (passed p .loop-test .taken) _ (cut p .record-at .ensures .0) _
+          (ap (λ (j : ℕ). j % 16) (byte p .wide .ensures .0)) _ _ (turn p .take-turn .ensures) _ _ _ (p .put-answer .ensures) Sets refl (c .before .before .enum-told2 .given .1),
+      p .before .before .before .before .row .given ∙ l .inv .1,
+      kept-long (l .kinds) _ _ (p .put-answer .ensures .1 .0) (l .inv .2),
+      kept-long (l .numbers) _ _ (p .put-answer .ensures .1 .1) (l .inv .3),
+      replaced (l .workers) _ _ (l .inv .4),
     )
 
 enum-told-3 : tie.Need-enum-told-3 Inv-loop2 μ-loop2 Inv-loop μ-loop
@@ -166,26 +172,20 @@ array-set-from-workers-2 : tie.Need-array-set-from-workers-2 Inv-loop2 μ-loop2 
 array-set-from-workers-2 c = search needs
 
 loop-less-3 : tie.Need-loop-less-3 Inv-loop2 μ-loop2 Inv-loop μ-loop
-loop-less-3 c = omega (arith, c .before .before .before .before .before .before .before .before .before .before .before .before .before .before .before .before .before .before .before .before .before .before .before .before .before .before .before .before .before .before .loop-test .taken)
+loop-less-3 c = let p = c .before .before .before .before .before .before .before .before in omega (arith, passed p .loop-test .taken)
 
 loop-again-3 : tie.Need-loop-again-3 Inv-loop2 μ-loop2 Inv-loop μ-loop
 loop-again-3 c =
-    let A = c .before .before .before .before .before .before .before .before in
-    let T = c .before .before .before .before .before .before .before .before .before .before .before .before .before in
-    let W = c .before .before .before .before .before .before .before .before .before .before .before .before .before .before .before .before .before .before .before .before .before .before .before .before .before .before .before in
-    let R = W .before .before in
-    let L0 = R .before in
-    let L = L0 .before in
-    let S = c .before .before .before .before .before .before .before .before .before .before .before .before .before .before .before .before .before .before .before .before .before .before .before .before .before .before .before .before .before .before .before .before .before .before .before .before in
-    let A0 = S .args in
-    let i = L .loop .inv in (
-      on-arm (A0 .fixed) (S .pre .0) (A0 .list .now) (A0 .rows .now) (A0 .rights .now) refl (L .loop .workers) (lent L) (L .loop .kinds) (L .loop .numbers)
-          (L .loop .last) (i .0) (L0 .loop-test .taken) _ (R .record-at .ensures .0) _ (ap (λ (l : ℕ). l % 16) (W .wide .ensures .0)) _ _ (T .take-turn .ensures) _ _ _
-          (A .put-answer .ensures) Times refl (c .before .before .enum-told3 .given .1),
-      c .before .before .before .before .before .before .before .before .before .before .before .before .row .given ∙ i .1,
-      kept-long (L .loop .kinds) _ _ (A .put-answer .ensures .1 .0) (i .2),
-      kept-long (L .loop .numbers) _ _ (A .put-answer .ensures .1 .1) (i .3),
-      replaced (L .loop .workers) _ _ (i .4),
+    let p = c .before .before .before .before .before .before .before .before in
+    let s = start p in
+    let l = loop-at p .loop in (
+      on-arm (s .args .fixed) (s .pre .0) (s .args .list .now) (s .args .rows .now) (s .args .rights .now) refl (l .workers) (lent (loop-at p)) (l .kinds)
+          (l .numbers) (l .last) (l .inv .0) (passed p .loop-test .taken) _ (cut p .record-at .ensures .0) _
+          (ap (λ (j : ℕ). j % 16) (byte p .wide .ensures .0)) _ _ (turn p .take-turn .ensures) _ _ _ (p .put-answer .ensures) Times refl (c .before .before .enum-told3 .given .1),
+      p .before .before .before .before .row .given ∙ l .inv .1,
+      kept-long (l .kinds) _ _ (p .put-answer .ensures .1 .0) (l .inv .2),
+      kept-long (l .numbers) _ _ (p .put-answer .ensures .1 .1) (l .inv .3),
+      replaced (l .workers) _ _ (l .inv .4),
     )
 
 enum-told-4 : tie.Need-enum-told-4 Inv-loop2 μ-loop2 Inv-loop μ-loop
@@ -216,54 +216,52 @@ array-set-from-workers-3 : tie.Need-array-set-from-workers-3 Inv-loop2 μ-loop2 
 array-set-from-workers-3 c = search needs
 
 loop-less-4 : tie.Need-loop-less-4 Inv-loop2 μ-loop2 Inv-loop μ-loop
-loop-less-4 c = omega (arith, c .before .before .before .before .before .before .before .before .before .before .before .before .before .before .before .before .before .before .before .before .before .before .before .before .before .before .before .before .before .before .before .before .before .before .loop-test .taken)
+loop-less-4 c = let p = c .before .before .before .before .before .before .before .before .before .before .before .before in omega (arith, passed p .loop-test .taken)
 
 loop-again-4 : tie.Need-loop-again-4 Inv-loop2 μ-loop2 Inv-loop μ-loop
 loop-again-4 c =
-    let A = c .before .before .before .before .before .before .before .before .before .before .before .before in
-    let T = c .before .before .before .before .before .before .before .before .before .before .before .before .before .before .before .before .before in
-    let W = c .before .before .before .before .before .before .before .before .before .before .before .before .before .before .before .before .before .before .before .before .before .before .before .before .before .before .before .before .before .before .before in
-    let R = W .before .before in
-    let L0 = R .before in
-    let L = L0 .before in
-    let S = c .before .before .before .before .before .before .before .before .before .before .before .before .before .before .before .before .before .before .before .before .before .before .before .before .before .before .before .before .before .before .before .before .before .before .before .before .before .before .before .before in
-    let A0 = S .args in
-    let i = L .loop .inv in (
-      on-reads (A0 .fixed) (S .pre .0) (A0 .list .now) (A0 .rows .now) (A0 .rights .now) refl (L .loop .workers) (lent L) (L .loop .kinds) (L .loop .numbers)
-          (L .loop .last) (i .0) (L0 .loop-test .taken) _ (R .record-at .ensures .0) _ (ap (λ (l : ℕ). l % 16) (W .wide .ensures .0)) _ _ (T .take-turn .ensures) _ _ _
-          (A .put-answer .ensures) _ _ _ (c .before .before .before .before .before .before .enum-told4 .given .1) (c .before .before .before .before .before .wide2 .ensures .0) refl (c .before .before .keep-time .ensures),
-      c .before .before .before .before .before .before .before .before .before .before .before .before .before .before .before .before .row .given ∙ i .1,
-      kept-long (L .loop .kinds) _ _ (A .put-answer .ensures .1 .0) (i .2),
-      kept-long (L .loop .numbers) _ _ (A .put-answer .ensures .1 .1) (i .3),
-      replaced (L .loop .workers) _ _ (i .4),
+    let p = c .before .before .before .before .before .before .before .before .before .before .before .before in
+    let s = start p in
+    let l = loop-at p .loop in (
+      on-reads (s .args .fixed) (s .pre .0) (s .args .list .now) (s .args .rows .now) (s .args .rights .now) refl (l .workers) (lent (loop-at p)) (l .kinds)
+          (l .numbers) (l .last) (l .inv .0) (passed p .loop-test .taken) _ (cut p .record-at .ensures .0) _
+          (ap (λ (j : ℕ). j % 16) (byte p .wide .ensures .0)) _ _ (turn p .take-turn .ensures) _ _ _ (p .put-answer .ensures) _ _ _ (c .before .before .before .before .before .before .enum-told4 .given .1)
+          (c .before .before .before .before .before .wide2 .ensures .0) refl (c .before .before .keep-time .ensures),
+      p .before .before .before .before .row .given ∙ l .inv .1,
+      kept-long (l .kinds) _ _ (p .put-answer .ensures .1 .0) (l .inv .2),
+      kept-long (l .numbers) _ _ (p .put-answer .ensures .1 .1) (l .inv .3),
+      replaced (l .workers) _ _ (l .inv .4),
     )
 
 enum-told-5 : tie.Need-enum-told-5 Inv-loop2 μ-loop2 Inv-loop μ-loop
 enum-told-5 c = search needs
 
 same-length : tie.Need-same-length Inv-loop2 μ-loop2 Inv-loop μ-loop
-same-length c = c .before .before .before .before .before .before .before .before .before .before .before .row .given ∙ c .before .before .before .before .before .before .before .before .before .before .before .before .before .before .before .before .before .before .before .before .before .before .before .before .before .before .before .before .before .before .loop .inv .1
+same-length c =
+    let p = c .before .before .before .before .before .before .before in
+    let l = loop-at p .loop in
+    p .before .before .before .before .row .given ∙ l .inv .1
 
 same-length-2 : tie.Need-same-length-2 Inv-loop2 μ-loop2 Inv-loop μ-loop
-same-length-2 c = kept-long (c .before .before .before .before .before .before .before .before .before .before .before .before .before .before .before .before .before .before .before .before .before .before .before .before .before .before .before .before .before .before .loop .kinds) _ _ (c .before .before .before .before .before .before .before .put-answer .ensures .1 .0) (c .before .before .before .before .before .before .before .before .before .before .before .before .before .before .before .before .before .before .before .before .before .before .before .before .before .before .before .before .before .before .loop .inv .2)
+same-length-2 c =
+    let p = c .before .before .before .before .before .before .before in
+    let l = loop-at p .loop in
+    kept-long (l .kinds) _ _ (p .put-answer .ensures .1 .0) (l .inv .2)
 
 same-length-3 : tie.Need-same-length-3 Inv-loop2 μ-loop2 Inv-loop μ-loop
-same-length-3 c = kept-long (c .before .before .before .before .before .before .before .before .before .before .before .before .before .before .before .before .before .before .before .before .before .before .before .before .before .before .before .before .before .before .loop .numbers) _ _ (c .before .before .before .before .before .before .before .put-answer .ensures .1 .1) (c .before .before .before .before .before .before .before .before .before .before .before .before .before .before .before .before .before .before .before .before .before .before .before .before .before .before .before .before .before .before .loop .inv .3)
+same-length-3 c =
+    let p = c .before .before .before .before .before .before .before in
+    let l = loop-at p .loop in
+    kept-long (l .numbers) _ _ (p .put-answer .ensures .1 .1) (l .inv .3)
 
 returns : tie.Need-returns Inv-loop2 μ-loop2 Inv-loop μ-loop
 returns c =
-    let A = c .before .before .before .before .before .before .before in
-    let T = c .before .before .before .before .before .before .before .before .before .before .before .before in
-    let W = c .before .before .before .before .before .before .before .before .before .before .before .before .before .before .before .before .before .before .before .before .before .before .before .before .before .before in
-    let R = W .before .before in
-    let L0 = R .before in
-    let L = L0 .before in
-    let S = c .before .before .before .before .before .before .before .before .before .before .before .before .before .before .before .before .before .before .before .before .before .before .before .before .before .before .before .before .before .before .before .before .before .before .before in
-    let A0 = S .args in
-    let i = L .loop .inv in
-    on-makes (A0 .fixed) (S .pre .0) (A0 .list .now) (A0 .rows .now) (A0 .rights .now) refl (L .loop .workers) (lent L) (L .loop .kinds) (L .loop .numbers)
-    (L .loop .last) (i .0) (L0 .loop-test .taken) _ (R .record-at .ensures .0) _ (ap (λ (l : ℕ). l % 16) (W .wide .ensures .0)) _ _ (T .take-turn .ensures) _ _ _
-    (A .put-answer .ensures) (c .before .enum-told5 .given .1)
+    let p = c .before .before .before .before .before .before .before in
+    let s = start p in
+    let l = loop-at p .loop in
+    on-makes (s .args .fixed) (s .pre .0) (s .args .list .now) (s .args .rows .now) (s .args .rights .now) refl (l .workers) (lent (loop-at p)) (l .kinds)
+    (l .numbers) (l .last) (l .inv .0) (passed p .loop-test .taken) _ (cut p .record-at .ensures .0) _
+    (ap (λ (j : ℕ). j % 16) (byte p .wide .ensures .0)) _ _ (turn p .take-turn .ensures) _ _ _ (p .put-answer .ensures) (c .before .enum-told5 .given .1)
 
 enum-told-6 : tie.Need-enum-told-6 Inv-loop2 μ-loop2 Inv-loop μ-loop
 enum-told-6 c = search needs
@@ -284,26 +282,20 @@ array-set-from-workers-4 : tie.Need-array-set-from-workers-4 Inv-loop2 μ-loop2 
 array-set-from-workers-4 c = search needs
 
 loop-less-5 : tie.Need-loop-less-5 Inv-loop2 μ-loop2 Inv-loop μ-loop
-loop-less-5 c = omega (arith, c .before .before .before .before .before .before .before .before .before .before .before .before .before .before .before .before .before .before .before .before .before .before .before .before .before .before .before .before .before .before .loop-test .taken)
+loop-less-5 c = let p = c .before .before .before .before .before .before .before .before in omega (arith, passed p .loop-test .taken)
 
 loop-again-5 : tie.Need-loop-again-5 Inv-loop2 μ-loop2 Inv-loop μ-loop
 loop-again-5 c =
-    let A = c .before .before .before .before .before .before .before .before in
-    let T = c .before .before .before .before .before .before .before .before .before .before .before .before .before in
-    let W = c .before .before .before .before .before .before .before .before .before .before .before .before .before .before .before .before .before .before .before .before .before .before .before .before .before .before .before in
-    let R = W .before .before in
-    let L0 = R .before in
-    let L = L0 .before in
-    let S = c .before .before .before .before .before .before .before .before .before .before .before .before .before .before .before .before .before .before .before .before .before .before .before .before .before .before .before .before .before .before .before .before .before .before .before .before in
-    let A0 = S .args in
-    let i = L .loop .inv in (
-      on-hands-in (A0 .fixed) (S .pre .0) (A0 .list .now) (A0 .rows .now) (A0 .rights .now) refl (L .loop .workers) (lent L) (L .loop .kinds) (L .loop .numbers)
-          (L .loop .last) (i .0) (L0 .loop-test .taken) _ (R .record-at .ensures .0) _ (ap (λ (l : ℕ). l % 16) (W .wide .ensures .0)) _ _ (T .take-turn .ensures) _ _ _
-          (A .put-answer .ensures) _ (c .before .before .enum-told6 .given .1) (c .handed .ensures),
-      c .before .before .before .before .before .before .before .before .before .before .before .before .row .given ∙ i .1,
-      kept-long (L .loop .kinds) _ _ (A .put-answer .ensures .1 .0) (i .2),
-      kept-long (L .loop .numbers) _ _ (A .put-answer .ensures .1 .1) (i .3),
-      replaced (L .loop .workers) _ _ (i .4),
+    let p = c .before .before .before .before .before .before .before .before in
+    let s = start p in
+    let l = loop-at p .loop in (
+      on-hands-in (s .args .fixed) (s .pre .0) (s .args .list .now) (s .args .rows .now) (s .args .rights .now) refl (l .workers) (lent (loop-at p)) (l .kinds)
+          (l .numbers) (l .last) (l .inv .0) (passed p .loop-test .taken) _ (cut p .record-at .ensures .0) _
+          (ap (λ (j : ℕ). j % 16) (byte p .wide .ensures .0)) _ _ (turn p .take-turn .ensures) _ _ _ (p .put-answer .ensures) _ (c .before .before .enum-told6 .given .1) (c .handed .ensures),
+      p .before .before .before .before .row .given ∙ l .inv .1,
+      kept-long (l .kinds) _ _ (p .put-answer .ensures .1 .0) (l .inv .2),
+      kept-long (l .numbers) _ _ (p .put-answer .ensures .1 .1) (l .inv .3),
+      replaced (l .workers) _ _ (l .inv .4),
     )
 
 enum-told-7 : tie.Need-enum-told-7 Inv-loop2 μ-loop2 Inv-loop μ-loop
@@ -334,27 +326,24 @@ array-set-from-workers-5 : tie.Need-array-set-from-workers-5 Inv-loop2 μ-loop2 
 array-set-from-workers-5 c = search needs
 
 loop-less-6 : tie.Need-loop-less-6 Inv-loop2 μ-loop2 Inv-loop μ-loop
-loop-less-6 c = omega (arith, c .before .before .before .before .before .before .before .before .before .before .before .before .before .before .before .before .before .before .before .before .before .before .before .before .before .before .before .before .before .before .before .before .before .before .before .before .before .before .before .before .before .before .before .before .loop-test .taken)
+loop-less-6 c = let p = c .before .before .before .before .before .before .before .before .before .before .before .before .before .before .before .before .before .before .before .before .before .before in omega (arith, passed p .loop-test .taken)
 
 loop-again-6 : tie.Need-loop-again-6 Inv-loop2 μ-loop2 Inv-loop μ-loop
 loop-again-6 c =
-    let A = c .before .before .before .before .before .before .before .before .before .before .before .before .before .before .before .before .before .before .before .before .before .before in
-    let T = c .before .before .before .before .before .before .before .before .before .before .before .before .before .before .before .before .before .before .before .before .before .before .before .before .before .before .before in
-    let W = c .before .before .before .before .before .before .before .before .before .before .before .before .before .before .before .before .before .before .before .before .before .before .before .before .before .before .before .before .before .before .before .before .before .before .before .before .before .before .before .before .before in
-    let R = W .before .before in
-    let L0 = R .before in
-    let L = L0 .before in
-    let S = c .before .before .before .before .before .before .before .before .before .before .before .before .before .before .before .before .before .before .before .before .before .before .before .before .before .before .before .before .before .before .before .before .before .before .before .before .before .before .before .before .before .before .before .before .before .before .before .before .before .before in
-    let A0 = S .args in
-    let i = L .loop .inv in (
-      on-splits (A0 .fixed) (S .pre .0) (A0 .list .now) (A0 .rows .now) (A0 .rights .now) refl (L .loop .workers) (lent L) (L .loop .kinds) (L .loop .numbers)
-          (L .loop .last) (i .0) (L0 .loop-test .taken) _ (R .record-at .ensures .0) _ (ap (λ (l : ℕ). l % 16) (W .wide .ensures .0)) _ _ (T .take-turn .ensures) _ _ _
-          (A .put-answer .ensures) _ _ _ _ _ _ _ _ (c .before .before .before .before .before .before .before .before .before .before .before .before .before .before .before .before .enum-told7 .given .1) (c .before .before .before .before .before .before .before .wide3 .ensures .0) (c .before .before .before .before .before .before .before .before .before .before .window-of .ensures)
-          (c .before .before .before .flush-split .ensures .0) (c .before .before .before .flush-split .ensures .1 .0) (c .before .before .before .flush-split .ensures .1 .1 .0) (c .set-window .ensures),
-      c .before .before .before .before .before .before .before .before .before .before .before .before .before .before .before .before .before .before .before .before .before .before .before .before .before .before .row .given ∙ i .1,
-      kept-long (L .loop .kinds) _ _ (A .put-answer .ensures .1 .0) (i .2),
-      kept-long (L .loop .numbers) _ _ (A .put-answer .ensures .1 .1) (i .3),
-      replaced (L .loop .workers) _ _ (i .4),
+    let p = c .before .before .before .before .before .before .before .before .before .before .before .before .before .before .before .before .before .before .before .before .before .before in
+    let s = start p in
+    let l = loop-at p .loop in
+    let f = c .before .before .before .flush-split in (
+      on-splits (s .args .fixed) (s .pre .0) (s .args .list .now) (s .args .rows .now) (s .args .rights .now) refl (l .workers) (lent (loop-at p)) (l .kinds)
+          (l .numbers) (l .last) (l .inv .0) (passed p .loop-test .taken) _ (cut p .record-at .ensures .0) _
+          (ap (λ (j : ℕ). j % 16) (byte p .wide .ensures .0)) _ _ (turn p .take-turn .ensures) _ _ _ (p .put-answer .ensures) _ _ _ _ _ _ _ _
+          (c .before .before .before .before .before .before .before .before .before .before .before .before .before .before .before .before .enum-told7 .given .1) (c .before .before .before .before .before .before .before .wide3 .ensures .0)
+          (c .before .before .before .before .before .before .before .before .before .before .window-of .ensures) (f .ensures .0) (f .ensures .1 .0) (f .ensures .1 .1 .0)
+          (c .set-window .ensures),
+      p .before .before .before .before .row .given ∙ l .inv .1,
+      kept-long (l .kinds) _ _ (p .put-answer .ensures .1 .0) (l .inv .2),
+      kept-long (l .numbers) _ _ (p .put-answer .ensures .1 .1) (l .inv .3),
+      replaced (l .workers) _ _ (l .inv .4),
     )
 
 enum-told-8 : tie.Need-enum-told-8 Inv-loop2 μ-loop2 Inv-loop μ-loop
@@ -373,30 +362,25 @@ array-set-from-workers-6 : tie.Need-array-set-from-workers-6 Inv-loop2 μ-loop2 
 array-set-from-workers-6 c = search needs
 
 loop2-holds : tie.Need-loop2-holds Inv-loop2 μ-loop2 Inv-loop μ-loop
-loop2-holds c = (omega arith, refl, replaced (c .before .before .before .before .before .before .before .before .before .before .before .before .before .before .before .before .before .before .before .before .before .before .before .before .before .before .before .before .before .before .before .loop .workers) _ _ (c .before .before .before .before .before .before .before .before .before .before .before .before .before .before .before .before .before .before .before .before .before .before .before .before .before .before .before .before .before .before .before .loop .inv .4))
+loop2-holds c = let l = loop-at (c .before .before .before .before .before .before .before .before) .loop in (omega arith, refl, replaced (l .workers) _ _ (l .inv .4))
 
 loop-less-7 : tie.Need-loop-less-7 Inv-loop2 μ-loop2 Inv-loop μ-loop
-loop-less-7 c = omega (arith, c .before .before .before .before .before .before .before .before .before .before .before .before .before .before .before .before .before .before .before .before .before .before .before .before .before .before .before .before .before .before .before .before .loop-test .taken)
+loop-less-7 c = let p = c .before .before .before .before .before .before .before .before .before .before in omega (arith, passed p .loop-test .taken)
 
 loop-again-7 : tie.Need-loop-again-7 Inv-loop2 μ-loop2 Inv-loop μ-loop
 loop-again-7 c =
-    let A = c .before .before .before .before .before .before .before .before .before .before in
-    let T = c .before .before .before .before .before .before .before .before .before .before .before .before .before .before .before in
-    let W = c .before .before .before .before .before .before .before .before .before .before .before .before .before .before .before .before .before .before .before .before .before .before .before .before .before .before .before .before .before in
-    let R = W .before .before in
-    let L0 = R .before in
-    let L = L0 .before in
-    let S = c .before .before .before .before .before .before .before .before .before .before .before .before .before .before .before .before .before .before .before .before .before .before .before .before .before .before .before .before .before .before .before .before .before .before .before .before .before .before in
-    let A0 = S .args in
-    let i = L .loop .inv in (
-      on-moves (A0 .fixed) (S .pre .0) (A0 .list .now) (A0 .rows .now) (A0 .rights .now) refl (L .loop .workers) (lent L) (L .loop .kinds) (L .loop .numbers)
-          (L .loop .last) (i .0) (L0 .loop-test .taken) _ (R .record-at .ensures .0) _ (ap (λ (l : ℕ). l % 16) (W .wide .ensures .0)) _ _ (T .take-turn .ensures) _ _ _
-          (A .put-answer .ensures) _ (c .before .before .before .before .enum-told8 .given .1)
-          (moved _ _ _ _ _ (c .before .loop2 .inv .1) (c .before .loop2 .inv .2) (c .before .loop2 .inv .0) (c .loop2-test .left)),
-      c .before .before .before .before .before .before .before .before .before .before .before .before .before .before .row .given ∙ i .1,
-      kept-long (L .loop .kinds) _ _ (A .put-answer .ensures .1 .0) (i .2),
-      kept-long (L .loop .numbers) _ _ (A .put-answer .ensures .1 .1) (i .3),
-      moved-long _ _ _ _ _ (c .before .loop2 .inv .1) (c .before .loop2 .inv .2) (c .before .loop2 .inv .0) (c .loop2-test .left),
+    let p = c .before .before .before .before .before .before .before .before .before .before in
+    let s = start p in
+    let l = loop-at p .loop in
+    let q = c .before .loop2 in (
+      on-moves (s .args .fixed) (s .pre .0) (s .args .list .now) (s .args .rows .now) (s .args .rights .now) refl (l .workers) (lent (loop-at p)) (l .kinds)
+          (l .numbers) (l .last) (l .inv .0) (passed p .loop-test .taken) _ (cut p .record-at .ensures .0) _
+          (ap (λ (j : ℕ). j % 16) (byte p .wide .ensures .0)) _ _ (turn p .take-turn .ensures) _ _ _ (p .put-answer .ensures) _ (c .before .before .before .before .enum-told8 .given .1)
+          (moved _ _ _ _ _ (q .inv .1) (q .inv .2) (q .inv .0) (c .loop2-test .left)),
+      p .before .before .before .before .row .given ∙ l .inv .1,
+      kept-long (l .kinds) _ _ (p .put-answer .ensures .1 .0) (l .inv .2),
+      kept-long (l .numbers) _ _ (p .put-answer .ensures .1 .1) (l .inv .3),
+      moved-long _ _ _ _ _ (q .inv .1) (q .inv .2) (q .inv .0) (c .loop2-test .left),
     )
 
 mul-z-2 : tie.Need-mul-z-2 Inv-loop2 μ-loop2 Inv-loop μ-loop
@@ -425,9 +409,9 @@ loop2-less c = omega (arith, c .before .before .before .before .before .loop2-te
 
 loop2-again : tie.Need-loop2-again Inv-loop2 μ-loop2 Inv-loop μ-loop
 loop2-again c =
-    let L = c .before .before .before .before .before .before in
-    let i = L .loop2 .inv in
-    (omega (arith, c .before .before .before .before .before .loop2-test .taken), move-one _ _ _ _ _ (i .1) (i .2) (c .before .before .before .before .before .loop2-test .taken) _ (c .before .off .ensures), i .2)
+    let t = c .before .before .before .before .before in
+    let i = t .before .loop2 .inv in
+    (omega (arith, t .loop2-test .taken), move-one _ _ _ _ _ (i .1) (i .2) (t .loop2-test .taken) _ (c .before .off .ensures), i .2)
 
 add-j-2 : tie.Need-add-j-2 Inv-loop2 μ-loop2 Inv-loop μ-loop
 add-j-2 c = omega arith
@@ -437,9 +421,10 @@ loop2-less-2 c = omega (arith, c .before .before .before .loop2-test .taken)
 
 loop2-again-2 : tie.Need-loop2-again-2 Inv-loop2 μ-loop2 Inv-loop μ-loop
 loop2-again-2 c =
-    let L = c .before .before .before .before in
-    let i = L .loop2 .inv in
-    (omega (arith, c .before .before .before .loop2-test .taken), move-none _ _ _ _ _ (i .1) (i .2) (c .before .before .before .loop2-test .taken) (sym (c .before .stands-on .ensures) ∙ c .if1 .left), i .2)
+    let t = c .before .before .before in
+    let i = t .before .loop2 .inv in
+    let o = c .before .stands-on in
+    (omega (arith, t .loop2-test .taken), move-none _ _ _ _ _ (i .1) (i .2) (t .loop2-test .taken) (sym (o .ensures) ∙ c .if1 .left), i .2)
 
 same-length-4 : tie.Need-same-length-4 Inv-loop2 μ-loop2 Inv-loop μ-loop
 same-length-4 c = c .before .loop .inv .1

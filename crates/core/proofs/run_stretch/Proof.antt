@@ -38,7 +38,9 @@ same-length-3 c = search needs
 returns : tie.Need-returns
 returns c =
     let L = c .before .before .before .before .before .before .before in
-    (at-site (L .before .before .before .before .before .before .before .before .before .before .before .before .before .before .before .before .before .before .before .before .before .before .before .before .before .before .before .args .start .site .n) (L .run-lent .ensures) refl refl, refl)
+    let M = L .before .before .before .before .before .before .before .before .before .before .before .before .before .before in
+    let S = M .before .before .before .before .before .before .before .before .before .before .before .before .before in
+    (at-site (S .args .start .site .n) (L .run-lent .ensures) refl refl, refl)
 
 pub run-stretch-spec : {M : Type 1} → statement M
 run-stretch-spec =

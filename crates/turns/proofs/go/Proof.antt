@@ -62,7 +62,9 @@ enum-known-s-6 : tie.Need-enum-known-s-6
 enum-known-s-6 c = search needs
 
 free-one-requires : tie.Need-free-one-requires
-free-one-requires c κs = (search needs, some-left _ _ _ _ _ _ _ _ _ _ _ (c .before .before .before .before .before .before .before .before .step .ensures) (c .before .before .before .before .before .s6 .given .1))
+free-one-requires c κs =
+    let s = c .before .before .before .before .before in
+    (search needs, some-left _ _ _ _ _ _ _ _ _ _ _ (s .before .before .before .step .ensures) (s .s6 .given .1))
 
 enum-known-s-7 : tie.Need-enum-known-s-7
 enum-known-s-7 c = search needs
@@ -78,7 +80,8 @@ returns c =
     let T = c .before .before .before .before .before .before .before .before in
     let S = T .before .before .before .before .before .before .before .before in
     let a = S .args in
-    on-taken (a .fixed) (a .w) (a .d) (a .t) (a .n) (a .rows .now) (lent S) _ _ _ (T .step .ensures) _ (c .before .before .before .before .before .s .given .1) (c .taken .ensures)
+    on-taken (a .fixed) (a .w) (a .d) (a .t) (a .n) (a .rows .now) (lent S) _ _ _ (T .step .ensures)
+    _ (c .before .before .before .before .before .s .given .1) (c .taken .ensures)
 
 same-length-2 : tie.Need-same-length-2
 same-length-2 c = search needs
@@ -88,7 +91,8 @@ returns-2 c =
     let T = c .before .before .before .before .before .before in
     let S = T .before .before .before .before .before .before .before .before in
     let a = S .args in
-    on-hand-in (a .fixed) (a .w) (a .d) (a .t) (a .n) (a .rows .now) (lent S) _ _ _ (T .step .ensures) _ (c .before .before .before .s2 .given .1) (c .hand-in .ensures)
+    on-hand-in (a .fixed) (a .w) (a .d) (a .t) (a .n) (a .rows .now) (lent S) _ _ _ (T .step .ensures)
+    _ (c .before .before .before .s2 .given .1) (c .hand-in .ensures)
 
 same-length-3 : tie.Need-same-length-3
 same-length-3 c = search needs
@@ -98,7 +102,8 @@ returns-3 c =
     let T = c .before .before .before .before .before .before .before .before in
     let S = T .before .before .before .before .before .before .before .before in
     let a = S .args in
-    on-take (a .fixed) (a .w) (a .d) (a .t) (a .n) (a .rows .now) (lent S) _ _ _ (T .step .ensures) (c .before .before .before .before .before .enum-told .given .1) (c .take .ensures)
+    on-take (a .fixed) (a .w) (a .d) (a .t) (a .n) (a .rows .now) (lent S) _ _ _ (T .step .ensures)
+    (c .before .before .before .before .before .enum-told .given .1) (c .take .ensures)
 
 same-length-4 : tie.Need-same-length-4
 same-length-4 c = search needs
@@ -108,7 +113,8 @@ returns-4 c =
     let T = c .before .before .before .before .before in
     let S = T .before .before .before .before .before .before .before .before in
     let a = S .args in
-    on-read (a .fixed) (a .w) (a .d) (a .t) (a .n) (a .rows .now) (lent S) _ _ _ (T .step .ensures) _ _ (c .before .before .s3 .given .1) (c .read-time .ensures)
+    on-read (a .fixed) (a .w) (a .d) (a .t) (a .n) (a .rows .now) (lent S) _ _ _ (T .step .ensures)
+    _ _ (c .before .before .s3 .given .1) (c .read-time .ensures)
 
 same-length-5 : tie.Need-same-length-5
 same-length-5 c = search needs
@@ -118,7 +124,8 @@ returns-5 c =
     let T = c .before .before .before .before .before .before .before in
     let S = T .before .before .before .before .before .before .before .before in
     let a = S .args in
-    on-read-marks (a .fixed) (a .w) (a .d) (a .t) (a .n) (a .rows .now) (lent S) _ _ _ (T .step .ensures) _ (c .before .before .before .before .s4 .given .1) (c .read-marks .ensures)
+    on-read-marks (a .fixed) (a .w) (a .d) (a .t) (a .n) (a .rows .now) (lent S) _ _ _ (T .step .ensures)
+    _ (c .before .before .before .before .s4 .given .1) (c .read-marks .ensures)
 
 same-length-6 : tie.Need-same-length-6
 same-length-6 c = search needs
@@ -128,7 +135,8 @@ returns-6 c =
     let T = c .before .before .before .before .before in
     let S = T .before .before .before .before .before .before .before .before in
     let a = S .args in
-    on-split (a .fixed) (a .w) (a .d) (a .t) (a .n) (a .rows .now) (lent S) _ _ _ (T .step .ensures) _ _ (c .before .before .s5 .given .1) (c .split .ensures)
+    on-split (a .fixed) (a .w) (a .d) (a .t) (a .n) (a .rows .now) (lent S) _ _ _ (T .step .ensures)
+    _ _ (c .before .before .s5 .given .1) (c .split .ensures)
 
 same-length-7 : tie.Need-same-length-7
 same-length-7 c = search needs
@@ -138,7 +146,8 @@ returns-7 c =
     let T = c .before .before .before .before .before .before .before .before .before .before in
     let S = T .before .before .before .before .before .before .before .before in
     let a = S .args in
-    on-free (a .fixed) (a .w) (a .d) (a .t) (a .n) (a .rows .now) (lent S) _ _ _ (T .step .ensures) _ (c .before .before .before .before .before .before .before .s6 .given .1) (c .before .free-one .ensures)
+    on-free (a .fixed) (a .w) (a .d) (a .t) (a .n) (a .rows .now) (lent S) _ _ _ (T .step .ensures)
+    _ (c .before .before .before .before .before .before .before .s6 .given .1) (c .before .free-one .ensures)
 
 same-length-8 : tie.Need-same-length-8
 same-length-8 c = search needs
@@ -148,7 +157,8 @@ returns-8 c =
     let T = c .before .before .before .before .before .before in
     let S = T .before .before .before .before .before .before .before .before in
     let a = S .args in
-    on-mark (a .fixed) (a .w) (a .d) (a .t) (a .n) (a .rows .now) (lent S) _ _ _ (T .step .ensures) _ _ (c .before .before .before .s7 .given .1) (c .set-mark .ensures)
+    on-mark (a .fixed) (a .w) (a .d) (a .t) (a .n) (a .rows .now) (lent S) _ _ _ (T .step .ensures)
+    _ _ (c .before .before .before .s7 .given .1) (c .set-mark .ensures)
 
 pub go-spec : {M : Type 1} → statement M
 go-spec =

@@ -24,7 +24,8 @@ returns c =
     let S = c .before .before in
     let F = S .before .before .before in
     let a = F .before .before .before .before .before .before .args in
-    took (a .queue .now) (a .lens .now) (a .counts .now) (a .merged .now) (a .w) (F .before .before .window-of .ensures) (F .flush-take .ensures .0) (F .flush-take .ensures .1 .0) (F .flush-take .ensures .1 .1)
+    took (a .queue .now) (a .lens .now) (a .counts .now) (a .merged .now) (a .w)
+    (F .before .before .window-of .ensures) (F .flush-take .ensures .0) (F .flush-take .ensures .1 .0) (F .flush-take .ensures .1 .1)
     (S .set-window .ensures) (c .left-to .ensures)
 
 pub take-spec : {M : Type 1} → statement M

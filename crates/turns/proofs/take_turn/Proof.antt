@@ -38,22 +38,39 @@ go-requires c κs = search needs
 
 returns : tie.Need-returns
 unfolding turnBy
-returns c = stays _ (c .left-to .ensures) ∙ decided _ _ _ _ _ _ _ _ _ (c .before .before .before .before .before .before .before .before .before .before .args .row .now) _ _ _ _ _ _ _ _ _ _ (c .before .before .before .before .before .before .before .decode .ensures) (c .before .before .before .before .gate-for .ensures) (c .before .before .g .given .1)
+returns c =
+    let G = c .before .before .before .before in
+    let S = G .before .before .before .before .before .before in
+    stays _ (c .left-to .ensures)
+    ∙ decided _ _ _ _ _ _ _ _ _ (S .args .row .now) _ _ _ _ _ _ _ _ _ _ (G .before .before .before .decode .ensures) (G .gate-for .ensures) (c .before .before .g .given .1)
 
 returns-2 : tie.Need-returns-2
 unfolding turnBy
-returns-2 c = stays _ (c .made .ensures) ∙ decided _ _ _ _ _ _ _ _ _ (c .before .before .before .before .before .before .before .before .before .before .args .row .now) _ _ _ _ _ _ _ _ _ _ (c .before .before .before .before .before .before .before .decode .ensures) (c .before .before .before .before .gate-for .ensures) (c .before .before .g2 .given .1)
+returns-2 c =
+    let G = c .before .before .before .before in
+    let S = G .before .before .before .before .before .before in
+    stays _ (c .made .ensures)
+    ∙ decided _ _ _ _ _ _ _ _ _ (S .args .row .now) _ _ _ _ _ _ _ _ _ _ (G .before .before .before .decode .ensures) (G .gate-for .ensures) (c .before .before .g2 .given .1)
 
 returns-3 : tie.Need-returns-3
 unfolding turnBy
-returns-3 c = stays _ (c .left-to2 .ensures) ∙ decided _ _ _ _ _ _ _ _ _ (c .before .before .before .before .before .before .before .before .before .before .args .row .now) _ _ _ _ _ _ _ _ _ _ (c .before .before .before .before .before .before .before .decode .ensures) (c .before .before .before .before .gate-for .ensures) (c .before .before .g3 .given .1)
+returns-3 c =
+    let G = c .before .before .before .before in
+    let S = G .before .before .before .before .before .before in
+    stays _ (c .left-to2 .ensures)
+    ∙ decided _ _ _ _ _ _ _ _ _ (S .args .row .now) _ _ _ _ _ _ _ _ _ _ (G .before .before .before .decode .ensures) (G .gate-for .ensures) (c .before .before .g3 .given .1)
 
 same-length : tie.Need-same-length
 same-length c = search needs
 
 returns-4 : tie.Need-returns-4
 unfolding turnBy
-returns-4 c = c .before .go .ensures ∙ decided _ _ _ _ _ _ _ _ _ (c .before .before .before .before .before .before .before .before .before .before .before .before .before .before .before .before .before .before .before .before .before .args .row .now) _ _ _ _ _ _ _ _ _ _ (c .before .before .before .before .before .before .before .before .before .before .before .before .before .before .before .before .before .before .decode .ensures) (c .before .before .before .before .before .before .before .before .before .before .before .before .before .before .before .gate-for .ensures) (c .before .before .before .before .before .before .before .before .before .before .before .before .before .enum-told .given .1)
+returns-4 c =
+    let T = c .before .before .before .before .before .before .before .before .before .before .before .before .before in
+    let G = T .before .before in
+    let S = G .before .before .before .before .before .before in
+    c .before .go .ensures
+    ∙ decided _ _ _ _ _ _ _ _ _ (S .args .row .now) _ _ _ _ _ _ _ _ _ _ (G .before .before .before .decode .ensures) (G .gate-for .ensures) (T .enum-told .given .1)
 
 pub take-turn-spec : {M : Type 1} → statement M
 take-turn-spec =
