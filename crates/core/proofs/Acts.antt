@@ -1,11 +1,11 @@
 -- What the loop does once a turn is taken, and that with it a record does what the definition says (simulation/specs/Shell.antt). Most of it is a
 -- matter of unfolding.
-use mathlib.Core.Path.{_≡_, refl, sym, ap, _∙_, subst}
-use mathlib.Core.Bool.{Bool, true, false, _||_}
+use mathlib.Core.Path.{_≡_, refl, sym, ap, _∙_}
+use mathlib.Core.Bool.{Bool, true, false}
 use mathlib.Core.List.{List, [], map}
 use Prim.Native.Nat.{ℕ, _<_, _≤_, _+_, _*_, _%_}
 use native.Mathlib.Omega.{arith}
-use lib.ListN.{length, getD, set}
+use lib.ListN.{getD, set}
 use borrow.Author.Tests.{le-leb}
 use Rattle.lists.specs.Over.{overAt}
 use Rattle.model.specs.Rules.{Given}

@@ -1,6 +1,5 @@
 pub mod Cutting
 pub mod Tested
-pub mod Lengths
 pub mod Moving
 pub mod Acts
 pub mod Loop

@@ -18,27 +18,26 @@ use Rattle.worker.specs.declared.Worker.{Worker}
 use Rattle.worker.specs.Rep.{timeOf, poolRep}
 use Rattle.worker.proofs.Rep.{padded-nil}
 use Rattle.places.specs.About.{aboutOf}
-use Rattle.queue.specs.State.{Queue, poolsIn}
+use Rattle.queue.specs.State.{poolsIn}
 use Rattle.state.specs.State.{nobody, atPlace}
 use Rattle.gate.specs.declared.Gate.{Gate}
 use Rattle.gate.specs.declared.Gate.the-variants.{Refuse, Make, Start, Go}
 use Rattle.gate.specs.Gate.{hasTime}
-use Rattle.decision.specs.Decision.{sizesOk}
 use Rattle.decision.proofs.Named.{Named, named, decode-names}
 use Rattle.splitting.specs.Splitting.{splitLeft, splitQueue, splitMerged}
 use Rattle.turns.specs.declared.Arm.{Arm}
-use Rattle.turns.specs.declared.Arm.the-variants.{Says, Sets, Times, Reads, Makes, HandsIn, Splits, Moves}
+use Rattle.turns.specs.declared.Arm.the-variants.{Reads, Makes, HandsIn, Splits, Moves}
 use Rattle.turns.specs.declared.Fixed.{Fixed}
 use Rattle.turns.specs.declared.Sizes.{Sizes}
 use Rattle.turns.specs.declared.Turn.{Turn}
 use Rattle.counts.specs.Counts.{freeIn, windowIn, countsAs}
 use Rattle.turns.specs.Parts.{Parts, parts}
 use Rattle.turns.specs.Turns.{Turned, turnBy, decidedIn, turnOf}
-use Rattle.simulation.specs.Memory.{Memory, Result}
-use Rattle.simulation.specs.Shell.{offWorker, setUpIn, obeyIn, gateIn, doneAs}
+use Rattle.simulation.specs.Memory.{Memory}
+use Rattle.simulation.specs.Shell.{offWorker, doneAs}
 use Rattle.simulation.specs.Records.{recordAt}
-use Rattle.simulation.specs.Loop.{makes, State, next, after}
-use Rattle.core.specs.Stretch.{siteOf, memoryOf, stateWith, madeAfter, Went}
+use Rattle.simulation.specs.Loop.{State, next, after}
+use Rattle.core.specs.Stretch.{siteOf, memoryOf, stateWith, Went}
 use Rattle.core.proofs.Acts.{withTimes, withSplit, handedWorker, splitWorker, acted, isMakes, resultOf, Names, obeys, turn-said, turn-makes}
 use Rattle.core.proofs.Tested.{sizes-few}
 

@@ -1,7 +1,7 @@
 -- The array of the clock and that of the counts, with one of their numbers replaced.
 use mathlib.Core.Path.{_≡_, refl}
 use mathlib.Core.List.{List, [], _∷_}
-use Prim.Native.Nat.{ℕ, suc}
+use Prim.Native.Nat.{ℕ}
 use native.Mathlib.Omega.{arith}
 use lib.ListN.{length, set}
 use Rattle.values.specs.declared.Window.{Window}

@@ -1,4 +1,3 @@
 pub mod Leaves
 pub mod Totals
 pub mod Said
-pub mod Lengths

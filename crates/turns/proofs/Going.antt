@@ -1,5 +1,5 @@
 -- A step, put together from its first part and what is done by what is known of it: by rewriting with what the calls ensure.
-use mathlib.Core.Path.{_≡_, refl, sym, ap, subst, _∙_}
+use mathlib.Core.Path.{_≡_, sym, ap, subst, _∙_}
 use mathlib.Core.List.{List}
 use Prim.Native.Nat.{ℕ, _<_, _+_, _%_}
 use lib.ListN.{length, getD, set, take, length-map}
@@ -24,7 +24,6 @@ use Rattle.step.specs.declared.Next.the-variants.{Taken, HandIn, Take, Read, Re
 use Rattle.step.specs.Step.{Stepped, stepOf}
 use Rattle.step.proofs.Said.{Said, said}
 use Rattle.flush.specs.Flush.{handedOn}
-use Rattle.freeing.specs.declared.Freed as Freeing
 use Rattle.freeing.specs.Freeing.{freedStep, freedRow, freedFree}
 use Rattle.turns.specs.declared.Arm.the-variants.{Sets}
 use Rattle.turns.specs.declared.Fixed.{Fixed}

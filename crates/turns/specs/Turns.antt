@@ -1,6 +1,6 @@
 -- What a record does to lent memory, and what it leaves to the loop: by the decision on it (decision/specs/Decision.antt), and for a step by what is
 -- known of it (step/specs/Step.antt). What the loop then does is in simulation/specs/Shell.antt.
-use mathlib.Core.Bool.{Bool, cond}
+use mathlib.Core.Bool.{cond}
 use mathlib.Core.List.{List}
 use Prim.Native.Nat.{ℕ, _+_, _-_, _*_, _%_}
 use lib.Dec.{leb}
@@ -9,9 +9,7 @@ use Rattle.lists.specs.Over.{over, overAt}
 use Rattle.model.specs.Record.{decode}
 use Rattle.values.specs.declared.Answer.{Answer}
 use Rattle.values.specs.declared.Answer.the-variants.{Ok, Going, Freed, Done, No}
-use Rattle.answers.specs.declared.Said.{Said}
 use Rattle.answers.specs.Said.{saidOf}
-use Rattle.slots.specs.declared.Slot.{Slot}
 use Rattle.arrays.specs.Arrays.{short}
 use Rattle.ranges.specs.Words.{flat}
 use Rattle.queue.specs.State.{Queue, poolsIn, taken, rest}

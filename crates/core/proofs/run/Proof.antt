@@ -1,9 +1,8 @@
 -- `run` meets its contract. The invariant is `Reached` (Stretches.antt): the stretches so far have done what the definition says of their records.
 use mathlib.Core.Path.{_≡_, refl, sym, ap, _∙_}
-use Prim.Native.Nat.{ℕ, _<_, _+_, _*_, _-_, _/_, min}
+use Prim.Native.Nat.{_-_, min}
 use native.Mathlib.Omega.{arith}
 use lib.ListN.{length}
-use borrow.Author.Needs.{needs}
 use Rattle.model.specs.Rules.{ofTotals}
 use Rattle.versions.specs.Versions.{rowOf}
 use Rattle.simulation.specs.Memory.{memory}
