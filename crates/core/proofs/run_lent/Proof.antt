@@ -225,7 +225,8 @@ loop-again-4 c =
     let l = loop-at p .loop in (
       on-reads (s .args .fixed) (s .pre .0) (s .args .list .now) (s .args .rows .now) (s .args .rights .now) refl (l .workers) (lent (loop-at p)) (l .kinds)
           (l .numbers) (l .last) (l .inv .0) (passed p .loop-test .taken) _ (cut p .record-at .ensures .0) _
-          (ap (λ (j : ℕ). j % 16) (byte p .wide .ensures .0)) _ _ (turn p .take-turn .ensures) _ _ _ (p .put-answer .ensures) _ _ _ (c .before .before .before .before .before .before .enum-told4 .given .1)
+          (ap (λ (j : ℕ). j % 16) (byte p .wide .ensures .0)) _ _ (turn p .take-turn .ensures) _ _ _ (p .put-answer .ensures) _ _ _
+          (c .before .before .before .before .before .before .enum-told4 .given .1)
           (c .before .before .before .before .before .wide2 .ensures .0) refl (c .before .before .keep-time .ensures),
       p .before .before .before .before .row .given ∙ l .inv .1,
       kept-long (l .kinds) _ _ (p .put-answer .ensures .1 .0) (l .inv .2),
@@ -326,7 +327,10 @@ array-set-from-workers-5 : tie.Need-array-set-from-workers-5 Inv-loop2 μ-loop2 
 array-set-from-workers-5 c = search needs
 
 loop-less-6 : tie.Need-loop-less-6 Inv-loop2 μ-loop2 Inv-loop μ-loop
-loop-less-6 c = let p = c .before .before .before .before .before .before .before .before .before .before .before .before .before .before .before .before .before .before .before .before .before .before in omega (arith, passed p .loop-test .taken)
+loop-less-6 c =
+    let f = c .before .before .before .before .before .before .before .before .before in
+    let p = f .before .before .before .before .before .before .before .before .before .before .before .before .before in
+    omega (arith, passed p .loop-test .taken)
 
 loop-again-6 : tie.Need-loop-again-6 Inv-loop2 μ-loop2 Inv-loop μ-loop
 loop-again-6 c =
@@ -337,7 +341,8 @@ loop-again-6 c =
       on-splits (s .args .fixed) (s .pre .0) (s .args .list .now) (s .args .rows .now) (s .args .rights .now) refl (l .workers) (lent (loop-at p)) (l .kinds)
           (l .numbers) (l .last) (l .inv .0) (passed p .loop-test .taken) _ (cut p .record-at .ensures .0) _
           (ap (λ (j : ℕ). j % 16) (byte p .wide .ensures .0)) _ _ (turn p .take-turn .ensures) _ _ _ (p .put-answer .ensures) _ _ _ _ _ _ _ _
-          (c .before .before .before .before .before .before .before .before .before .before .before .before .before .before .before .before .enum-told7 .given .1) (c .before .before .before .before .before .before .before .wide3 .ensures .0)
+          (c .before .before .before .before .before .before .before .before .before .before .before .before .before .before .before .before .enum-told7 .given .1)
+          (c .before .before .before .before .before .before .before .wide3 .ensures .0)
           (c .before .before .before .before .before .before .before .before .before .before .window-of .ensures) (f .ensures .0) (f .ensures .1 .0) (f .ensures .1 .1 .0)
           (c .set-window .ensures),
       p .before .before .before .before .row .given ∙ l .inv .1,
