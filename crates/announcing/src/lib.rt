@@ -1,4 +1,5 @@
 // Open and close: the steps that move a worker's announced time and no version; and what any step leaves.
+#![tactic(auto)]
 ghost use Rattle.std.specs.Prelude.{◌≡◌, cond, ◌+◌, eqb, ltb};
 ghost use Rattle.model.specs.Store.{last_clock};
 ghost use Rattle.announcing.specs.Announcing.{outcome_of, open_announce_step, open_pass_step, close_withdraw_step};
@@ -7,7 +8,7 @@ use values::Answer;
 use worker::{Announced, Doing, TimeStep};
 
 // What a step leaves: the worker's place and announced time, the clock, how many slots are free; and its answer.
-#[derive(Drop)]
+#[derive(Clone, Copy)]
 pub struct Outcome {
     pub doing: Doing,
     pub announced: Announced,

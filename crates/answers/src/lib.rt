@@ -1,4 +1,5 @@
 // Answers as two numbers each, for buffers of answers: the kind, to which 256 times the status is added, and the number.
+#![tactic(auto)]
 ghost use Rattle.std.specs.Prelude.{◌≡◌, ◌+◌, ◌*◌, ◌≤◌};
 ghost use Rattle.answers.specs.Numbers.{kind_of, number_of, answer_with, answer_from};
 ghost use Rattle.answers.specs.Said.{said_of};
@@ -46,7 +47,7 @@ pub fn number(a: Answer) -> u64
 }
 
 // An answer with its two numbers.
-#[derive(Drop)]
+#[derive(Clone, Copy)]
 pub struct Said {
     pub answer: Answer,
     pub kind: u16,

@@ -1,4 +1,5 @@
 // The batch size.
+#![tactic(auto)]
 ghost use Rattle.std.specs.Prelude.{◌≡◌};
 ghost use Rattle.model.specs.Batch.{batch_of};
 

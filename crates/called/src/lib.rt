@@ -1,8 +1,9 @@
 // What a call gives back, whatever it asks.
+#![tactic(auto)]
 use state::Hub;
 use values::Answer;
 
-#[derive(Drop)]
+#[derive(Clone, Copy)]
 pub struct Called {
     // what is left of the hub by value
     pub hub: Hub,

@@ -1,4 +1,5 @@
 // Every call in one, on the first slots of a row of words: what is asked is an enum by value, so that a further call is a case more.
+#![tactic(auto)]
 ghost use Rattle.std.specs.Prelude.{◌≡◌, take, drop};
 ghost use Rattle.model.specs.Rules.{of_totals};
 ghost use Rattle.versions.specs.Versions.{row_of};
@@ -10,7 +11,7 @@ use state::Hub;
 use tables::Table;
 
 // What a call asks.
-#[derive(Drop)]
+#[derive(Clone, Copy)]
 pub enum Call {
     // The bytes are one record.
     Record,

@@ -1,4 +1,5 @@
 // Stored rows given EN 13757-3 digits, and given back their old form, within their buffer: H14 of docs/HUB.md.
+#![tactic(auto)]
 ghost use Rattle.std.specs.Prelude.{◌≡◌, ◌*◌, ◌≤◌, length};
 ghost use Rattle.model.specs.Digits.{refusal_for, all_may_be, all_in_form, to_new, to_old};
 ghost use Rattle.model.specs.Digits as Model;
@@ -7,7 +8,7 @@ ghost use Rattle.digits.specs.Meaning.{rows_answer_of};
 
 use row_form::Form;
 
-#[derive(Drop)]
+#[derive(Clone, Copy)]
 pub enum RowsAnswer {
     Converted,
     // The number of the refusal.

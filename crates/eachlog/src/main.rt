@@ -1,6 +1,7 @@
 // The log of the records on standard input, as `hublog` writes it, with one call of `hub::call_owned` for each record. The arguments say how many
 // slots the lent row has (2048 without one), and from which record on it has another number of them: eachlog [SLOTS [RECORD SLOTS [LIST [TABLE]]]].
 // LIST names the file with the list of totals, TABLE that with the table of rights.
+#![tactic(auto)]
 ghost use Rattle.std.specs.Prelude.{◌≤◌, length};
 
 use calls::Call;

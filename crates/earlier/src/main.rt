@@ -2,6 +2,7 @@
 // be had they been put at that time. First, a put leaves a version and another one begins. What is sent after that shows the stored value, ends
 // the put that had begun, refuses a new one and frees the slots. Then, a total meets such a value and is refused (H12.9), and a read shows it. The
 // records are those of the runs `changing` and `over` in crates/model/specs/Runs.antt, and the lines have to be their logs.
+#![tactic(auto)]
 use calls::Call;
 use libc::STDOUT_FILENO;
 use slots::Slot;
@@ -26,7 +27,7 @@ const STEP: u8 = 7;
 const TOTAL: u8 = 8;
 
 // The memory that is lent with each record, and the number of the next line.
-#[derive(Drop)]
+#[derive(Clone, Copy)]
 struct Memory {
     hub: Hub,
     slots: [Slot; 2048],

@@ -1,4 +1,5 @@
 // Put (3) and flush (1): functions of just what they change, in lent memory.
+#![tactic(auto)]
 ghost use Rattle.std.specs.Prelude.{◌≡◌, ◌<◌, length};
 ghost use Rattle.lists.specs.Over.{over};
 ghost use Rattle.ranges.specs.Words.{flat};
@@ -13,7 +14,7 @@ use worker::Doing;
 // ---- put (3)
 
 // Put (3) beside the pool's arrays: the low and the high that go there, how many ranges the pool has then, the worker's place and the answer.
-#[derive(Drop)]
+#[derive(Clone, Copy)]
 pub struct Handed {
     pub low: u32,
     pub high: u32,

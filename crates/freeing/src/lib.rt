@@ -1,10 +1,11 @@
 // Flush (4): a needless version is unlinked and its slot freed.
+#![tactic(auto)]
 ghost use Rattle.std.specs.Prelude.{◌≡◌, ◌<◌};
 ghost use Rattle.versions.specs.Versions.{row_of};
 ghost use Rattle.freeing.specs.Freeing.{next_to_free, one_more, freed_step, freed_row, freed_free};
 
 // The slot that is freed, its older neighbour, and how many slots are free then.
-#[derive(Drop)]
+#[derive(Clone, Copy)]
 pub struct Freed {
     pub slot: u16,
     pub older: u16,

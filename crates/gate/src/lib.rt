@@ -1,6 +1,7 @@
 // The begin of an operation: for each the tests that it makes, in the order of the refusals (H7.1), and its first place (H4.1). What is known of
 // the hub comes as numbers and lent arrays: v registers, the rows of totals, of which the first n count, the rows of rights, of which the first
 // `granted` count, the marks, and which of them each of the first p workers reads.
+#![tactic(auto)]
 ghost use Rattle.std.specs.Prelude.{◌≡◌, false, [], ◌≤◌, ltb, take};
 ghost use Rattle.model.specs.Record as Model;
 ghost use Rattle.model.specs.Apply.{tested};
@@ -16,7 +17,7 @@ use values::Reading;
 use worker::{Announced, Doing, Goal, Purpose, TimeStep};
 
 // What is to be done with a record.
-#[derive(Drop)]
+#[derive(Clone, Copy)]
 pub enum Gate {
     // the number of the refusal
     Refuse(u8),

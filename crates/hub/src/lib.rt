@@ -1,6 +1,7 @@
 // The calls on slots that are structs: the first 2048 of a lent row, of any length, are read into words, the call of `calls` goes on the words,
 // and they
 // are written back. And the same for a caller that owns the row.
+#![tactic(auto)]
 ghost use Rattle.std.specs.Prelude.{◌≡◌, min, replicate, take, drop};
 ghost use Rattle.model.specs.Rules.{of_totals};
 ghost use Rattle.versions.specs.Versions.{row_of};
@@ -83,7 +84,7 @@ pub fn call(
 }
 
 // What a call gives back, and the row by value.
-#[derive(Drop)]
+#[derive(Clone, Copy)]
 pub struct Owned {
     pub called: Called,
     pub slots: [Slot; 2048],

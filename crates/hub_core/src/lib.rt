@@ -1,5 +1,6 @@
 // The loop over the records. It owns the hub while it runs, so that a record moves only what its step names; everything else is lent. The
 // slots are a lent row of words. Every public call goes through it.
+#![tactic(auto)]
 ghost use Rattle.std.specs.Prelude.{◌≡◌, ◌+◌, ◌*◌, ◌<◌, ◌≤◌, min, true, length, slice_set};
 ghost use Rattle.model.specs.Rules.{of_totals};
 ghost use Rattle.versions.specs.Versions.{row_of};
@@ -81,7 +82,7 @@ fn handed(y: Worker, t: Turn) -> Worker
 
 // What a part of the records leaves: the workers, before which record it ended, whether the one before that is a setup that is accepted, its sizes, and
 // the last answer.
-#[derive(Drop)]
+#[derive(Clone, Copy)]
 struct Part {
     workers: [Worker; 16],
     at: usize,
@@ -256,7 +257,7 @@ const NO_SIZES: Sizes = Sizes {
 
 // What a stretch of the records leaves of the hub by value, before which record it ended, whether the one before that is a setup that is accepted, its
 // sizes, and the last answer.
-#[derive(Drop)]
+#[derive(Clone, Copy)]
 struct Stretch {
     hub: Hub,
     at: usize,
@@ -385,7 +386,7 @@ fn refuse_rest(
 }
 
 // What is left of the hub by value, and the answer to the last record; `Ok` where there was none.
-#[derive(Drop)]
+#[derive(Clone, Copy)]
 pub struct Ended {
     pub hub: Hub,
     pub last: Answer,

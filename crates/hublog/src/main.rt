@@ -1,6 +1,7 @@
 // Reads records from standard input and writes a line for each (H10). What a read brings is logged at once; the rest of a record waits for the
 // next read. The first argument names the file with the list of totals, the second that with the table of rights (H10.7, H15.11). This crate owns
 // the memory of the hub.
+#![tactic(auto)]
 use state::Hub;
 use tables::Table;
 

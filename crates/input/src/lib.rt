@@ -1,9 +1,10 @@
 // What the programs that write a log share: standard input, as it comes or in parts that are full but for the last, a file that an argument
 // names, and a message on standard error.
+#![tactic(auto)]
 ghost use Rattle.std.specs.Prelude.{◌≡◌, ◌≤◌, length, take};
 
 // What was read: how many bytes, and whether a read failed.
-#[derive(Drop)]
+#[derive(Clone, Copy)]
 pub struct Input {
     pub n: usize,
     pub failed: bool,

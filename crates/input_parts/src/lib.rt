@@ -1,4 +1,5 @@
 // The input, cut between records: what of a block is logged, and what is kept for the next one.
+#![tactic(auto)]
 ghost use Rattle.std.specs.Prelude.{◌≡◌, cond, ◌-◌, ◌≤◌, length};
 ghost use Rattle.lists.specs.Over.{shifted};
 ghost use Rattle.input_parts.specs.Whole.{whole_records};

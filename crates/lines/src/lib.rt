@@ -1,4 +1,5 @@
 // The log's lines (H10).
+#![tactic(auto)]
 ghost use Rattle.std.specs.Prelude.{◌≡◌, List, [], ◌∷◌, ◌++◌, ℕ, ◌+◌, ◌-◌, ◌*◌, ◌/◌, ◌≤◌, ◌<◌, min, length, take, drop, replicate};
 ghost use Rattle.model.specs.Log.{decimal};
 ghost use Rattle.lines.specs.Digits.{Spelled, tens_of, lead_of};
@@ -335,7 +336,7 @@ fn put_tens(head: &mut [u8; 20], places: &[u8; 20], start: usize, first: u64) ->
 }
 
 // How many lines are written, and the index after them.
-#[derive(Drop)]
+#[derive(Clone, Copy)]
 struct Part {
     done: usize,
     at: usize,

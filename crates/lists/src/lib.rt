@@ -1,1 +1,2 @@
 // No code: definitions and laws on lists that contracts of several crates share.
+#![tactic(auto)]

@@ -1,4 +1,5 @@
 // The log of the records, part by part: the records of a part of the input are applied, and their lines are written as text.
+#![tactic(auto)]
 ghost use Rattle.std.specs.Prelude.{◌≡◌, ◌*◌, ◌/◌, ◌≤◌, min, length};
 ghost use Rattle.model.specs.Rules.{of_totals};
 ghost use Rattle.versions.specs.Versions.{row_of};
@@ -19,7 +20,7 @@ fn fitting(bytes: usize, room: usize) -> usize
 }
 
 // What is left of the hub by value, how many records were applied, and how many bytes of text their lines have.
-#[derive(Drop)]
+#[derive(Clone, Copy)]
 pub struct Logged {
     pub hub: Hub,
     pub count: usize,

@@ -1,4 +1,5 @@
 // The marks (H13): what is asked of one, and which worker reads which.
+#![tactic(auto)]
 ghost use Rattle.std.specs.Prelude.{◌≡◌, ◌+◌, ◌≤◌, ◌<◌, length, take};
 ghost use Rattle.marks.specs.Marks.{shown_as, read_as, read_by, read_next, read_in, mark_in, held_in, refusal_in, time_in};
 
@@ -7,7 +8,7 @@ use worker::{Announced, Doing, Purpose};
 
 // What is asked of a mark: nothing; that it is empty, else 19; that it holds a time, else 20; that it holds a time, else 20, and that no
 // read of it runs, else 21.
-#[derive(Drop)]
+#[derive(Clone, Copy)]
 pub enum MarkNeed {
     Nothing,
     Empty(u16),

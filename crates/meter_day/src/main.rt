@@ -1,5 +1,6 @@
 // An example of a program over the store: two meters, and a snapshot that keeps its moment while new readings come in. It makes its
 // records itself, applies them as one buffer and prints their log lines.
+#![tactic(auto)]
 use state::Hub;
 
 // Writes record k: the operation, the worker, the register and the value (H3.3 of docs/HUB.md). Past the end nothing is written.

@@ -1,7 +1,7 @@
 -- Rows in EN 13757-3 digits: there and back gives the same bytes (H14.9), and heads are kept (H14.10). A number written in places to a
 -- base is read again, and bytes that hold places are written again: laws by induction over the count of bytes, which bytes of a binary and
 -- bytes of a decimal number both obey. A row goes there and back by them, and a buffer row by row.
-use mathlib.Core.Path.{◌≡◌, refl, sym, ap, ◌∙◌}
+use mathlib.Core.Path.{subst, ◌≡◌, refl, sym, ap, ◌∙◌}
 use mathlib.Core.Logic.{⊎_elim}
 use mathlib.Core.Bool.{Bool, true, false, cond, ◌&&◌, and-eq-true_iff}
 use mathlib.Core.List.{List, [], ◌∷◌, ◌++◌, append_assoc}
@@ -111,8 +111,9 @@ is_bcd-places zero x p k e = refl
 is_bcd-places (suc n) x p k e =
     let y : ℕ = bcd_byte (x % 100) in
     let l : length (p ++ (y ∷ [])) ≡ suc k = omega (arith, length-append p (y ∷ [])) in
-    rw (get_or_at p y (bcd_of n (x / 100)) 0 k e, bcd_is (x % 100) (omega arith), ← append_snoc p y (bcd_of n (x / 100)))
-    (is_bcd-places n (x / 100) (p ++ (y ∷ [])) (suc k) l)
+    rw (get_or_at p y (bcd_of n (x / 100)) 0 k e, bcd_is (x % 100) (omega arith))
+    (subst (λ (m : List ℕ). is_bcd m (suc k) n ≡ true) (append_snoc p y (bcd_of n (x / 100)))
+    (is_bcd-places n (x / 100) (p ++ (y ∷ [])) (suc k) l))
 
 ------------------------------------------------------------------------
 -- One row

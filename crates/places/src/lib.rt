@@ -1,25 +1,26 @@
 // What is asked of a worker's place besides its step: here it is taken apart.
+#![tactic(auto)]
 ghost use Rattle.std.specs.Prelude.{◌≡◌};
 ghost use Rattle.places.specs.About.{naming, mark_moved, moving, mark_read, reading, about_of};
 
 use worker::{Doing, Goal, Purpose, TimeStep};
 
 // A register, a slot, a count or a mark that a place names, or none.
-#[derive(Drop)]
+#[derive(Clone, Copy)]
 pub enum Named {
     Nothing,
     Is(u16),
 }
 
 // The slot on which a read stands, and what it reads for.
-#[derive(Drop)]
+#[derive(Clone, Copy)]
 pub enum Stance {
     Nowhere,
     StandsOn { goal: Goal, slot: u16 },
 }
 
 // What is asked of a place besides its step.
-#[derive(Drop)]
+#[derive(Clone, Copy)]
 pub struct Facts {
     pub idle: bool,
     pub register: Named,

@@ -1,5 +1,6 @@
 // The queue of shared pools in lent memory (H1.20): a pool pushed at its end, up to two taken from its front and merged (H5.15). It lies in a
 // window, whose beginning moves on where pools are taken and to the front where it comes to the middle of the memory.
+#![tactic(auto)]
 ghost use Rattle.std.specs.Prelude.{◌≡◌, true, [], ◌+◌, ◌-◌, ◌*◌, ◌≤◌, ◌<◌, min, length, take};
 ghost use Rattle.lists.specs.Over.{over, over_at, shifted};
 ghost use Rattle.model.specs.Ranges.{merge};
@@ -9,7 +10,7 @@ ghost use Rattle.queue.specs.State.{pools_in, lies, room, pushed, length_at, may
 use values::Window;
 
 // What is left after taking, and how many ranges were taken.
-#[derive(Drop)]
+#[derive(Clone, Copy)]
 pub struct Taking {
     pub window: Window,
     pub count: usize,

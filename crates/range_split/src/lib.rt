@@ -1,4 +1,5 @@
 // Ranges in lent memory, three words each, split by the times read (H5.19).
+#![tactic(auto)]
 ghost use Rattle.std.specs.Prelude.{◌≡◌, reverse, ◌+◌, ◌-◌, ◌*◌, ◌≤◌, ◌<◌, length, take, get_or};
 ghost use Rattle.lists.specs.Over.{over};
 ghost use Rattle.model.specs.Ranges.{needed_of, needless_of};
@@ -19,7 +20,7 @@ fn put_range(s: &mut [u32], k: usize, slot: u32, low: u32, high: u32)
 
 // A finger in sorted times: where it stands, one more than the last time behind it, and no more than the time at it. A high from `behind`
 // to `next` does not move it.
-#[derive(Drop)]
+#[derive(Clone, Copy)]
 struct Finger {
     at: usize,
     behind: u32,

@@ -2,6 +2,7 @@
 // it is in its range, and the contract of `ready::ready` that the code asks just that. What a run adds is that the code as built does so: one number
 // of each kind is put at the largest value in its range, and at one more, each alone in memory that is in its ranges. A line names the number and
 // the value, and says whether the memory counts as set up then. What records are answered where it does not is in the runs of `hublog` and `eachlog`.
+#![tactic(auto)]
 mod memory;
 
 use libc::STDOUT_FILENO;

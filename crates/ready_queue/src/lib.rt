@@ -1,4 +1,5 @@
 // Whether the pools of the queue are in range: their ranges and their lengths, in the window.
+#![tactic(auto)]
 ghost use Rattle.std.specs.Prelude.{◌≡◌, ◌+◌, ◌<◌, ◌≤◌};
 ghost use Rattle.ready_queue.specs.Queue.{lens_fit, lens_sum, pools_fit};
 

@@ -1,4 +1,5 @@
 // The record decoder.
+#![tactic(auto)]
 ghost use Rattle.std.specs.Prelude.{◌≡◌, cond, ◌+◌, ◌≤◌, ◌<◌, ltb, length, get_or};
 ghost use Rattle.model.specs.Record.{number, zeros};
 ghost use Rattle.model.specs.Record as Model;
@@ -8,7 +9,7 @@ ghost use Rattle.record.specs.Parts.{checked_of};
 use values::Reading;
 
 // An operation that a record begins, 1 to 6 and 8 to 11.
-#[derive(Drop)]
+#[derive(Clone, Copy)]
 pub enum Operation {
     Put { register: u16, reading: Reading },
     Open,
@@ -22,7 +23,7 @@ pub enum Operation {
     MarkedRead { register: u16, mark: u16 },
 }
 
-#[derive(Drop)]
+#[derive(Clone, Copy)]
 pub enum Command {
     SetUp { p: u8, v: u16, n: u16, clock: u32 },
     Begin { worker: u8, operation: Operation },
@@ -30,7 +31,7 @@ pub enum Command {
 }
 
 // A record read: a command, or the number of the refusal.
-#[derive(Drop)]
+#[derive(Clone, Copy)]
 pub enum Decoded {
     Asks(Command),
     Refuses(u8),

@@ -1,4 +1,5 @@
 // What the table of rights permits (H15): of the rows that a hub keeps the first n count.
+#![tactic(auto)]
 ghost use Rattle.std.specs.Prelude.{◌≡◌, map, take};
 ghost use Rattle.model.specs.Store.{up_from};
 ghost use Rattle.model.specs.Totals.{register_of, of_group};
@@ -7,7 +8,7 @@ ghost use Rattle.rights.specs.Needs.{permission_of, needed_in};
 ghost use Rattle.rights.specs.Places.{gives_in};
 
 // H15.2: what a row may give the right to.
-#[derive(Drop)]
+#[derive(Clone, Copy)]
 pub enum Permission {
     Put,
     Read,
@@ -17,7 +18,7 @@ pub enum Permission {
 
 // H15.5: what an operation needs: nothing; a right on a register; the right to read each register of a group; a right in any row; a right on
 // every register of the hub.
-#[derive(Drop)]
+#[derive(Clone, Copy)]
 pub enum Needed {
     Nothing,
     On {
@@ -30,7 +31,7 @@ pub enum Needed {
 }
 
 // The registers that a row is asked about: it may be for any, or is to be for this one.
-#[derive(Drop)]
+#[derive(Clone, Copy)]
 enum Place {
     Anywhere,
     At(u64),

@@ -1,4 +1,5 @@
 // The read-out row: H9 of docs/HUB.md.
+#![tactic(auto)]
 ghost use Rattle.std.specs.Prelude.{◌≡◌, ◌+◌, ◌≤◌, length};
 ghost use Rattle.lists.specs.Over.{over_at};
 ghost use Rattle.model.specs.Row.{bytes_of, row_bytes, write_row};
@@ -7,7 +8,7 @@ ghost use Rattle.row.specs.Meaning.{row_answer_of};
 
 use values::{Content, Reading};
 
-#[derive(Drop)]
+#[derive(Clone, Copy)]
 pub enum RowAnswer {
     Written,
     // There is no reading to write.

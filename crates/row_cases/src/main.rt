@@ -1,5 +1,6 @@
 // The cases of the read-out row in H11 of docs/HUB.md, and their neighbours: for each the number of the refusal, 0 where the row is
 // written and 255 where there is no reading, and then every byte of the lent buffer, as bytes on standard output.
+#![tactic(auto)]
 use libc::STDOUT_FILENO;
 use row::RowAnswer;
 use values::{Content, Reading};

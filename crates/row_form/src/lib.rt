@@ -1,4 +1,5 @@
 // One row given EN 13757-3 digits, and given back its old form: H14 of docs/HUB.md.
+#![tactic(auto)]
 ghost use Rattle.std.specs.Prelude.{◌≡◌, cond, ◌&&◌, ◌<◌, eqb, length, get_or};
 ghost use Rattle.lists.specs.Over.{over_at};
 ghost use Rattle.model.specs.Row.{bytes_of};
@@ -15,7 +16,7 @@ const VIF: u8 = 0x03;
 const TWELVE_DIGITS: u64 = 999_999_999_999;
 
 // The form that rows are given.
-#[derive(Drop)]
+#[derive(Clone, Copy)]
 pub enum Form {
     Old,
     New,

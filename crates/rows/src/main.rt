@@ -1,5 +1,6 @@
 // Gives the rows on standard input the form that the argument names, `to-new` or `to-old` (H14), and writes them to standard output. Where
 // they are refused nothing is written there, and standard error has the refusal.
+#![tactic(auto)]
 use digits::RowsAnswer;
 
 // As many bytes as are converted: 262144 rows.

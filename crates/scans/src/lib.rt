@@ -1,4 +1,5 @@
 // Scans of numbers that lie in lent memory, without branches: whether there are so many, and each is below a bound.
+#![tactic(auto)]
 ghost use Rattle.std.specs.Prelude.{◌≡◌, ◌&&◌, ◌+◌, ◌*◌, leb, length};
 ghost use Rattle.scans.specs.Scans.{below_to, slots_below, rows_below};
 

@@ -1,11 +1,12 @@
 // The version slots: one lent row of structs, of which one slot is loaded or stored.
+#![tactic(auto)]
 ghost use Rattle.std.specs.Prelude.{◌≡◌, set, get_or};
 ghost use Rattle.slots.specs.Slots.{vacant_slot};
 
 use values::Content;
 
 // H1.7: a slot for a version. H8.9: an unset low, an open high and an absent neighbour are 4294967296.
-#[derive(Drop)]
+#[derive(Clone, Copy)]
 pub struct Slot {
     pub value: Content,
     pub low: u64,

@@ -1,4 +1,5 @@
 // Flush (3): the merged list is split, and what is needed goes back to the queue with the local pool.
+#![tactic(auto)]
 ghost use Rattle.std.specs.Prelude.{◌≡◌, reverse, ◌-◌, ◌≤◌, ◌<◌, length, take};
 ghost use Rattle.lists.specs.Over.{over};
 ghost use Rattle.model.specs.Ranges.{needed_of, needless_of};
@@ -106,7 +107,7 @@ fn may_split(w: usize, m: usize, read: usize, len: usize) -> bool
 }
 
 // How many needless ranges are left to free, and the queue's window.
-#[derive(Drop)]
+#[derive(Clone, Copy)]
 pub struct Parted {
     pub left: u16,
     pub window: Window,

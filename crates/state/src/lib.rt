@@ -1,4 +1,5 @@
 // The hub by value: what its setup fixed, its clock and counts, and up to sixteen workers side by side, each with its own record.
+#![tactic(auto)]
 ghost use Rattle.std.specs.Prelude.{◌≡◌};
 ghost use Rattle.state.specs.State.{fresh_hub, tabled_hub, empty_hub};
 
@@ -6,7 +7,7 @@ use values::Window;
 use worker::Worker;
 
 // What a setup fixes.
-#[derive(Drop)]
+#[derive(Clone, Copy)]
 pub struct Site {
     // P, V and N (H1.1 to H1.3).
     pub p: usize,
@@ -22,7 +23,7 @@ pub struct Site {
     pub rights: [u64; 64],
 }
 
-#[derive(Drop)]
+#[derive(Clone, Copy)]
 pub struct Hub {
     pub site: Site,
     pub clock: u32,

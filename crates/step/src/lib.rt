@@ -1,5 +1,6 @@
 // One step of a worker: the place is taken apart once, here. Steps on slots, on the clock and on the announced time are done at once; put (3)
 // and flush (1) to (4), which move pools, times and readers, and the change of a mark, are named for the caller.
+#![tactic(auto)]
 ghost use Rattle.std.specs.Prelude.{◌≡◌, take};
 ghost use Rattle.versions.specs.Versions.{row_of};
 ghost use Rattle.step.specs.Step.{newest_at, next_free, put_publish_step, put_stamp_step, need_of, read_enter_step, total_found_of};
@@ -13,7 +14,7 @@ use worker::{Announced, Doing, Goal, Purpose, Sum, TimeStep};
 // A step that is taken, or one that is still to do: put (3) of a covered version; flush (1); (2), of a merged list with so many times read, and
 // behind the last worker, of a merged list; (3), of a merged list with so many times read; (4), with so many ranges left; a mark gets a
 // time, or none (4294967296), and the worker is done.
-#[derive(Drop)]
+#[derive(Clone, Copy)]
 pub enum Next {
     Taken(Outcome),
     HandIn { covered: u16 },

@@ -1,4 +1,5 @@
 // The call that gives a table, on slots that are words.
+#![tactic(auto)]
 ghost use Rattle.versions.specs.Versions.{row_of};
 ghost use Rattle.simulation.specs.Memory.{memory};
 ghost use Rattle.tables.specs.Tables.{TableGiven};
@@ -9,7 +10,7 @@ use state::Hub;
 use values::Answer;
 
 // Which table is given.
-#[derive(Drop)]
+#[derive(Clone, Copy)]
 pub enum Table {
     // who may do what
     Rights,

@@ -1,5 +1,6 @@
 // A turn: what one record does to lent memory, and what it leaves to the loop, which holds the workers' records. Everything that lies in arrays of
 // numbers is changed here; the worker's place, its announced time and its pool are the loop's.
+#![tactic(auto)]
 ghost use Rattle.std.specs.Prelude.{◌≡◌, ◌+◌, ◌<◌, ◌%◌, length, get_or, set};
 ghost use Rattle.values.specs.declared.Answer.TheVariants.{Going, Done};
 ghost use Rattle.arrays.specs.Arrays.{short};
@@ -23,7 +24,7 @@ use worker::{Announced, Doing};
 
 // What the loop does once the answer is put: nothing; the worker's place is set; its place and announced time; flush (2), the place, and another
 // worker's time is read; a setup; put (3), the place, and a range more in the pool; flush (3); flush (4), the place, and reads move off a slot.
-#[derive(Drop)]
+#[derive(Clone, Copy)]
 pub enum Arm {
     Says,
     Sets,
@@ -36,7 +37,7 @@ pub enum Arm {
 }
 
 // The sizes and the clock of a setup that is accepted.
-#[derive(Drop)]
+#[derive(Clone, Copy)]
 pub struct Sizes {
     pub p: u8,
     pub v: u16,
@@ -54,7 +55,7 @@ const NO_SIZES: Sizes = Sizes {
 // What a record leaves to the loop: what it does, the worker's next place, its announced time, and the answer; of put (3) the range and how many
 // the pool has then; of flush (4) the slot and its older neighbour; of flush (2) and (3) how many ranges are merged and how many times are read; and
 // a setup's sizes. What an arm does not use is 0.
-#[derive(Drop)]
+#[derive(Clone, Copy)]
 pub struct Turn {
     pub arm: Arm,
     pub doing: Doing,
@@ -71,7 +72,7 @@ pub struct Turn {
 }
 
 // What a record is decided by besides lent memory: whether the memory counts as set up, and what a setup fixed, as numbers.
-#[derive(Drop)]
+#[derive(Clone, Copy)]
 pub struct Fixed {
     pub up: bool,
     pub p: usize,

@@ -1,1 +1,2 @@
 // Two runs that differ in values put to one register: definitions and theorems, no code.
+#![tactic(auto)]

@@ -1,4 +1,5 @@
 // A worker's record by value.
+#![tactic(auto)]
 ghost use Rattle.std.specs.Prelude.{◌≡◌};
 ghost use Rattle.model.specs.Store.{start_worker};
 ghost use Rattle.worker.specs.Rep.{time_of, worker_rep};
@@ -6,7 +7,7 @@ ghost use Rattle.worker.specs.Rep.{time_of, worker_rep};
 use values::Reading;
 
 // H1.19: a local pool, of at most 64 ranges: how many, and the slot, the low and the high of each.
-#[derive(Drop)]
+#[derive(Clone, Copy)]
 pub struct Pool {
     pub slots: [u16; 64],
     pub lows: [u32; 64],
@@ -22,14 +23,14 @@ pub const EMPTY: Pool = Pool {
 };
 
 // The announced time or none.
-#[derive(Drop)]
+#[derive(Clone, Copy)]
 pub enum Announced {
     Nothing,
     At(u32),
 }
 
 // A step that moves a time and no version: open (1) and (2), close; mark and release (H13.3, H13.4), of a mark.
-#[derive(Drop)]
+#[derive(Clone, Copy)]
 pub enum TimeStep {
     OpenAnnounce,
     OpenPass,
@@ -39,7 +40,7 @@ pub enum TimeStep {
 }
 
 // The sums of a total: what was added, what was subtracted, and the largest status that was read.
-#[derive(Drop)]
+#[derive(Clone, Copy)]
 pub struct Sum {
     pub plus: u64,
     pub minus: u64,
@@ -48,7 +49,7 @@ pub struct Sum {
 
 // What a value is read for: it is the answer, as of the worker's time; or as of a mark's (H13.5); or it goes into a total: the group, the index
 // of the row in the list, and the sums of the rows before it, as three numbers: a struct here would make every copy of a place dearer.
-#[derive(Drop)]
+#[derive(Clone, Copy)]
 pub enum Purpose {
     Single,
     Marked(u16),
@@ -62,14 +63,14 @@ pub enum Purpose {
 }
 
 // What a read, a marked read or a total is at: the register that it reads, and what for.
-#[derive(Drop)]
+#[derive(Clone, Copy)]
 pub struct Goal {
     pub register: u16,
     pub purpose: Purpose,
 }
 
 // What a worker is doing and its place in it. A place is named after the step that comes next.
-#[derive(Drop)]
+#[derive(Clone, Copy)]
 pub enum Doing {
     Idle,
     PutPublish { register: u16, reading: Reading },
@@ -87,7 +88,7 @@ pub enum Doing {
 }
 
 // A worker's record.
-#[derive(Drop)]
+#[derive(Clone, Copy)]
 pub struct Worker {
     pub doing: Doing,
     pub announced: Announced,
