@@ -23,7 +23,7 @@ use Rattle.model.proofs.Basic.{cond_both, eq_cases}
 use Rattle.theorem.proofs.Effect.{own_is}
 use Rattle.theorem.proofs.Slots.{nth}
 use Rattle.theorem.proofs.Chain.{Sees}
-use Rattle.theorem.proofs.Invariant.{Ctx, ctx, chain, in_doing, Settled, MarkHolds, time_in, copy_for, Sourced, Running, Works, Inv}
+use Rattle.theorem.proofs.Invariant.{Ctx, ctx, chain, in_doing, Settled, MarkHolds, time_in, copy_for, Sourced, Running, Inv}
 use Rattle.theorem.proofs.Transport.{Came}
 use Rattle.theorem.proofs.Stamp.{put-at_same, put-at_other}
 use Rattle.theorem.proofs.History.{Hist, hist-show, end-shut}

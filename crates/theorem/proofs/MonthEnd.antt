@@ -1,10 +1,10 @@
 -- What billing may rely on: along the order the copy under a mark changes at a mark of it, which finds none, and at a release of it.
 use mathlib.Core.Path.{◌≡◌, refl, sym, ap, ◌∙◌, subst}
-use mathlib.Core.Bool.{Bool, true, false}
+use mathlib.Core.Bool.{true}
 use mathlib.Core.Logic.{◌≢◌, ◌⊎◌, inl, inr, ⊎_elim}
 use mathlib.Core.List.{List, [], ◌∷◌}
 use mathlib.Core.Option.{Option, none, some}
-use Prim.Native.Nat.{ℕ, ◌+◌, ◌<◌}
+use Prim.Native.Nat.{ℕ, ◌<◌}
 use native.Mathlib.Nat.{not-suc-le-zero}
 use native.Mathlib.Omega.{arith}
 use lib.ListN.{length}
@@ -13,9 +13,9 @@ use Rattle.model.specs.Answer.{Answer, Done}
 use Rattle.model.specs.Steps.{answer_for}
 use Rattle.model.specs.Record.{Operation, Put, Open, Read, Close, Get, Collect, Total, Mark, Release, MarkedRead}
 use Rattle.model.specs.Demand.{Ending, Unfinished, RefusedAt, FinishedAt, Call, Plain, plain₀, feed, in_copy, no_copy, shows, at_end}
-use Rattle.model.specs.Demand.{occurrences, All, Stands, FinishedBefore, FinishedBy, ByEnds, AnswersWith, Agrees, RegistersAgree}
+use Rattle.model.specs.Demand.{occurrences, Stands, FinishedBefore, FinishedBy, ByEnds, Agrees, RegistersAgree}
 use Rattle.model.specs.Demand.{IsOrder, call_at}
-use Rattle.model.specs.MonthEnd.{Finished, ReleasedBetween, SameFigures, MonthEnd}
+use Rattle.model.specs.MonthEnd.{ReleasedBetween, SameFigures, MonthEnd}
 use Rattle.model.proofs.Basic.{hit_same, hit_other, eq_cases, lt_cases, All-get}
 use Rattle.theorem.proofs.Stamp.{put-at_other}
 
@@ -150,7 +150,7 @@ module _ (rows : List ℕ) (h : List Call) (m : ℕ) where
     find i n a iop iend less free p [] inside R B x y = absurd (not-suc-le-zero x)
     find i n a iop iend less free p (c ∷ o) inside R B x y =
         ⊎_elim (λ u. here u.0) (λ u. ⊎_elim (λ v. absurd (wrong v.0 u.0))
-        (λ v. find i n a iop iend less free _ o (λ d z. inside d (omega (arith, z))) R.1 B.1
+        (λ v. find i n a iop iend less free (feed p (call_at h c).worker (op c)) o (λ d z. inside d (omega (arith, z))) R.1 B.1
         (omega (arith, x, hit_other c i u.0)) (omega (arith, y, hit_other c j v.0)))
         (eq_cases c j)) (eq_cases c i)
       where

@@ -5,19 +5,17 @@ use mathlib.Core.Logic.{inl, inr, ⊎_elim}
 use mathlib.Core.List.{List, [], ◌∷◌, ◌++◌}
 use Prim.Native.Nat.{ℕ, zero, suc, ◌+◌, ◌*◌, ◌≤◌, ◌<◌}
 use native.Mathlib.Omega.{arith}
-use lib.Dec.{ltb, leb, eqb}
-use lib.ListN.{length, get_or, take, replicate, length-append}
+use lib.Dec.{ltb}
+use lib.ListN.{length, take, replicate, length-append}
 use borrow.Author.Tests as Tests
-use Rattle.model.specs.Store.{Content, absent, last_clock, Reading, Slot, Range, OpenAnnounce, OpenPass, CloseWithdraw, Purpose, Single, Marked, Lent}
+use Rattle.model.specs.Store.{Content, Range, Purpose, Single, Marked, Lent}
 use Rattle.model.specs.Store.{Totaling, Doing, Idle, PutPublish, PutStamp, PutHandIn, FlushTake, FlushRead, FlushFree, OnTime}
-use Rattle.model.specs.Store.{ReadEnter, ReadStand, GetShow, start_worker, Site, Store, Hub, blank, up, worker_at, slot_at, place}
+use Rattle.model.specs.Store.{ReadEnter, ReadStand, GetShow, start_worker, Site, Store, Hub, blank, up, worker_at, place}
 use Rattle.model.specs.Totals.{row_at, of_group}
 use Rattle.model.specs.About.{about}
 use Rattle.model.specs.Rules.{Rules, Allowed, Ruled}
-use Rattle.model.specs.Answer.{Ok, Stepped, Applied}
-use Rattle.model.specs.Versions.{stamp}
-use Rattle.model.specs.Steps.{put_publish, put_stamp, put_hand_in, flush_take, flush_split, flush_read, flush_free, open_announce, open_pass}
-use Rattle.model.specs.Steps.{read_enter, read_stand, get_show, close_withdraw, time_step, step_at}
+use Rattle.model.specs.Answer.{Ok, Applied}
+use Rattle.model.specs.Steps.{step_at}
 use Rattle.model.specs.Record.{SetUp, Begin, Step, Decoded, Asks, Refuses, decode}
 use Rattle.model.specs.Apply.{made_by, refuse, fresh, set_up, terms, step, obey, apply_decoded, apply, apply_ruled}
 use Rattle.model.specs.Demand.{Call, Plain, start_of, plain₀, events, observe, effects, All}

@@ -6,7 +6,7 @@ use Prim.Native.Nat.{ℕ, ◌<◌}
 use native.Mathlib.Omega.{arith}
 use lib.Dec.{ltb, leb, eqb}
 use lib.ListN.{length, get_or}
-use Rattle.model.specs.Store.{last_clock, Reading, Slot, Range, OpenAnnounce, OpenPass, CloseWithdraw, MarkKeep, MarkRelease, Doing, Lent}
+use Rattle.model.specs.Store.{last_clock, Reading, Range, OpenAnnounce, OpenPass, CloseWithdraw, MarkKeep, MarkRelease, Doing, Lent}
 use Rattle.model.specs.Store.{Idle, PutPublish, PutStamp, PutHandIn, FlushTake, FlushRead, FlushFree, OnTime, ReadEnter, ReadStand}
 use Rattle.model.specs.Store.{GetShow, Store, Hub, blank, up, worker_at, slot_at, newest_of, range_of, with_worker, place}
 use Rattle.model.specs.Marks.{MarkNeed, EmptyMark, UnreadMark, mark_refusal, need_for, time_for}

@@ -6,7 +6,7 @@ use mathlib.Core.List.{List, [], ◌∷◌, ◌++◌, map, append-nil}
 use mathlib.Core.Option.{Option, none, some}
 use Prim.Native.Nat.{ℕ, ◌≤◌, ◌<◌}
 use native.Mathlib.Omega.{arith}
-use lib.Dec.{ltb, leb, eqb}
+use lib.Dec.{leb, eqb}
 use lib.ListN.{length}
 use lib.Seq.{get_or-set_same}
 use borrow.Author.Tests as Tests
@@ -20,7 +20,7 @@ use Rattle.model.specs.Rules.{twelve_digits}
 use Rattle.model.specs.Answer.{Answer, Going, Freed, Done, No, Stepped, said}
 use Rattle.model.specs.Versions.{stamp}
 use Rattle.model.specs.Steps.{put_publish, put_stamp, put_hand_in, flush_take, flush_split, flush_read, flush_free, open_announce, open_pass}
-use Rattle.model.specs.Steps.{answer_for, total_found, found, read_enter, read_stand, get_show, close_withdraw, mark_keep, mark_release}
+use Rattle.model.specs.Steps.{total_found, found, read_enter, read_stand, get_show, close_withdraw, mark_keep, mark_release}
 use Rattle.model.specs.Steps.{time_step, step_at}
 use Rattle.model.specs.Demand.{Call, end_for, Plain, change_effects, end_effects, occurrences, FreesNothingNeeded, TookIn}
 use Rattle.model.proofs.Basic.{hit_same, hit_other, eq_cases, cond_both}

@@ -9,7 +9,7 @@ use native.Mathlib.Omega.{arith}
 use lib.Dec.{ltb, eqb}
 use lib.ListN.{get_or}
 use borrow.Author.Tests as Tests
-use Rattle.model.specs.Store.{absent, Content, Slot, Range, mark_count, OpenAnnounce, OpenPass, CloseWithdraw, MarkKeep, MarkRelease}
+use Rattle.model.specs.Store.{absent, Content, Slot, Range, OpenAnnounce, OpenPass, CloseWithdraw, MarkKeep, MarkRelease}
 use Rattle.model.specs.Store.{Doing, Idle, PutPublish, PutStamp, PutHandIn, FlushTake, FlushRead, FlushFree, OnTime, ReadEnter}
 use Rattle.model.specs.Store.{ReadStand, GetShow, Store, worker_at, slot_at, with_clock, place}
 use Rattle.model.specs.About.{Effect, NoEffect, ByStamp, ByClock, about}
@@ -23,7 +23,7 @@ use Rattle.theorem.proofs.Linear.{Lin, lin_effect}
 use Rattle.theorem.proofs.Slots.{nth}
 use Rattle.theorem.proofs.Chain.{Sees, Fine, Fine-sees, Past, Next}
 use Rattle.theorem.proofs.View.{ByClockOf, clock_is}
-use Rattle.theorem.proofs.Invariant.{Ctx, ctx, top, old, chain, Good, Settled, Snap, PlaceHolds, Running, Fits, Current, Works, Inv}
+use Rattle.theorem.proofs.Invariant.{Ctx, ctx, top, chain, Good, Settled, Snap, PlaceHolds, Running, Fits, Current, Works, Inv}
 use Rattle.theorem.proofs.Transport.{stays, Moves, same_copy, sourced_settled, doing_map, fits_on, current_map}
 use Rattle.theorem.proofs.Stamp.{put-at_other}
 use Rattle.theorem.proofs.History.{hist-end, end-shut}

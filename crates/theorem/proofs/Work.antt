@@ -8,8 +8,8 @@ use native.Mathlib.Omega.{arith}
 use lib.Dec.{ltb}
 use lib.ListN.{length, get_or, set, length-set}
 use lib.Seq.{get_or-set_same, get_or-set_other}
-use Rattle.model.specs.Store.{absent, mark_count, Content, Range, Purpose, Single, Marked, Totaling, Goal, Doing, PutStamp, ReadStand}
-use Rattle.model.specs.Store.{Worker, start_worker, Store, worker_at, mark_at, held, with_queue, with_marks, with_worker}
+use Rattle.model.specs.Store.{absent, mark_count, Content, Range, Purpose, Single, Marked, Totaling, Goal, PutStamp, ReadStand}
+use Rattle.model.specs.Store.{Worker, start_worker, Store, worker_at, mark_at, with_queue, with_marks, with_worker}
 use Rattle.model.specs.Record.{Operation}
 use Rattle.model.specs.Demand.{Call, Plain, occurrences, All, call_at}
 use Rattle.model.specs.Reached.{sum_by}
