@@ -2,15 +2,15 @@
 -- the invariant of each run. The stores stay the same but for values, the histories the same but for values put to r, and the order of the calls,
 -- which sees no value, the same.
 use mathlib.Core.Path.{◌≡◌, refl, sym, ap, ◌∙◌, subst}
-use mathlib.Core.Bool.{Bool, true, false, cond, ◌&&◌}
+use mathlib.Core.Bool.{Bool, true, false, cond}
 use mathlib.Core.Logic.{◌⊎◌, inl, inr, ⊎_elim}
 use mathlib.Core.List.{List, [], ◌∷◌, ◌++◌, map}
-use Prim.Native.Nat.{ℕ, ◌+◌, ◌<◌}
+use Prim.Native.Nat.{ℕ, ◌+◌}
 use lib.Dec.{ltb, eqb}
 use borrow.Author.Tests as Tests
 use Rattle.model.specs.Store.{Content, absent, last_status, mark_count, Slot, Doing, Worker, Store, Hub, up, worker_at, with_slots, with_workers, place}
 use Rattle.model.specs.About.{about}
-use Rattle.model.specs.Marks.{MarkNeed, mark_of, mark_refusal, number_of}
+use Rattle.model.specs.Marks.{mark_of, mark_refusal, number_of}
 use Rattle.model.specs.Rights.{allowed}
 use Rattle.model.specs.Rules.{Rules, Ruled}
 use Rattle.model.specs.Answer.{Answer, Ok, Applied, said}
@@ -19,7 +19,7 @@ use Rattle.model.specs.Record.{Operation, Put, SetUp, Begin, Step, Decoded, Asks
 use Rattle.model.specs.Apply.{made_by, refuse, unless, set_up, TimeNeed, Terms, terms, named_below, group_there, value_within, status_known, may_open, may_use_time, is_idle}
 use Rattle.model.specs.Apply as Model
 use Rattle.model.specs.Apply.{refusal, seen, refused_by, begin, step, obey, apply_decoded, apply, apply_ruled}
-use Rattle.model.specs.Demand.{events, Call, Unfinished, end_for, Plain, start_of, plain₀, observe, effects, step_effects, change_effects, end_effects}
+use Rattle.model.specs.Demand.{events, Call, end_for, Plain, start_of, plain₀, observe, effects, step_effects, change_effects, end_effects}
 use Rattle.two_runs.specs.TwoRuns.{Pairwise, PutsAlike, Alike, looks_at, looks_by, without_value, place_with, bare_place, bare_worker, bare_slot, bare}
 use Rattle.two_runs.specs.TwoRuns.{SameButValues, SameAnswers, TwoRuns}
 use Rattle.theorem.proofs.Invariant.{Inv}

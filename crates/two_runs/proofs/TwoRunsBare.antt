@@ -3,12 +3,12 @@
 use mathlib.Core.Path.{◌≡◌, refl, sym, ap, ◌∙◌}
 use mathlib.Core.Bool.{Bool, true, false, cond}
 use mathlib.Core.List.{List, [], ◌∷◌, map}
-use mathlib.Core.Option.{Option, none, some}
+use mathlib.Core.Option.{none, some}
 use Prim.Native.Nat.{ℕ, zero, suc}
 use lib.Dec.{ltb, eqb}
 use lib.ListN.{get_or, set}
 use Rattle.model.specs.Totals.{Sum, sum₀}
-use Rattle.model.specs.Store.{absent, Reading, Slot, slot₀, Range, Purpose, Single, Marked, Totaling, Goal, Doing, Idle, PutPublish, PutStamp}
+use Rattle.model.specs.Store.{absent, Reading, Slot, slot₀, Purpose, Single, Marked, Totaling, Goal, Doing, Idle, PutPublish, PutStamp}
 use Rattle.model.specs.Store.{PutHandIn, FlushTake, FlushRead, FlushFree, OnTime, ReadEnter, ReadStand, GetShow, Worker, start_worker, Store}
 use Rattle.model.specs.Store.{worker_at, slot_at, mark_at, range_of, with_slots, with_workers, with_worker, with_doing, place}
 use Rattle.model.specs.About.{about}

@@ -5,7 +5,7 @@ use mathlib.Core.Bool.{Bool, true, false, cond}
 use mathlib.Core.Logic.{◌⊎◌, inl, inr, ⊎_elim}
 use mathlib.Core.List.{List, [], ◌∷◌, ◌++◌, map}
 use mathlib.Core.Option.{Option, none, some}
-use Prim.Native.Nat.{ℕ, zero, suc, ◌≤◌, ◌<◌}
+use Prim.Native.Nat.{ℕ, zero, suc, ◌≤◌}
 use lib.Dec.{eqb}
 use lib.ListN.{get_or}
 use borrow.Author.Tests as Tests
@@ -15,7 +15,7 @@ use Rattle.model.specs.About.{Effect, NoEffect, ByStamp, ByClock, about}
 use Rattle.model.specs.Answer.{Answer, Ok, Going, Freed, At, Value, None, Below, Done, No, said}
 use Rattle.model.specs.Record.{Operation, Put, Open, Read, Close, Get, Collect, Total, Mark, Release, MarkedRead}
 use Rattle.model.specs.Demand.{Ending, Unfinished, RefusedAt, FinishedAt, Call, call₀, call_at, end_as, end_by, end_once, end_for, Plain, plain₀, update}
-use Rattle.model.specs.Demand.{feed, is_unfinished, running_of, comes, stamped_over, passed, filter_below, change_effects, at_end, finishes, end_effects}
+use Rattle.model.specs.Demand.{feed, is_unfinished, running_of, comes, stamped_over, passed, filter_below, change_effects, at_end, end_effects}
 use Rattle.two_runs.specs.TwoRuns.{Pairwise, without_value, bare_worker, bare_slot, bare}
 use Rattle.theorem.proofs.Linear.{after}
 use Rattle.theorem.proofs.Effect.{takes, below-same}
@@ -252,7 +252,7 @@ unfolding after
 after-like r h h' C p p' P [] = P
 after-like r h h' C p p' P (i ∷ o) =
     let c = call_like r h h' C i in
-    after-like r h h' C _ _
+    after-like r h h' C (feed p (call_at h i).worker (call_at h i).operation) (feed p' (call_at h' i).worker (call_at h' i).operation)
     (subst (λ (v : ℕ). AlikePlain r (feed p (call_at h i).worker (call_at h i).operation) (feed p' v (call_at h' i).operation)) c.worker
     (feed-like r p p' P (call_at h i).worker _ _ c.operation)) o
 

@@ -1,7 +1,7 @@
 -- A worker without the right to read register r begins nothing that looks at r: 23 refuses it. So it gets the same answers in two runs that differ
 -- in values put to r (proofs/TwoRunsWorker.antt). The table stays, since no record changes what a setup fixed.
 use mathlib.Core.Path.{◌≡◌, refl, sym, ap, ◌∙◌, subst}
-use mathlib.Core.Bool.{Bool, true, false, true≢false, ◌&&◌, ◌||◌}
+use mathlib.Core.Bool.{Bool, true, false, true≢false, ◌||◌}
 use mathlib.Core.List.{List, [], ◌∷◌, ◌++◌, map}
 use Prim.Native.Nat.{ℕ, ◌+◌}
 use native.Mathlib.Omega.{arith}
@@ -11,11 +11,11 @@ use Rattle.model.specs.Store.{Content, Site, Store, Hub, blank, up}
 use Rattle.model.specs.Totals.{register_of, of_group}
 use Rattle.model.specs.Rights.{ToRead, each_of, may_on, may_on_each, allowed}
 use Rattle.model.specs.Rules.{Rules, Ruled}
-use Rattle.model.specs.Answer.{Answer, Ok, Applied, No}
+use Rattle.model.specs.Answer.{Answer, Ok, Applied}
 use Rattle.model.specs.Record.{Operation, Put, Open, Read, Close, Get, Collect, Total, Mark, Release, MarkedRead, SetUp, Begin, Step}
 use Rattle.model.specs.Record.{Decoded, Asks, Refuses, decode}
 use Rattle.model.specs.Apply.{made_by, terms, begin, obey, apply_decoded, apply, apply_ruled}
-use Rattle.model.specs.Demand.{Event, events, Call, observe, effects, Plain, start_of, plain₀, All, rows_in}
+use Rattle.model.specs.Demand.{events, Call, observe, effects, Plain, start_of, plain₀, All, rows_in}
 use Rattle.model.proofs.Basic.{and_both}
 use Rattle.model.proofs.Begin.{begin-by}
 use Rattle.theorem.proofs.Invariant.{Inv}

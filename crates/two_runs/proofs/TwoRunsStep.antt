@@ -6,7 +6,7 @@ use mathlib.Core.Bool.{Bool, true, false, cond}
 use mathlib.Core.List.{List, [], ◌∷◌, ◌++◌, map}
 use mathlib.Core.Option.{Option, none, some}
 use Prim.Native.Nat.{ℕ, ◌+◌}
-use lib.Dec.{ltb, leb, eqb}
+use lib.Dec.{leb, eqb}
 use lib.ListN.{length, set, drop}
 use Rattle.model.specs.Totals.{Sum, sum₀, row_at, goes_on}
 use Rattle.model.specs.Store.{absent, last_clock, Reading, Content, Slot, Range, OpenAnnounce, OpenPass, CloseWithdraw, MarkKeep, count_of}
@@ -14,13 +14,13 @@ use Rattle.model.specs.Store.{MarkRelease, Purpose, Single, Marked, Totaling, Go
 use Rattle.model.specs.Store.{FlushRead, FlushFree, OnTime, ReadEnter, ReadStand, GetShow, Worker, Store, worker_at, slot_at, newest_of, range_of}
 use Rattle.model.specs.Store.{with_clock, with_slots, with_newest, with_free, with_queue, with_workers, with_marks, with_worker, with_doing, place}
 use Rattle.model.specs.Sums.{add_row}
-use Rattle.model.specs.Marks.{EmptyMark, UnreadMark, mark_refusal, need_for, time_for}
+use Rattle.model.specs.Marks.{EmptyMark, UnreadMark, need_for, time_for}
 use Rattle.model.specs.Rules.{twelve_digits}
-use Rattle.model.specs.Answer.{Answer, Going, Freed, At, None, Done, No, Stepped}
+use Rattle.model.specs.Answer.{Going, At, None, Done, Stepped}
 use Rattle.model.specs.Versions.{stamp, stamp_slots, link_slots, unlink_slots}
 use Rattle.model.specs.Ranges.{first_two, merge, needed_of, needless_of, needed_pools, joining, queued_pool}
-use Rattle.model.specs.Steps.{put_publish, put_stamp, put_hand_in, flush_take, read_times, flush_split, flush_read, worker_off, flush_free, open_announce}
-use Rattle.model.specs.Steps.{open_pass, answer_for, stopped_by, read_enter, goal_at, signed, total_found, found, read_stand, get_show, close_withdraw}
+use Rattle.model.specs.Steps.{put_publish, put_stamp, put_hand_in, flush_take, flush_split, flush_read, worker_off, flush_free, open_announce}
+use Rattle.model.specs.Steps.{open_pass, answer_for, stopped_by, read_enter, signed, total_found, found, read_stand, get_show, close_withdraw}
 use Rattle.model.specs.Steps.{mark_keep, mark_release, time_step, step_at}
 use Rattle.two_runs.specs.TwoRuns.{without_value, purpose_with, goal_with, place_with, bare_place, bare_worker, bare_slot, bare}
 use Rattle.model.proofs.Basic.{cond_both}

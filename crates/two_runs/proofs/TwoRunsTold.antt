@@ -3,17 +3,17 @@
 -- group has no row of r are the same.
 use mathlib.Core.Path.{◌≡◌, refl, sym, ap, ◌∙◌, subst}
 use mathlib.Core.Bool.{Bool, true, false, cond, true≢false, ◌||◌}
-use mathlib.Core.Logic.{◌≢◌, ◌⊎◌, inl, inr, ⊎_elim}
+use mathlib.Core.Logic.{⊎_elim}
 use mathlib.Core.List.{List, [], ◌∷◌, ◌++◌, map}
-use mathlib.Core.Option.{Option, none, some}
-use Prim.Native.Nat.{ℕ, zero, suc, ◌≤◌, ◌<◌}
+use mathlib.Core.Option.{Option, some}
+use Prim.Native.Nat.{ℕ, zero, suc, ◌<◌}
 use native.Mathlib.Nat.{not-suc-le-zero, le_of_suc-le-suc}
 use native.Mathlib.Omega.{arith}
 use lib.Dec.{leb, eqb}
 use lib.ListN.{length, take}
 use borrow.Author.Tests as Tests
 use Rattle.model.specs.Totals.{Sum, group_of, register_of, row_at, of_group}
-use Rattle.model.specs.Store.{Reading, Content, Slot, Purpose, Single, Marked, Totaling, Goal, Doing, Idle, PutPublish, PutStamp, count_of}
+use Rattle.model.specs.Store.{Reading, Content, Slot, Purpose, Single, Marked, Totaling, Doing, Idle, PutPublish, PutStamp, count_of}
 use Rattle.model.specs.Store.{PutHandIn, FlushTake, FlushRead, FlushFree, OnTime, ReadEnter, ReadStand, GetShow, Worker, Store, worker_at, slot_at}
 use Rattle.model.specs.Store.{newest_of, with_slots, with_workers}
 use Rattle.model.specs.Sums.{add_row}
@@ -21,7 +21,7 @@ use Rattle.model.specs.Marks.{time_for}
 use Rattle.model.specs.Rules.{twelve_digits}
 use Rattle.model.specs.Versions.{stamp, stamp_slots}
 use Rattle.model.specs.Demand.{Call, Plain, plain₀, sum_over, change_effects}
-use Rattle.two_runs.specs.TwoRuns.{names, looks_for, looks_at, purpose_with, goal_with, place_with, bare_worker, bare_slot, bare}
+use Rattle.two_runs.specs.TwoRuns.{names, looks_for, looks_at, purpose_with, place_with, bare_worker, bare_slot}
 use Rattle.theorem.proofs.Slots.{stamp-value}
 use Rattle.theorem.proofs.Chain.{On-found}
 use Rattle.theorem.proofs.Linear.{after}

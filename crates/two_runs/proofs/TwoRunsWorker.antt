@@ -6,21 +6,20 @@ use mathlib.Core.Logic.{⊎_elim}
 use mathlib.Core.List.{List, [], ◌∷◌, ◌++◌, map}
 use Prim.Native.Nat.{ℕ, ◌+◌, ◌≤◌, ◌<◌}
 use native.Mathlib.Omega.{arith}
-use lib.Dec.{eqb}
 use lib.ListN.{get_or-eq_default}
 use borrow.Author.Tests as Tests
 use Rattle.model.specs.Store.{Content, OpenAnnounce, OpenPass, CloseWithdraw, MarkKeep, MarkRelease, Purpose, Single, Marked, Totaling, Doing, Idle}
 use Rattle.model.specs.Store.{PutPublish, PutStamp, PutHandIn, FlushTake, FlushRead, FlushFree, OnTime, ReadEnter, ReadStand, GetShow}
 use Rattle.model.specs.Store.{start_worker, Site, Store, Hub, blank, up, worker_at}
 use Rattle.model.specs.About.{about}
-use Rattle.model.specs.Rules.{Rules, Ruled}
+use Rattle.model.specs.Rules.{Ruled}
 use Rattle.model.specs.Answer.{Answer, Ok, Going, Freed, At, Value, None, Below, Done, No, said}
 use Rattle.model.specs.Record.{Operation, SetUp, Begin, Step, Decoded, Asks, Refuses, decode}
 use Rattle.model.specs.Apply.{made_by, apply_ruled}
 use Rattle.model.specs.Demand.{Event, events, Call, Unfinished, call_at, end_for, observe, effects, Plain, start_of, plain₀, All, occurrences, rows_in}
 use Rattle.two_runs.specs.TwoRuns.{Pairwise, Alike, looks_for, looks_at, looks_by, SameAnswers, looks_in, KeepsOff, is_of, SameTo, told, SameForWorker}
-use Rattle.model.proofs.Basic.{lt_cases, All-at, All-append, All-map, All-through}
-use Rattle.theorem.proofs.Invariant.{Ctx, ctx, Serves, FitsFlush, FitsTime, Fits, CurrentOf, Inv}
+use Rattle.model.proofs.Basic.{lt_cases, All-at, All-append, All-through}
+use Rattle.theorem.proofs.Invariant.{Ctx, ctx, Serves, FitsFlush, Fits, CurrentOf, Inv}
 use Rattle.theorem.proofs.View.{idle_is}
 use Rattle.theorem.proofs.Record.{Holds, apply-holds}
 use Rattle.theorem.proofs.Setup.{Accepted, accepts, accepted_inv}

@@ -7,7 +7,7 @@
 use Rattle.std.specs.Prelude.{◌≡◌, Bool, true, false, ◌||◌, ◌⊎◌, List, [], ◌∷◌, map, ℕ, ◌≤◌, eqb}
 use Rattle.std.proofs.Math.Option.{none, some}
 use Rattle.model.specs.Totals.{register_of, of_group, Sum, sum₀}
-use Rattle.model.specs.Store.{Reading, last_status, Slot, Range, TimeStep, Purpose, Single, Marked, Totaling, Goal, Doing, Idle, PutPublish, PutStamp}
+use Rattle.model.specs.Store.{Reading, last_status, Slot, Purpose, Single, Marked, Totaling, Goal, Doing, Idle, PutPublish, PutStamp}
 use Rattle.model.specs.Store.{PutHandIn, FlushTake, FlushRead, FlushFree, OnTime, ReadEnter, ReadStand, GetShow, Worker, Store, Lent, Hub, blank, up}
 use Rattle.model.specs.Store.{worker_at, with_slots, with_workers, with_doing}
 use Rattle.model.specs.Rights.{ToRead, may_on}
