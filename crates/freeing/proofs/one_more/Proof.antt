@@ -1,4 +1,4 @@
--- `one_more_lem` meets its contract: the test decides whether there is one more.
+-- `one_more` meets its contract: the test decides whether there is one more.
 use borrow.Author.Rules.{rules}
 use borrow.Author.Tests.{lt-ltb, le-ltb}
 use Rattle.freeing.proofs.one_more.Statement.{statement}

@@ -1,9 +1,0 @@
-pub mod Again
-pub mod ByValue
-pub mod Calls
-pub mod Flow
-pub mod Growth
-pub mod Loads
-pub mod Row
-pub mod Shared
-pub mod Stores
