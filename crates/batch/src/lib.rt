@@ -1,9 +1,11 @@
 // The batch size.
 #![tactic(auto)]
+
 ghost use Rattle.std.specs.Prelude.{◌≡◌};
 ghost use Rattle.model.specs.Batch.{batch_of};
 
 // H1.24: B for p workers, one line for each number that a hub may have.
+#[tactic(auto, unfolding(model::specs::Batch::batch_of))]
 pub fn batch(p: u8) -> u8
     ensures { result ≡ batch_of p }
 {
