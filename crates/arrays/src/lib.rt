@@ -1,5 +1,6 @@
 // The lent arrays of slots: one entry replaced, and what a setup writes into them.
 #![tactic(auto)]
+
 ghost use Rattle.std.specs.Prelude.{◌≡◌, ◌-◌, ◌≤◌, set};
 ghost use Rattle.arrays.specs.Arrays.{short, fill_to};
 
