@@ -1,5 +1,6 @@
 // A worker's record by value.
 #![tactic(auto)]
+
 ghost use Rattle.std.specs.Prelude.{◌≡◌};
 ghost use Rattle.model.specs.Store.{start_worker};
 ghost use Rattle.worker.specs.Rep.{time_of, worker_rep};
