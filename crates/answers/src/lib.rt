@@ -1,5 +1,6 @@
 // Answers as two numbers each, for buffers of answers: the kind, to which 256 times the status is added, and the number.
 #![tactic(auto)]
+
 ghost use Rattle.std.specs.Prelude.{◌≡◌, ◌+◌, ◌*◌, ◌≤◌};
 ghost use Rattle.answers.specs.Numbers.{kind_of, number_of, answer_with, answer_from};
 ghost use Rattle.answers.specs.Said.{said_of};

@@ -1,6 +1,7 @@
 // The clock and the counts of the hub in two arrays of numbers, which a turn is lent: the clock alone; how many slots are free, and the four numbers
 // of the queue's window.
 #![tactic(auto)]
+
 ghost use Rattle.std.specs.Prelude.{◌≡◌};
 ghost use Rattle.counts.specs.Counts.{clock_as, free_in, window_in, counts_as};
 

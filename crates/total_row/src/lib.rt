@@ -1,5 +1,6 @@
 // A row of totals (H12.1): its group and its register; and how many rows count.
 #![tactic(auto)]
+
 ghost use Rattle.std.specs.Prelude.{◌≡◌, ◌≤◌, length, take};
 ghost use Rattle.model.specs.Totals.{group_of, register_of};
 
