@@ -1,6 +1,7 @@
 // The version slots as one lent row of words, six a slot: what stands in a slot. The words are the count of its reading,
 // low, high, older, newer, and the status of its reading plus one, which is 0 where there is none.
 #![tactic(auto)]
+
 ghost use Rattle.std.specs.Prelude.{◌≡◌, ◌≤◌, set, get_or};
 ghost use Rattle.slots.specs.Slots.{vacant_slot};
 ghost use Rattle.versions.specs.Versions.{row_of, content_in, count_word, held_word};
