@@ -1,5 +1,6 @@
 // What is asked of a worker's place besides its step: here it is taken apart.
 #![tactic(auto)]
+
 ghost use Rattle.std.specs.Prelude.{◌≡◌};
 ghost use Rattle.places.specs.About.{naming, mark_moved, moving, mark_read, reading, about_of};
 
