@@ -1,7 +1,13 @@
 // What the programs that write a log share: standard input, as it comes or in parts that are full but for the last, a file that an argument
 // names, and a message on standard error.
 #![tactic(auto)]
+
 ghost use Rattle.std.specs.Prelude.{◌≡◌, ◌≤◌, length, take};
+
+use std::env::FillError;
+use std::fs;
+use std::io::{ErrorKind, Print, Read};
+use std::rt::{Env, Files};
 
 // What was read: how many bytes, and whether a read failed.
 #[derive(Clone, Copy)]
@@ -10,18 +16,16 @@ pub struct Input {
     pub failed: bool,
 }
 
-// Reads from a descriptor until buf is full, the input ends or a read fails. Pieces of any size are put together.
-fn fill_from(fd: i32, buf: &mut [u8]) -> Input
+// Reads until buf is full, the input ends or a read fails. Pieces of any size are put together.
+fn fill_from<R: Read>(from: &mut R, buf: &mut [u8]) -> Input
     ensures { result.n ≤ length buf.new }
 {
     let mut n: usize = 0;
     while n < buf.len() {
         let part = &mut buf[n..];
-        let got = libc::read(fd, part);
-        if got < 0 {
+        let Ok(more) = from.read(part) else {
             return Input { n, failed: true };
-        }
-        let more = io::count(got, part);
+        };
         if more == 0 {
             return Input { n, failed: false };
         }
@@ -31,15 +35,15 @@ fn fill_from(fd: i32, buf: &mut [u8]) -> Input
 }
 
 // The same from standard input, so that records are cut at the same places whatever the reads bring.
-pub fn fill(buf: &mut [u8]) -> Input
+pub fn fill(rt: &HostRuntime, buf: &mut [u8]) -> Input
     ensures { result.n ≤ length buf.new }
 {
-    fill_from(libc::STDIN_FILENO, buf)
+    fill_from(&mut rt.stdin(), buf)
 }
 
 // Reads the file that argument i names, and no more of it than buf has room for. Without an argument, or where there is no such file, it has no
-// bytes; one that is there and cannot be read is a read that failed.
-pub fn read_named(i: usize, buf: &mut [u8]) -> Input
+// bytes; one that is there and cannot be read is a read that failed. So is a name that is too long or not UTF-8 text.
+pub fn read_named<R: Env + Files>(rt: &R, i: usize, buf: &mut [u8]) -> Input
     ensures { result.n ≤ length buf.new }
 {
     let none = Input {
@@ -47,44 +51,38 @@ pub fn read_named(i: usize, buf: &mut [u8]) -> Input
         failed: false,
     };
     let mut space = [0u8; 4096];
-    let name: &mut [u8] = &mut space;
-    let long = os::arg(i, name);
-    let asked = os::errno();
-    if asked == libc::EINVAL {
-        return none;
-    }
-    // A name that is longer than the space.
-    if asked != 0 {
+    let long = match rt.arg(i, &mut space) {
+        Ok(long) => long,
+        Err(FillError::NotPresent) => return none,
+        Err(FillError::TooLong) => return Input { n: 0, failed: true },
+    };
+    let Ok(name) = std::str::from_utf8(&space[..long]) else {
         return Input { n: 0, failed: true };
-    }
-    let all = &name[..];
-    let fd = os::open_read(&all[0..long]);
-    if fd < 0 {
-        return Input {
+    };
+    match fs::open(rt, name) {
+        Ok(mut file) => fill_from(&mut file, buf),
+        Err(e) => Input {
             n: 0,
-            failed: os::errno() != libc::ENOENT,
-        };
+            failed: e.kind() != ErrorKind::NotFound,
+        },
     }
-    let got = fill_from(fd, buf);
-    libc::close(fd);
-    got
 }
 
 // Reads once, into buf after its first `kept` bytes, which stay; answers how many bytes it has then. Where the input has ended they are as
 // many as before.
-pub fn read_after(buf: &mut [u8], kept: usize) -> Input
+pub fn read_after(rt: &HostRuntime, buf: &mut [u8], kept: usize) -> Input
     requires { kept ≤ length buf.old }
-    ensures { (kept ≤ result.n) × (result.n ≤ length buf.new) × (take kept buf.new ≡ take kept buf.old) }
+    ensures counts_kept { kept ≤ result.n }
+    ensures fits { result.n ≤ length buf.new }
+    ensures keeps { take kept buf.new ≡ take kept buf.old }
 {
     let part = &mut buf[kept..];
-    let got = libc::read(libc::STDIN_FILENO, part);
-    if got < 0 {
+    let Ok(more) = rt.stdin().read(part) else {
         return Input {
             n: kept,
             failed: true,
         };
-    }
-    let more = io::count(got, part);
+    };
     Input {
         n: kept + more,
         failed: false,
@@ -92,8 +90,6 @@ pub fn read_after(buf: &mut [u8], kept: usize) -> Input
 }
 
 // Says on standard error what went wrong. Where that cannot be written either, nothing is left to do.
-pub fn say(text: &[u8]) {
-    if io::write_all(libc::STDERR_FILENO, text) {
-        return;
-    }
+pub fn say(rt: &HostRuntime, text: &[u8]) {
+    let _ = rt.stderr().write_all(text);
 }

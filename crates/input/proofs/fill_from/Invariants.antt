@@ -1,0 +1,9 @@
+-- `fill_from`: what is read so far fits the buffer, and each turn reads at least one byte more.
+use Rattle.std.proofs.Common.{◌-◌, ◌≤◌, length}
+use Rattle.input.proofs.fill_from.Given as goal
+
+abbrev pub invariant-loop-n : goal.invariant-loop-n
+invariant-loop-n g l = l.n ≤ length l.buf
+
+abbrev pub decreases-loop-n : goal.decreases-loop-n
+decreases-loop-n g l = length l.initial.buf - l.n
