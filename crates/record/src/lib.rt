@@ -1,5 +1,6 @@
 // The record decoder.
 #![tactic(auto)]
+
 ghost use Rattle.std.specs.Prelude.{◌≡◌, cond, ◌+◌, ◌≤◌, ◌<◌, ltb, length, get_or};
 ghost use Rattle.model.specs.Record.{number, zeros};
 ghost use Rattle.model.specs.Record as Model;

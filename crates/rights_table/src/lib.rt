@@ -1,5 +1,6 @@
 // The table of rights that is given, and the rows of it that a hub keeps, of which the first n count (H15.8).
 #![tactic(auto)]
+
 ghost use Rattle.std.specs.Prelude.{◌≡◌, cond, ◌&&◌, leb, take};
 ghost use Rattle.lists.specs.Over.{over};
 ghost use Rattle.model.specs.Rights.{each_of, right_fits, table_of, table_fits};

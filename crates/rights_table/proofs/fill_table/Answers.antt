@@ -1,0 +1,33 @@
+-- `fill_table` meets its contract. The invariant: the first i rows of the table have replaced the first i entries.
+use mathlib.Core.Path.{◌≡◌, sym, ap, ◌∙◌}
+use mathlib.Core.List.{List}
+use Prim.Native.Nat.{ℕ, ◌*◌, min}
+use native.Mathlib.Omega.{arith}
+use lib.ListN.{length, take}
+use borrow.Author.Rules.{rules}
+use Rattle.lists.specs.Over.{over}
+use Rattle.le.proofs.Numbers.{number-there}
+use Rattle.lists.proofs.Over.{over-nil}
+use Rattle.model.specs.Rights.{table_of}
+use Rattle.bounds.proofs.Room.{take-room}
+use Rattle.rights_table.proofs.Given.{length-table, filled_more}
+use Rattle.rights_table.proofs.fill_table.Goals as goal
+
+pub loop-i-init : goal.loop-i-init
+loop-i-init c = (omega arith, sym (over-nil _), search rules)
+
+pub loop-i-preserved : goal.loop-i-preserved
+loop-i-preserved c =
+    let b = c.args.table.now in
+    let e = c.eight.ensures ∙ number-there b (8 * c.loop-i.i) 8 (omega arith) in
+    (omega arith, filled_more _ _ _ _ _ (omega arith) (omega arith) e c.loop-i.invariant.1, search rules)
+
+pub returns : goal.returns
+returns c =
+    let a = c.args in
+    let d = a.rights.now in
+    let rows = table_of a.table.now in
+    let long : length d ≡ 64 = omega arith in
+    let e : c.loop-i.i ≡ min (length rows) (length d) = rw (length-table a.table.now) (omega arith) in
+    c.loop-i.invariant.1
+    ∙ ap (λ (q : List ℕ). over q d) (take-room rows d _ e ∙ ap (λ (k : ℕ). take k rows) long)
