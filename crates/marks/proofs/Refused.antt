@@ -1,5 +1,4 @@
 -- One law about the refusal that a need meets: a claim that holds of 0, 19, 20 and 21 holds of it.
-use mathlib.Core.Bool.{Bool, true, false, cond}
 use mathlib.Core.List.{List}
 use Prim.Native.Nat.{ℕ}
 use Rattle.model.proofs.Basic.{cond_both}

@@ -1,5 +1,6 @@
 // The marks (H13): what is asked of one, and which worker reads which.
 #![tactic(auto)]
+
 ghost use Rattle.std.specs.Prelude.{◌≡◌, ◌+◌, ◌≤◌, ◌<◌, length, take};
 ghost use Rattle.marks.specs.Marks.{shown_as, read_as, read_by, read_next, read_in, mark_in, held_in, refusal_in, time_in};
 
