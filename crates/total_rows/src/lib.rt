@@ -1,5 +1,6 @@
 // The rows of totals that a hub keeps, of which the first n count (H12.5, H12.7): the first of a group, and the next.
 #![tactic(auto)]
+
 ghost use Rattle.std.specs.Prelude.{◌≡◌, ◌≤◌, take};
 ghost use Rattle.model.specs.Totals.{first_of, row_at, goes_on};
 ghost use Rattle.total_rows.specs.Rows.{goal_in};
