@@ -2,10 +2,10 @@
 use mathlib.Core.Path.{◌≡◌, refl, sym, ◌∙◌}
 use mathlib.Core.Bool.{Bool, true, false, ◌&&◌}
 use mathlib.Core.List.{List}
-use Prim.Native.Nat.{ℕ, ◌+◌, ◌-◌, ◌≤◌, ◌<◌}
+use Prim.Native.Nat.{ℕ, ◌+◌, ◌≤◌, ◌<◌}
 use native.Mathlib.Omega.{arith}
-use lib.Dec.{ltb, leb}
-use borrow.Author.Tests.{ltb-true, leb-true, lt-ltb, le-leb}
+use lib.Dec.{leb}
+use borrow.Author.Tests.{leb-true, lt-ltb, le-leb}
 use Rattle.lists.specs.Over.{over}
 use Rattle.model.specs.Ranges.{merge}
 use Rattle.ranges.specs.Words.{ranges_at, flat}
@@ -18,18 +18,6 @@ use Rattle.queue.specs.State.{Queue, lies, room, first_length, second_length, fi
 both : (a b : Bool) → a && b ≡ true → (a ≡ true) × (b ≡ true)
 both true b e = (refl, e)
 both false b e = let z : ◌≡◌ {A = ℕ} 0 1 = cc in absurd (omega arith)
-
--- two tests that imply each other
-same : (a b : Bool) → (a ≡ true → b ≡ true) → (b ≡ true → a ≡ true) → a ≡ b
-same true b f g = sym (f refl)
-same false true f g = g refl
-same false false f g = refl
-
--- a sum is compared by a difference
-pub leb_minus : (a b k : ℕ) → b ≤ k → leb a (k - b) ≡ leb (a + b) k
-leb_minus a b k h =
-    same (leb a (k - b)) (leb (a + b) k) (λ e. le-leb (a + b) k (omega (arith, leb-true a (k - b) e)))
-    (λ e. le-leb a (k - b) (omega (arith, leb-true (a + b) k e)))
 
 -- a window that lies in the memory
 pub record LiesIn (w : Window) : Type 0 where
@@ -55,14 +43,6 @@ module _ (w : Window) where
   pub lies-yes : LiesIn w → lies w ≡ true
   unfolding lies
   lies-yes l = rw (le-leb w.first 2048 l.first, le-leb w.pools 2048 l.pools, le-leb w.from 2048 l.from, le-leb w.queued 2048 l.queued)
-
-  pub room-facts : (n : ℕ) → room w n ≡ true → LiesIn w × (0 < n) × (w.pools < 2048) × (w.queued + n ≤ 2048)
-  unfolding room
-  room-facts n e =
-      let l = both (lies w && ltb 0 n) (ltb w.pools 2048 && leb (w.queued + n) 2048) e in
-      let a = both (lies w) (ltb 0 n) l.0 in
-      let b = both (ltb w.pools 2048) (leb (w.queued + n) 2048) l.1 in
-      (lies-facts a.0, ltb-true 0 n a.1, ltb-true w.pools 2048 b.0, leb-true (w.queued + n) 2048 b.1)
 
   pub room-yes : (n : ℕ) → LiesIn w → 0 < n → w.pools < 2048 → w.queued + n ≤ 2048 → room w n ≡ true
   unfolding room

@@ -1,6 +1,7 @@
 // The queue of shared pools in lent memory (H1.20): a pool pushed at its end, up to two taken from its front and merged (H5.15). It lies in a
 // window, whose beginning moves on where pools are taken and to the front where it comes to the middle of the memory.
 #![tactic(auto)]
+
 ghost use Rattle.std.specs.Prelude.{◌≡◌, true, [], ◌+◌, ◌-◌, ◌*◌, ◌≤◌, ◌<◌, min, length, take};
 ghost use Rattle.lists.specs.Over.{over, over_at, shifted};
 ghost use Rattle.model.specs.Ranges.{merge};
@@ -38,6 +39,7 @@ fn copy(src: &[u32], n: usize, dst: &mut [u32], to: usize)
 }
 
 // Whether the window lies in the memory, whatever that holds.
+#[tactic(auto, unfolding(crate::specs::State::lies))]
 fn lies_in(w: Window) -> bool
     ensures { result ≡ lies w }
 {
@@ -45,6 +47,7 @@ fn lies_in(w: Window) -> bool
 }
 
 // Whether there is room for a pool of n ranges, which is not empty.
+#[tactic(auto, unfolding(crate::specs::State::lies, crate::specs::State::room))]
 fn has_room(w: Window, n: usize) -> bool
     ensures { result ≡ room w n }
 {
@@ -55,6 +58,7 @@ fn has_room(w: Window, n: usize) -> bool
 }
 
 // Queues src's first n ranges as a pool; an empty pool is not queued, nor one without room.
+#[tactic(auto, unfolding(crate::specs::State::lies, crate::specs::State::room, crate::specs::State::pushed))]
 pub fn push(
     queue: &mut [u32; 12288],
     lens: &mut [u32; 4096],
@@ -86,6 +90,7 @@ fn wide(x: u32) -> usize
 }
 
 // The length of the queue's pool i; a pool that is not there has none.
+#[tactic(auto, unfolding(crate::specs::State::lies))]
 fn length_at(lens: &[u32; 4096], w: Window, i: usize) -> usize
     requires { lies w ≡ true }
     ensures { (result ≡ length_at lens.now w i) × (result < 4294967296) }
@@ -114,6 +119,7 @@ fn merge_two(queue: &[u32], from: usize, la: usize, lb: usize, merged: &mut [u32
 }
 
 // Whether the window lies in the memory, and its first two lengths are those of a queue whose first two pools have at most 256 ranges.
+#[tactic(auto, unfolding(crate::specs::State::may_take))]
 fn may_take(lens: &[u32; 4096], w: Window) -> bool
     ensures { result ≡ may_take (pools_in [] lens.now w) }
 {
@@ -132,6 +138,7 @@ fn less_two(pools: usize) -> usize
 
 // The window without its first two pools, of r ranges: it begins behind them, or, where that is past range 2048, what is left moves to the
 // front.
+#[tactic(auto, unfolding(crate::specs::State::lies, crate::specs::State::moved_on))]
 fn move_on(queue: &mut [u32; 12288], lens: &mut [u32; 4096], w: Window, r: usize) -> Window
     requires { (lies w ≡ true) × (r ≤ w.queued) }
     ensures { pools_in queue.new lens.new result ≡ moved_on (pools_in queue.old lens.old w) r }
