@@ -1,5 +1,6 @@
 // Open and close: the steps that move a worker's announced time and no version; and what any step leaves.
 #![tactic(auto)]
+
 ghost use Rattle.std.specs.Prelude.{◌≡◌, cond, ◌+◌, eqb, ltb};
 ghost use Rattle.model.specs.Store.{last_clock};
 ghost use Rattle.announcing.specs.Announcing.{outcome_of, open_announce_step, open_pass_step, close_withdraw_step};

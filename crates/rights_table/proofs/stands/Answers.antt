@@ -1,20 +1,14 @@
 -- `stands` meets its contract. The invariant: each row before i is as it may be.
-use mathlib.Core.Path.{◌≡◌, refl, sym, ◌∙◌}
+use mathlib.Core.Path.{◌≡◌, sym, ◌∙◌}
 use mathlib.Core.List.{List, ◌∷◌}
 use Prim.Native.Nat.{ℕ, ◌+◌, ◌<◌}
 use native.Mathlib.Omega.{arith}
 use lib.ListN.{length, get_or, take, drop, length-take}
 use lib.Seq.{get_or-take}
-use borrow.Author.Tests.{le-leb, lt-leb}
+use borrow.Author.Tests.{le-leb}
 use Rattle.model.specs.Rights.{each_of, right_fits}
 use Rattle.rights_table.proofs.Scan.{Passed, turn, passed-all, each_none, each-fails, each-behind}
 use Rattle.rights_table.proofs.stands.Goals as goal
-
-pub returns-then-n-gt64 : goal.returns-then-n-gt64
-returns-then-n-gt64 c = rw (lt-leb c.args.n 64 (omega arith))
-
-pub loop-i-init : goal.loop-i-init
-loop-i-init c = (omega arith, refl)
 
 -- the row that was read decides, or the rows behind it
 looked : (n i : ℕ) (rows : List ℕ) → i < length (take n rows) → i < n → Passed (each_of right_fits) (take n rows) i
