@@ -1,5 +1,6 @@
 // What the steps do to version lists in the row of words: link, unlink.
 #![tactic(auto)]
+
 ghost use Rattle.std.specs.Prelude.{◌≡◌};
 ghost use Rattle.versions.specs.Versions.{row_of, alone_slot, published_slot, change_in, linked_in, unlinked_in};
 ghost use Rattle.versions.specs.Versions.{with_older, with_newer};
