@@ -1,5 +1,6 @@
 // The stamp of a register in the row of words (H1.13): its newest version gets a low, and the one before it a high.
 #![tactic(auto)]
+
 ghost use Rattle.std.specs.Prelude.{◌≡◌};
 ghost use Rattle.versions.specs.Versions.{row_of, change_in, stamped_in, with_low, with_high};
 
