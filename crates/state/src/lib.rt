@@ -1,5 +1,6 @@
 // The hub by value: what its setup fixed, its clock and counts, and up to sixteen workers side by side, each with its own record.
 #![tactic(auto)]
+
 ghost use Rattle.std.specs.Prelude.{◌≡◌};
 ghost use Rattle.state.specs.State.{fresh_hub, tabled_hub, empty_hub};
 
