@@ -1,5 +1,6 @@
 // One version slot: the test of its neighbours, and what a setup makes of it.
 #![tactic(auto)]
+
 ghost use Rattle.std.specs.Prelude.{◌≡◌};
 ghost use Rattle.slots.specs.Slots.{linked_and, made_slot};
 
