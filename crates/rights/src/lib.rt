@@ -1,5 +1,6 @@
 // What the table of rights permits (H15): of the rows that a hub keeps the first n count.
 #![tactic(auto)]
+
 ghost use Rattle.std.specs.Prelude.{◌≡◌, map, take};
 ghost use Rattle.model.specs.Store.{up_from};
 ghost use Rattle.model.specs.Totals.{register_of, of_group};
