@@ -1,5 +1,6 @@
 // The reads that stand on a slot, and their move off a slot that is freed (H5.27).
 #![tactic(auto)]
+
 ghost use Rattle.std.specs.Prelude.{◌≡◌};
 ghost use Rattle.standing.specs.Standing.{off_doing, stands_on};
 
