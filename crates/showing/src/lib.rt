@@ -1,5 +1,6 @@
 // What is shown: the answer of a get or a read for what a version holds, and of a total for its sums.
 #![tactic(auto)]
+
 ghost use Rattle.std.specs.Prelude.{◌≡◌};
 ghost use Rattle.showing.specs.Shown.{answer_to, signed_of};
 
