@@ -5,7 +5,7 @@ use mathlib.Core.Path.{◌≡◌, refl, sym, ap, ◌∙◌, subst}
 use mathlib.Core.Bool.{true, ◌&&◌}
 use mathlib.Core.Logic.{◌⊎◌, inl, inr, ⊎_elim}
 use mathlib.Core.List.{List, [], ◌∷◌, ◌++◌, map, reverse}
-use Prim.Native.Nat.{ℕ, suc, ◌*◌, ◌≤◌, ◌<◌}
+use Prim.Native.Nat.{ℕ, ◌*◌, ◌≤◌}
 use native.Mathlib.Omega.{arith}
 use lib.Dec.{leb}
 use lib.ListN.{length, get_or, take, drop, replicate, length-append, length-drop, length-map, length-reverse, length-replicate}
@@ -34,7 +34,7 @@ use Rattle.queue.specs.State.{Begins}
 use Rattle.queue.specs.Rep.{joined_ranges}
 use Rattle.queue.proofs.MemoryLaws.{over-again, over_at-again, length-over_at}
 use Rattle.queue.proofs.Rep.{words_inside, lengths_inside, begins_after}
-use Rattle.simulation.specs.Memory.{read_of, Memory, in_hand_words, merged_over, parts_over, write, with_hub, next_hub, write_hub}
+use Rattle.simulation.specs.Memory.{read_of, Memory, in_hand_words, parts_over, write, with_hub, next_hub, write_hub}
 use Rattle.simulation.specs.Left.{LeftByRecords, Left, Sized}
 use Rattle.simulation.specs.Shell.{queue_in}
 use Rattle.simulation.proofs.FlushQueue.{queue_sized}

@@ -3,7 +3,6 @@
 use mathlib.Core.Path.{◌≡◌, refl, sym, ap, ◌∙◌}
 use mathlib.Core.List.{List, [], ◌++◌}
 use Prim.Native.Nat.{ℕ, ◌<◌}
-use lib.ListN.{replicate}
 use Rattle.model.specs.Rules.{Given}
 use Rattle.model.specs.Store as Model
 use native.Mathlib.Omega.{arith}
@@ -14,7 +13,7 @@ use Rattle.model.specs.About.{Hand}
 use Rattle.model.specs.Apply.{terms}
 use Rattle.theorem.proofs.View.{first_hand}
 use Rattle.worker.specs.declared.Worker.{Worker}
-use Rattle.worker.specs.Rep.{doing_rep, times_in, times_read, worker_rep}
+use Rattle.worker.specs.Rep.{doing_rep, times_in, times_read}
 use Rattle.marks.specs.Marks.{read_by}
 use Rattle.state.specs.declared.Hub.{Hub}
 use Rattle.state.specs.State.{worker_in, with_worker_in, at_place}

@@ -1,7 +1,7 @@
 -- What holds on any memory: a setup on memory that counts as set up gets 9, and a refusal changes nothing or, met at a step, sets one worker
 -- idle. By cases on the decision and on the worker's place.
 use mathlib.Core.Path.{◌≡◌, refl, sym, ap, ◌∙◌}
-use mathlib.Core.Bool.{Bool, true, false, cond, not, ◌&&◌}
+use mathlib.Core.Bool.{Bool, true, false, cond, not}
 use mathlib.Core.List.{List}
 use Prim.Native.Nat.{ℕ, ◌-◌, ◌%◌, ◌<◌}
 use native.Mathlib.Omega.{arith}

@@ -1,6 +1,6 @@
 -- Flush (3): the code's step is the model's. The times and the merged list are read back from memory, so that the split gives the same
 -- needless and needed ranges. The needless ones stay in the worker's part of memory, the needed ones and the local pool go to the queue.
-use mathlib.Core.Path.{◌≡◌, refl, sym, ap, ap₂, ◌∙◌}
+use mathlib.Core.Path.{◌≡◌, refl, ap, ap₂, ◌∙◌}
 use mathlib.Core.Bool.{Bool, true, false, not, cond}
 use mathlib.Core.List.{List, [], ◌∷◌, ◌++◌, reverse}
 use Prim.Native.Nat.{ℕ, suc, ◌+◌, ◌-◌, ◌*◌, ◌≤◌, ◌<◌}

@@ -1,6 +1,6 @@
 -- Flush (1): the code's step is the model's. The two pools taken are the model's first two, merged they are at most 256 ranges, and the
 -- window moves on to the rest of the queue.
-use mathlib.Core.Path.{◌≡◌, refl, sym, ap, ◌∙◌}
+use mathlib.Core.Path.{◌≡◌, refl, ap, ◌∙◌}
 use mathlib.Core.List.{List, []}
 use Prim.Native.Nat.{ℕ, ◌*◌, ◌≤◌, ◌<◌}
 use native.Mathlib.Omega.{arith}

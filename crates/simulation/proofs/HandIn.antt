@@ -1,12 +1,12 @@
 -- Put (3): the code's step is the model's. The covered version's range is appended to the local pool in memory as on the list, since its
 -- times are below 2^32, and the pool is full for the one where it is for the other.
-use mathlib.Core.Path.{◌≡◌, refl, sym, ap, ap₂, ◌∙◌}
+use mathlib.Core.Path.{◌≡◌, refl, ap, ap₂, ◌∙◌}
 use mathlib.Core.Bool.{Bool, true, false, cond}
 use mathlib.Core.List.{List, [], ◌∷◌, ◌++◌}
 use Prim.Native.Nat.{ℕ, ◌≤◌, ◌<◌}
 use native.Mathlib.Omega.{arith}
 use lib.Dec.{eqb}
-use lib.ListN.{length, replicate, length-append}
+use lib.ListN.{length, length-append}
 use Rattle.model.specs.Store as Model
 use Rattle.model.specs.Store.{Store, Range, worker_at, slot_at, range_of, with_worker}
 use Rattle.model.specs.Answer as Model-as-Answer

@@ -1,6 +1,6 @@
 -- Mark and release: the code's step is the model's. It sets one mark's time, or is refused.
-use mathlib.Core.Path.{◌≡◌, refl, sym, ap, ◌∙◌, subst}
-use mathlib.Core.List.{List, [], map}
+use mathlib.Core.Path.{◌≡◌, refl, ap, ◌∙◌, subst}
+use mathlib.Core.List.{[], map}
 use mathlib.Core.Option.{Option, none, some}
 use Prim.Native.Nat.{ℕ, ◌%◌, ◌<◌}
 use native.Mathlib.Nat.{mod-eq_of_lt}
@@ -10,17 +10,15 @@ use borrow.Author.Tests.{ne_eqb}
 use Rattle.model.specs.Store as Model
 use Rattle.model.specs.Store.{Store, absent, mark_count, worker_at, with_doing, with_marks, place}
 use Rattle.model.specs.Answer as Model-as-Answer
-use Rattle.model.specs.Marks.{number_of, MarkNeed, EmptyMark, UnreadMark, mark_refusal}
+use Rattle.model.specs.Marks.{MarkNeed, EmptyMark, UnreadMark, mark_refusal}
 use Rattle.model.specs.Steps.{time_step, step_at, stopped_by, mark_keep, mark_release}
-use Rattle.values.specs.declared.Answer.TheVariants.{Done, No}
-use Rattle.worker.specs.declared.Doing.TheVariants.{Idle}
-use Rattle.worker.specs.Rep.{doing_rep, announced_rep, time_of, worker_rep}
+use Rattle.values.specs.declared.Answer.TheVariants.{No}
+use Rattle.worker.specs.Rep.{announced_rep, worker_rep}
 use Rattle.marks.specs.Marks.{refusal_in}
 use Rattle.state.specs.declared.Hub.{Hub}
 use Rattle.state.specs.State.{with_worker_in, with_marks_in}
-use Rattle.step.specs.declared.Next.{Next}
-use Rattle.step.specs.declared.Next.TheVariants.{Mark, Taken}
-use Rattle.step.specs.Step.{Stepped, stopped, mark_or_stop, step_of}
+use Rattle.step.specs.declared.Next.TheVariants.{Mark}
+use Rattle.step.specs.Step.{Stepped, mark_or_stop, step_of}
 use Rattle.simulation.specs.Memory.{Memory, read_of, hub_rep, hand_words, write}
 use Rattle.simulation.specs.Left.{Sized}
 use Rattle.simulation.specs.Shell.{marked_in, next_in, finish_in, go_in}

@@ -2,7 +2,7 @@
 -- set up: memory that records left is left by records again, and memory that does not count as set up stays as it was, or a setup is accepted
 -- and records left it. So each record does what the contract of one record says, and all of them together what the model does.
 use mathlib.Core.Path.{◌≡◌, refl, sym, ap, ◌∙◌, subst}
-use mathlib.Core.Bool.{Bool, true, false, ◌||◌, ◌&&◌}
+use mathlib.Core.Bool.{Bool, true, false, ◌||◌}
 use mathlib.Core.List.{List, [], ◌∷◌, map}
 use Prim.Native.Nat.{ℕ, zero, suc, ◌%◌}
 use lib.ListN.{length, get_or}

@@ -14,7 +14,7 @@ use Rattle.model.specs.Store as Model
 use Rattle.model.specs.Store.{Store, start_worker, worker_at, slot_at, newest_of, with_doing, place, count_of}
 use Rattle.model.specs.Answer as Model-as-Answer
 use Rattle.model.specs.Versions.{stamp_slots, stamp}
-use Rattle.model.specs.Steps.{step_at, stopped_by, read_enter, read_stand, get_show, answer_for, goal_at, signed, total_found, found}
+use Rattle.model.specs.Steps.{step_at, stopped_by, read_enter, read_stand, get_show, goal_at, signed, total_found, found}
 use Rattle.model.specs.Marks.{number_of, mark_refusal, need_for, time_for}
 use Rattle.model.specs.Totals.{sign_of, row_at, goes_on, Sum}
 use Rattle.model.specs.Sums.{add_row}

@@ -49,7 +49,7 @@ use Rattle.simulation.proofs.Scans.{ranges_below, NearIn, lens_sum_lem}
 use Rattle.simulation.proofs.Ranges.{local, list, worker-tells, ready-exact}
 use Rattle.simulation.proofs.Laws.{get_d_inside, slots_long}
 use Rattle.simulation.proofs.Sound.{RangeIn, MarkIn, PlaceIn, Sound}
-use Rattle.simulation.proofs.Laid.{memory-path, hub_is, slots_is, newest_is, free_is, queue_is, lens_is, slot_is}
+use Rattle.simulation.proofs.Laid.{memory-path, hub_is, slots_is, newest_is, free_is, slot_is}
 use Rattle.simulation.proofs.Laid.{worker_at_lem, among, pool_short, list_is}
 
 ------------------------------------------------------------------------

@@ -1,6 +1,5 @@
 -- What it means that the code does with a record what the model does, and a refused record: it changes nothing.
 use mathlib.Core.Path.{◌≡◌, refl}
-use mathlib.Core.List.{List}
 use Prim.Native.Nat.{ℕ}
 use Rattle.model.specs.Rules.{Given}
 use Rattle.model.specs.Store as Model

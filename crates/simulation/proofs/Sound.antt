@@ -12,7 +12,7 @@ use Rattle.model.specs.Store as Model
 use Rattle.model.specs.Store.{mark_count, Store, Range, up, absent, last_clock, start_worker, worker_at, slot_at, newest_of}
 use Rattle.model.specs.Rights.{table_stands}
 use Rattle.model.specs.Rules.{Rules, Ruled}
-use Rattle.model.specs.Apply.{made_by, apply, apply_ruled, hub_after}
+use Rattle.model.specs.Apply.{made_by, apply_ruled, hub_after}
 use Rattle.model.specs.Demand.{Call, Plain, start_of, occurrences, All}
 use Rattle.model.specs.About.{about}
 use Rattle.model.specs.Reached.{sum_by, in_hand, Bounds}

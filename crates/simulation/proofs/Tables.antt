@@ -20,7 +20,6 @@ use Rattle.ready_sizes.proofs.Sizes.{and_both}
 use Rattle.ready_sizes.specs.Sizes.{sizes_fit}
 use Rattle.ready.specs.Ready.{scans_fit, ready_of}
 use Rattle.slots.specs.Slots.{slot_of}
-use Rattle.state.specs.declared.Hub.{Hub}
 use Rattle.state.specs.State.{standing, table_sound}
 use Rattle.simulation.specs.Memory.{Memory, with_hub, Result, answered}
 use Rattle.simulation.specs.Left.{Sized, Left, ready}

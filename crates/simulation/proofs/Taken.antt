@@ -11,7 +11,6 @@ use Rattle.model.specs.Store.{Store, worker_at, with_clock, with_slots, with_new
 use Rattle.model.specs.Steps.{step_at}
 use Rattle.values.specs.Meaning.{answer_of}
 use Rattle.values.specs.declared.Answer.{Answer}
-use Rattle.slots.specs.declared.Slot.{Slot}
 use Rattle.slots.specs.Slots.{slot_rep}
 use Rattle.worker.specs.declared.Worker.{Worker}
 use Rattle.worker.specs.Rep.{doing_rep, announced_rep, pool_rep, times_read, worker_rep}

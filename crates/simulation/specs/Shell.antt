@@ -1,10 +1,9 @@
 -- What the code does to memory: a record is decided, then refused, or it sets the hub up, begins an operation, or takes a step of a worker.
 -- The steps of one place are in step/specs/Step.antt and flush/specs/Flush.antt; here is what each writes where.
-use Rattle.std.specs.Prelude.{Bool, List, [], map, ℕ, ◌+◌, ◌*◌, ◌-◌, ◌/◌, ◌%◌, length, get_or, set, take, replicate}
+use Rattle.std.specs.Prelude.{Bool, List, [], map, ℕ, ◌+◌, ◌*◌, ◌-◌, ◌%◌, length, get_or, set, take}
 use Rattle.model.specs.Rules.{Given}
 use Rattle.lists.specs.Over.{over, over_at}
-use Rattle.model.specs.Record.{decode, rows_of}
-use Rattle.values.specs.declared.Answer.{Answer}
+use Rattle.model.specs.Record.{decode}
 use Rattle.values.specs.declared.Answer.TheVariants.{Ok, Going, Freed, Done, No}
 use Rattle.slots.specs.declared.Slot.{Slot}
 use Rattle.slots.specs.Slots.{made_to}

@@ -1,7 +1,7 @@
 -- What the code answers is what the model answers (`Demands`), and of the model it is known behind an accepted setup (`SameWithoutRead`). Memory that
 -- records left has one behind it; where there is none, nothing but a setup is accepted, and the same one in both runs.
 use mathlib.Core.Path.{◌≡◌, refl, sym, ap, ◌∙◌, subst}
-use mathlib.Core.Bool.{true, cond, ◌&&◌}
+use mathlib.Core.Bool.{true, ◌&&◌}
 use mathlib.Core.Logic.{◌⊎◌, inl, inr, ⊎_elim}
 use mathlib.Core.List.{List, [], ◌∷◌, ◌++◌, map, map-append}
 use Prim.Native.Nat.{ℕ}
@@ -11,28 +11,27 @@ use borrow.Author.Tests.{le-leb}
 use Rattle.lists.specs.Over.{over}
 use Rattle.lists.proofs.Over.{take-over}
 use Rattle.model.specs.Store.{Lent, Store, Hub, blank, up}
-use Rattle.model.specs.Rights.{each_of, right_fits, table_stands}
+use Rattle.model.specs.Rights.{table_stands}
 use Rattle.model.specs.Rules.{Rules, twelve_digits, in_force, Ruled, under}
-use Rattle.model.specs.Answer.{Answer, Ok, Applied}
+use Rattle.model.specs.Answer.{Ok, Applied}
 use Rattle.model.specs.Record.{SetUp, Begin, Step, Decoded, Asks, Refuses, decode, list_fits}
-use Rattle.model.specs.Apply.{in_ranges, fresh, set_up, obey, apply_decoded, apply, apply_ruled, hub_after}
-use Rattle.model.specs.Demand.{Event, events, Exchange, exchange}
+use Rattle.model.specs.Apply.{in_ranges, fresh, set_up, obey, apply_decoded, apply, apply_ruled}
+use Rattle.model.specs.Demand.{events, Exchange, exchange}
 use Rattle.model.proofs.Basic.{cond_both}
 use Rattle.theorem.proofs.Setup.{accepts}
 use Rattle.two_runs.specs.TwoRuns.{Pairwise, Alike, SameTo, told, table_in, WithoutRead}
 use Rattle.two_runs.proofs.TwoRunsWorker.{of_same}
 use Rattle.two_runs.proofs.TwoRunsRights.{same_without_read}
-use Rattle.state.specs.declared.Hub as Code
-use Rattle.state.specs.State.{table_kept, table_sound, standing}
-use Rattle.simulation.specs.Memory.{Memory, hub_rep, lent_in}
+use Rattle.state.specs.State.{table_sound, standing}
+use Rattle.simulation.specs.Memory.{Memory, hub_rep}
 use Rattle.simulation.specs.Left.{LeftByRecords, Left}
 use Rattle.simulation.specs.Holds.{Holds, sent}
-use Rattle.simulation.specs.Demands.{CallIn, Calls, exchanges}
+use Rattle.simulation.specs.Demands.{exchanges}
 use Rattle.simulation.proofs.Sound.{sound, reached}
 use Rattle.simulation.proofs.Laid.{cond_yes, hub_is}
 use Rattle.simulation.proofs.Compose.{events-append}
 use Rattle.simulation.proofs.Demands.{demands}
-use Rattle.unseen.specs.Unseen.{OtherValue, Differ, Unseen}
+use Rattle.unseen.specs.Unseen.{Differ, Unseen}
 
 ------------------------------------------------------------------------
 -- Records that differ as the model has it
