@@ -1,5 +1,6 @@
 // The sums of a total (H12.6, H12.9): what is added for a version, by the sign of its row, and the largest status.
 #![tactic(auto)]
+
 ghost use Rattle.std.specs.Prelude.{◌≡◌, cond, max, eqb};
 ghost use Rattle.model.specs.Totals.{sign_of};
 ghost use Rattle.model.specs.Store.{count_of, status_of};
