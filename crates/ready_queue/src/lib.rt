@@ -1,5 +1,6 @@
 // Whether the pools of the queue are in range: their ranges and their lengths, in the window.
 #![tactic(auto)]
+
 ghost use Rattle.std.specs.Prelude.{◌≡◌, ◌+◌, ◌<◌, ◌≤◌};
 ghost use Rattle.ready_queue.specs.Queue.{lens_fit, lens_sum, pools_fit};
 
@@ -12,6 +13,7 @@ fn wide32(x: u32) -> usize
 }
 
 // Whether the k pools whose lengths stand from place i on have 1 to so many ranges each.
+#[tactic(auto, unfolding(crate::specs::Queue::lens_fit))]
 fn lens_fit(lens: &[u32; 4096], i: usize, k: usize, most: u32) -> bool
     requires { i + k ≤ 4096 }
     ensures { result ≡ lens_fit lens.now i most k }
@@ -25,6 +27,7 @@ fn lens_fit(lens: &[u32; 4096], i: usize, k: usize, most: u32) -> bool
 }
 
 // How many ranges they have together.
+#[tactic(auto, unfolding(crate::specs::Queue::lens_sum))]
 fn lens_sum(lens: &[u32; 4096], i: usize, k: usize) -> usize
     requires { i + k ≤ 4096 }
     ensures { result ≡ lens_sum lens.now i k }
@@ -37,6 +40,7 @@ fn lens_sum(lens: &[u32; 4096], i: usize, k: usize) -> usize
 }
 
 // Whether the window lies in the memory, and its pools are in range: slots below n, batches of b.
+#[tactic(auto, unfolding(crate::specs::Queue::pools_fit))]
 pub fn pools_fit<'a>(
     w: Window,
     queue: &'a [u32; 12288],

@@ -1,0 +1,8 @@
+-- The loop's invariant: the sum is that of the first j lengths, each of which is below 2 ^ 32, so that 4,096 of them do not wrap.
+use mathlib.Core.Path.{◌≡◌}
+use Prim.Native.Nat.{◌*◌, ◌≤◌}
+use Rattle.ready_queue.specs.Queue.{lens_sum}
+use Rattle.ready_queue.proofs.lens_sum.Given as goal
+
+abbrev pub invariant-loop-j : goal.invariant-loop-j
+invariant-loop-j l = (l.sum ≡ lens_sum l.lens l.i l.j) × (l.sum ≤ 4294967296 * l.j)
