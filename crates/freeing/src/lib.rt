@@ -1,5 +1,6 @@
 // Flush (4): a needless version is unlinked and its slot freed.
 #![tactic(auto)]
+
 ghost use Rattle.std.specs.Prelude.{◌≡◌, ◌<◌};
 ghost use Rattle.versions.specs.Versions.{row_of};
 ghost use Rattle.freeing.specs.Freeing.{next_to_free, one_more, freed_step, freed_row, freed_free};
