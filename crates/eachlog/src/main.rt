@@ -2,10 +2,12 @@
 // slots the lent row has (2048 without one), and from which record on it has another number of them: eachlog [SLOTS [RECORD SLOTS [LIST [TABLE]]]].
 // LIST names the file with the list of totals, TABLE that with the table of rights.
 #![tactic(auto)]
+
 ghost use Rattle.std.specs.Prelude.{◌≤◌, length};
 
 use calls::Call;
 use state::Hub;
+use std::rt::Env;
 use tables::Table;
 use values::Answer;
 
@@ -37,18 +39,16 @@ fn number(buf: &[u8], n: usize) -> usize
 }
 
 // Argument i as a number; `other` where there is none.
-fn argument(i: usize, other: usize) -> usize {
-    let mut space = [0u8; 20];
-    let buf: &mut [u8] = &mut space;
-    let n = os::arg(i, buf);
-    if n == 0 {
-        return other;
+fn argument(rt: &impl Env, i: usize, other: usize) -> usize {
+    let mut buf = [0u8; 20];
+    match rt.arg(i, &mut buf) {
+        Ok(0) | Err(_) => other,
+        Ok(n) => number(&buf, n),
     }
-    number(buf, n)
 }
 
 // Writes the line of record k with this answer to standard output; answers whether it was written.
-fn write_answer(k: u64, answer: Answer) -> bool {
+fn write_answer(rt: &impl Print, k: u64, answer: Answer) -> bool {
     let mut kind_space = [0u16; 1];
     let kinds: &mut [u16] = &mut kind_space;
     let mut number_space = [0u64; 1];
@@ -59,12 +59,12 @@ fn write_answer(k: u64, answer: Answer) -> bool {
     let text: &mut [u8] = &mut text_space;
     let used = lines::write_lines(text, k, kinds, numbers, 1);
     let line = &text[..];
-    io::write_all(libc::STDOUT_FILENO, &line[0..used])
+    rt.write_all(&line[0..used]).is_ok()
 }
 
 // A hub with no worker, no register and no slot, to which the table was given. Such memory counts as not set up whatever is lent beside it, so that
 // no slot and zeros are lent.
-fn hub_with(table: &[u8]) -> Hub {
+fn hub_with(rt: &HostRuntime, table: &[u8]) -> Hub {
     let newest = [0u16; 256];
     let free = [0u16; 2048];
     let queue = [0u32; 12288];
@@ -85,15 +85,15 @@ fn hub_with(table: &[u8]) -> Hub {
     let answer = given.answer;
     // All but `Ok` is a refusal, and on memory that is not set up none but 24 is given.
     if answers::kind(answer) != 0 {
-        input::say(b"eachlog: the table is refused: 24\n");
+        input::say(rt, b"eachlog: the table is refused: 24\n");
     }
     given.hub
 }
 
-fn main() {
-    let long = argument(1, 2048);
-    let at = argument(2, 100000000);
-    let later = argument(3, 2048);
+fn main(rt: HostRuntime) {
+    let long = argument(&rt, 1, 2048);
+    let at = argument(&rt, 2, 100000000);
+    let later = argument(&rt, 3, 2048);
     let mut space = [0u8; 16];
     let rec: &mut [u8] = &mut space;
     let mut newest = [0u16; 256];
@@ -104,32 +104,30 @@ fn main() {
     // The list of totals: one byte more than the longest that a setup accepts.
     let mut list_space = [0u8; 4097];
     let list: &mut [u8] = &mut list_space;
-    let listed = input::read_named(4, list);
+    let listed = input::read_named(&rt, 4, list);
     if listed.failed {
-        input::say(b"eachlog: cannot read the list of totals\n");
+        input::say(&rt, b"eachlog: cannot read the list of totals\n");
         return;
     }
     let end = listed.n;
     // The table of rights: one byte more than the longest that is accepted.
     let mut table_space = [0u8; 513];
     let table: &mut [u8] = &mut table_space;
-    let tabled = input::read_named(5, table);
+    let tabled = input::read_named(&rt, 5, table);
     if tabled.failed {
-        input::say(b"eachlog: cannot read the table of rights\n");
+        input::say(&rt, b"eachlog: cannot read the table of rights\n");
         return;
     }
     let rows = tabled.n;
     let shared = &table[..];
     let none = slots::vacant();
     let mut slots = [none; 2048];
-    let mut hub = hub_with(&shared[0..rows]);
+    let mut hub = hub_with(&rt, &shared[0..rows]);
     let mut k: u64 = 0;
     let mut lent = long;
-    // Nothing says that the input ends, so the turns are counted, from a number that no run uses up.
-    let mut turns = u64::MAX;
-    while turns > 0 {
-        turns -= 1;
-        let got = input::fill(rec);
+    // Nothing says that the input ends, so the turns are counted, up to a number that no run reaches.
+    for _ in 0..u64::MAX {
+        let got = input::fill(&rt, rec);
         let n = got.n;
         // Where a read fails, what it has of a record is none.
         if got.failed | (n == 0) {
@@ -159,13 +157,13 @@ fn main() {
         slots = s;
         hub = h;
         let answer = called.answer;
-        if !write_answer(k, answer) {
-            input::say(b"eachlog: cannot write standard output\n");
+        if !write_answer(&rt, k, answer) {
+            input::say(&rt, b"eachlog: cannot write standard output\n");
             return;
         }
         if n < 16 {
             return;
         }
-        k = std::num::wrapping_add_u64(k, 1);
+        k = k.wrapping_add(1);
     }
 }

@@ -3,8 +3,8 @@
 // the put that had begun, refuses a new one and frees the slots. Then, a total meets such a value and is refused (H12.9), and a read shows it. The
 // records are those of the runs `changing` and `over` in crates/model/specs/Runs.antt, and the lines have to be their logs.
 #![tactic(auto)]
+
 use calls::Call;
-use libc::STDOUT_FILENO;
 use slots::Slot;
 use state::Hub;
 use values::{Content, Reading};
@@ -39,57 +39,38 @@ struct Memory {
     line: u64,
 }
 
-// The memory after a record with a list of totals; its line is written.
-fn after_with(m: Memory, list: &[u8], rec: [u8; 16]) -> Memory {
-    let hub = m.hub;
-    let slots = m.slots;
-    let mut newest = m.newest;
-    let mut free = m.free;
-    let mut queue = m.queue;
-    let mut lens = m.lens;
-    let mut merged = m.merged;
-    let line = m.line;
+// Applies a record, with a list of totals, to the memory; its line is written.
+fn after_with(rt: &impl Print, m: &mut Memory, list: &[u8], rec: [u8; 16]) {
     let done = hub::call_owned(
-        slots,
+        m.slots,
         2048,
-        hub,
+        m.hub,
         Call::Record,
         list,
         &rec,
         &mut [],
         &mut [],
-        &mut newest,
-        &mut free,
-        &mut queue,
-        &mut lens,
-        &mut merged,
+        &mut m.newest,
+        &mut m.free,
+        &mut m.queue,
+        &mut m.lens,
+        &mut m.merged,
     );
     let called = done.called;
+    m.slots = done.slots;
+    m.hub = called.hub;
     let answer = called.answer;
     let kinds = [answers::kind(answer)];
     let numbers = [answers::number(answer)];
-    let mut space = [0u8; 70];
-    let text: &mut [u8] = &mut space;
-    let used = lines::write_lines(text, line, &kinds, &numbers, 1);
-    let log = &text[..];
-    io::write_all(STDOUT_FILENO, &log[0..used]);
-    let left = called.hub;
-    let row = done.slots;
-    Memory {
-        hub: left,
-        slots: row,
-        newest,
-        free,
-        queue,
-        lens,
-        merged,
-        line: std::num::wrapping_add_u64(line, 1),
-    }
+    let mut text = [0u8; 70];
+    let used = lines::write_lines(&mut text, m.line, &kinds, &numbers, 1);
+    let _ = rt.write_all(&text[..used]);
+    m.line = m.line.wrapping_add(1);
 }
 
 // The list is read with a setup alone.
-fn after(m: Memory, rec: [u8; 16]) -> Memory {
-    after_with(m, &[], rec)
+fn after(rt: &impl Print, m: &mut Memory, rec: [u8; 16]) {
+    after_with(rt, m, &[], rec);
 }
 
 // A record of this operation, worker and value, on register 0 or group 0; the value is below 2^40.
@@ -102,19 +83,17 @@ fn record_of(operation: u8, worker: u8, value: u64) -> [u8; 16] {
     [operation, worker, 0, 0, 0, 0, 0, 0, a, b, c, d, e, 0, 0, 0]
 }
 
-// The memory after n steps of a worker.
-fn stepped(m: Memory, worker: u8, n: u8) -> Memory {
-    let mut left = m;
-    for i in 0..n {
-        left = after(left, record_of(STEP, worker, 0));
+// Applies n steps of a worker.
+fn stepped(rt: &impl Print, m: &mut Memory, worker: u8, n: u8) {
+    for _ in 0..n {
+        after(rt, m, record_of(STEP, worker, 0));
     }
-    left
 }
 
-// The memory after a record that begins an operation, and n steps of its worker.
-fn sent(m: Memory, operation: u8, worker: u8, value: u64, n: u8) -> Memory {
-    let begun = after(m, record_of(operation, worker, value));
-    stepped(begun, worker, n)
+// Applies a record that begins an operation, and n steps of its worker.
+fn sent(rt: &impl Print, m: &mut Memory, operation: u8, worker: u8, value: u64, n: u8) {
+    after(rt, m, record_of(operation, worker, value));
+    stepped(rt, m, worker, n);
 }
 
 // Memory that is not set up.
@@ -141,69 +120,70 @@ fn read(value: u64) -> Reading {
     }
 }
 
-// The memory with another value in slot i.
-fn stored(m: Memory, i: usize, value: u64) -> Memory {
-    let mut slots = m.slots;
-    let s = slots[i % 2048];
-    slots[i % 2048] = Slot {
+// Puts another value into slot i.
+fn stored(m: &mut Memory, i: usize, value: u64) {
+    let s = m.slots[i % 2048];
+    m.slots[i % 2048] = Slot {
         value: Content::Of(read(value)),
         ..s
     };
-    Memory { slots, ..m }
 }
 
-// The memory in which worker w has begun a put of another value on register 0.
-fn putting(m: Memory, w: usize, value: u64) -> Memory {
-    let mut hub = m.hub;
-    let old = hub.workers[w % 16];
+// Lets worker w have begun a put of another value on register 0.
+fn putting(m: &mut Memory, w: usize, value: u64) {
+    let old = m.hub.workers[w % 16];
     let doing = Doing::PutPublish {
         register: 0,
         reading: read(value),
     };
-    hub.workers[w % 16] = Worker { doing, ..old };
-    Memory { hub, ..m }
+    m.hub.workers[w % 16] = Worker { doing, ..old };
 }
 
 // Two workers, one register and four slots; worker 0 has put 1000000000000 into slot 1, worker 1 is about to put 1000000000001.
-fn earlier() -> Memory {
-    let fresh = after(blank(), [0, 2, 1, 0, 4, 0, 0, 0, 1, 0, 0, 0, 0, 0, 0, 0]);
-    let first = sent(fresh, PUT, 0, 1, 3);
-    let second = sent(first, PUT, 1, 1, 0);
-    putting(stored(second, 1, 1000000000000), 1, 1000000000001)
+fn earlier(rt: &impl Print, m: &mut Memory) {
+    after(rt, m, [0, 2, 1, 0, 4, 0, 0, 0, 1, 0, 0, 0, 0, 0, 0, 0]);
+    sent(rt, m, PUT, 0, 1, 3);
+    sent(rt, m, PUT, 1, 1, 0);
+    stored(m, 1, 1000000000000);
+    putting(m, 1, 1000000000001);
 }
 
-fn changing() {
-    let m = earlier();
+fn changing(rt: &impl Print) {
+    let mut memory = blank();
+    let m = &mut memory;
+    earlier(rt, m);
     // A get and a read show the stored value.
-    let a = sent(m, GET, 0, 0, 1);
-    let b = sent(a, OPEN, 0, 0, 2);
-    let c = sent(b, READ, 0, 0, 2);
-    let d = sent(c, CLOSE, 0, 0, 1);
+    sent(rt, m, GET, 0, 0, 1);
+    sent(rt, m, OPEN, 0, 0, 2);
+    sent(rt, m, READ, 0, 0, 2);
+    sent(rt, m, CLOSE, 0, 0, 1);
     // The put that had begun goes on; a new one is refused.
-    let e = stepped(d, 1, 3);
-    let f = sent(e, PUT, 0, 1000000000002, 0);
-    let g = sent(f, GET, 0, 0, 1);
+    stepped(rt, m, 1, 3);
+    sent(rt, m, PUT, 0, 1000000000002, 0);
+    sent(rt, m, GET, 0, 0, 1);
     // A smaller one covers the second large value, and two collects free both.
-    let h = sent(g, PUT, 0, 5, 9);
-    let i = sent(h, COLLECT, 1, 0, 8);
-    let j = sent(i, COLLECT, 1, 0, 7);
-    sent(j, GET, 1, 0, 1);
+    sent(rt, m, PUT, 0, 5, 9);
+    sent(rt, m, COLLECT, 1, 0, 8);
+    sent(rt, m, COLLECT, 1, 0, 7);
+    sent(rt, m, GET, 1, 0, 1);
 }
 
 // Two workers, two registers and six slots, and a total of both registers. Worker 0 has put 1000000000000 into slot 2.
-fn over() {
+fn over(rt: &impl Print) {
     let list = [0, 0, 0, 0, 0, 0, 1, 0];
     let setup = [0, 2, 2, 0, 6, 0, 0, 0, 1, 0, 0, 0, 0, 0, 0, 0];
-    let fresh = after_with(blank(), &list, setup);
-    let first = sent(fresh, PUT, 0, 1, 3);
-    let m = stored(first, 2, 1000000000000);
+    let mut memory = blank();
+    let m = &mut memory;
+    after_with(rt, m, &list, setup);
+    sent(rt, m, PUT, 0, 1, 3);
+    stored(m, 2, 1000000000000);
     // The total is refused at the value, its worker is idle then, and the snapshot stays open.
-    let a = sent(m, OPEN, 1, 0, 2);
-    let b = sent(a, TOTAL, 1, 0, 3);
-    sent(b, READ, 1, 0, 2);
+    sent(rt, m, OPEN, 1, 0, 2);
+    sent(rt, m, TOTAL, 1, 0, 3);
+    sent(rt, m, READ, 1, 0, 2);
 }
 
-fn main() {
-    changing();
-    over();
+fn main(rt: HostRuntime) {
+    changing(&rt);
+    over(&rt);
 }

@@ -2,11 +2,13 @@
 // next read. The first argument names the file with the list of totals, the second that with the table of rights (H10.7, H15.11). This crate owns
 // the memory of the hub.
 #![tactic(auto)]
+
 use state::Hub;
 use tables::Table;
 
 // The hub without setup: no worker, no register, no slot, and the table of rights, where it is accepted.
 fn with_table<'a>(
+    rt: &HostRuntime,
     row: &'a [[u64; 6]],
     table: &'a [u8],
     newest: &'a [u16; 256],
@@ -30,13 +32,13 @@ fn with_table<'a>(
     let answer = given.answer;
     // All but `Ok` is a refusal, and on memory that is not set up none but 24 is given.
     if answers::kind(answer) != 0 {
-        input::say(b"hublog: the table is refused: 24\n");
+        input::say(rt, b"hublog: the table is refused: 24\n");
     }
     given.hub
 }
 
 // Logs the records of standard input, with the list of totals and the table of rights.
-fn log_input<'a>(list: &'a [u8], table: &'a [u8]) {
+fn log_input(rt: &HostRuntime, list: &[u8], table: &[u8]) {
     // A read brings at most 16384 records; the text has room for as many lines of 70 bytes: none is longer.
     let mut block_space = [0u8; 262144];
     let block: &mut [u8] = &mut block_space;
@@ -54,17 +56,15 @@ fn log_input<'a>(list: &'a [u8], table: &'a [u8]) {
     // The slots, six words each.
     let mut row_space = [[0u64; 6]; 2048];
     let row: &mut [[u64; 6]] = &mut row_space;
-    let mut hub = with_table(row, table, &newest, &free, &queue, &lens, &merged);
+    let mut hub = with_table(rt, row, table, &newest, &free, &queue, &lens, &merged);
     // The number of the next record, and how many of its bytes stand at the start of the block.
     let mut first: u64 = 0;
     let mut kept: usize = 0;
-    // Nothing says that the input ends, so the turns are counted, from a number that no run uses up.
-    let mut turns = u64::MAX;
-    while turns > 0 {
-        turns -= 1;
-        let got = input::read_after(block, kept);
+    // Nothing says that the input ends, so the turns are counted, up to a number that no run reaches.
+    for _ in 0..u64::MAX {
+        let got = input::read_after(rt, block, kept);
         if got.failed {
-            input::say(b"hublog: cannot read standard input\n");
+            input::say(rt, b"hublog: cannot read standard input\n");
             return;
         }
         let n = got.n;
@@ -91,38 +91,38 @@ fn log_input<'a>(list: &'a [u8], table: &'a [u8]) {
         let h = done.hub;
         hub = h;
         let used = done.used;
-        if !io::write_all(libc::STDOUT_FILENO, &text[0..used]) {
-            input::say(b"hublog: cannot write standard output\n");
+        if rt.write_all(&text[0..used]).is_err() {
+            input::say(rt, b"hublog: cannot write standard output\n");
             return;
         }
         if ended {
             return;
         }
-        first = std::num::wrapping_add_u64(first, done.count as u64);
+        first = first.wrapping_add(done.count as u64);
         kept = input_parts::keep_rest(block, end, n);
     }
 }
 
-fn main() {
+fn main(rt: HostRuntime) {
     // The list of totals: one byte more than the longest that a setup accepts.
     let mut list_space = [0u8; 4097];
     let list: &mut [u8] = &mut list_space;
-    let listed = input::read_named(1, list);
+    let listed = input::read_named(&rt, 1, list);
     if listed.failed {
-        input::say(b"hublog: cannot read the list of totals\n");
+        input::say(&rt, b"hublog: cannot read the list of totals\n");
         return;
     }
     let long = listed.n;
     // The table of rights: one byte more than the longest that is accepted.
     let mut table_space = [0u8; 513];
     let table: &mut [u8] = &mut table_space;
-    let tabled = input::read_named(2, table);
+    let tabled = input::read_named(&rt, 2, table);
     if tabled.failed {
-        input::say(b"hublog: cannot read the table of rights\n");
+        input::say(&rt, b"hublog: cannot read the table of rights\n");
         return;
     }
     let rows = tabled.n;
     let given_table = &table[..];
     let given_list = &list[..];
-    log_input(&given_list[0..long], &given_table[0..rows]);
+    log_input(&rt, &given_list[0..long], &given_table[0..rows]);
 }

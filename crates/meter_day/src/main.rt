@@ -1,6 +1,7 @@
 // An example of a program over the store: two meters, and a snapshot that keeps its moment while new readings come in. It makes its
 // records itself, applies them as one buffer and prints their log lines.
 #![tactic(auto)]
+
 use state::Hub;
 
 // Writes record k: the operation, the worker, the register and the value (H3.3 of docs/HUB.md). Past the end nothing is written.
@@ -29,7 +30,7 @@ fn write_steps(out: &mut [u8], k: usize, worker: u8, n: usize) -> usize {
     let mut at = k;
     while i < n {
         write_record(out, at, 7, worker, 0, 0);
-        at = std::num::wrapping_add_usize(at, 1);
+        at = at.wrapping_add(1);
         i += 1;
     }
     at
@@ -46,11 +47,11 @@ fn write_operation(
     n: usize,
 ) -> usize {
     write_record(out, k, operation, worker, register, value);
-    let next = std::num::wrapping_add_usize(k, 1);
+    let next = k.wrapping_add(1);
     write_steps(out, next, worker, n)
 }
 
-fn main() {
+fn main(rt: HostRuntime) {
     // 22 records.
     let mut space = [0u8; 352];
     let bytes: &mut [u8] = &mut space;
@@ -100,7 +101,5 @@ fn main() {
     let text: &mut [u8] = &mut text_space;
     let used = lines::write_lines(text, 0, kinds, numbers, done.count);
     let log = &text[..];
-    if io::write_all(libc::STDOUT_FILENO, &log[0..used]) {
-        return;
-    }
+    let _ = rt.write_all(&log[0..used]);
 }

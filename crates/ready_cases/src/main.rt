@@ -3,9 +3,8 @@
 // of each kind is put at the largest value in its range, and at one more, each alone in memory that is in its ranges. A line names the number and
 // the value, and says whether the memory counts as set up then. What records are answered where it does not is in the runs of `hublog` and `eachlog`.
 #![tactic(auto)]
-mod memory;
 
-use libc::STDOUT_FILENO;
+mod memory;
 
 // The numbers, in their order, and their largest values.
 const NAMES: [[u8; 32]; 33] = [
@@ -44,19 +43,19 @@ const NAMES: [[u8; 32]; 33] = [
     *b"mark read = 11                  ",
 ];
 
-fn write(bytes: &[u8]) {
-    io::write_all(STDOUT_FILENO, bytes);
+fn write(rt: &impl Print, bytes: &[u8]) {
+    let _ = rt.write_all(bytes);
 }
 
 fn name_of(k: usize) -> [u8; 32] {
     NAMES[k % 33]
 }
 
-fn write_word(yes: bool) {
+fn write_word(rt: &impl Print, yes: bool) {
     if yes {
-        write(b"yes");
+        write(rt, b"yes");
     } else {
-        write(b"no");
+        write(rt, b"no");
     }
 }
 
@@ -68,28 +67,28 @@ fn ready_with(k: usize, value: u64) -> bool {
 }
 
 // Number k at this value and at one more, under a name.
-fn show(name: &[u8], k: usize, value: u64) {
-    write(name);
-    write_word(ready_with(k, value));
-    write(b", one more: ");
-    write_word(ready_with(k, std::num::wrapping_add_u64(value, 1)));
-    write(b"\n");
+fn show(rt: &impl Print, name: &[u8], k: usize, value: u64) {
+    write(rt, name);
+    write_word(rt, ready_with(k, value));
+    write(rt, b", one more: ");
+    write_word(rt, ready_with(k, value.wrapping_add(1)));
+    write(rt, b"\n");
 }
 
 // Each number at its limit.
-fn show_all() {
+fn show_all(rt: &impl Print) {
     let limits = memory::limits();
     for k in 0..33usize {
         let name = name_of(k);
-        show(&name, k, limits[k / 11][k % 11]);
+        show(rt, &name, k, limits[k / 11][k % 11]);
     }
 }
 
-fn main() {
-    show_all();
+fn main(rt: HostRuntime) {
+    show_all(&rt);
     // The list in hand has no more ranges than there are slots besides the newest versions.
-    show(b"N = 4B + V - 1                  ", 2, 61);
+    show(&rt, b"N = 4B + V - 1                  ", 2, 61);
     // Behind the workers all marks are read at once.
-    show(b"times read = P + 11             ", 27, 17);
-    show(b"times read = P + 12             ", 27, 18);
+    show(&rt, b"times read = P + 11             ", 27, 17);
+    show(&rt, b"times read = P + 12             ", 27, 18);
 }

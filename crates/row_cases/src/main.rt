@@ -1,7 +1,7 @@
 // The cases of the read-out row in H11 of docs/HUB.md, and their neighbours: for each the number of the refusal, 0 where the row is
 // written and 255 where there is no reading, and then every byte of the lent buffer, as bytes on standard output.
 #![tactic(auto)]
-use libc::STDOUT_FILENO;
+
 use row::RowAnswer;
 use values::{Content, Reading};
 
@@ -14,50 +14,50 @@ fn number_of(answer: RowAnswer) -> u8 {
 }
 
 // Hands what a version holds to the row writer, and shows the outcome on standard output.
-fn outcome(out: &mut [u8], register: u16, content: Content) {
+fn outcome(rt: &impl Print, out: &mut [u8], register: u16, content: Content) {
     let answer = row::write_row(out, register, 16909060, content);
     let number = [number_of(answer)];
-    io::write_all(STDOUT_FILENO, &number);
-    io::write_all(STDOUT_FILENO, out);
+    let _ = rt.write_all(&number);
+    let _ = rt.write_all(out);
 }
 
 // With a reading of this status.
-fn show_as(out: &mut [u8], register: u16, status: u8) {
+fn show_as(rt: &impl Print, out: &mut [u8], register: u16, status: u8) {
     let reading = Reading {
         count: 72623859790382856,
         status,
     };
-    outcome(out, register, Content::Of(reading));
+    outcome(rt, out, register, Content::Of(reading));
 }
 
 // With a reading that was read.
-fn show(out: &mut [u8], register: u16) {
-    show_as(out, register, 0);
+fn show(rt: &impl Print, out: &mut [u8], register: u16) {
+    show_as(rt, out, register, 0);
 }
 
 // Without one.
-fn show_none(out: &mut [u8], register: u16) {
-    outcome(out, register, Content::NoReading);
+fn show_none(rt: &impl Print, out: &mut [u8], register: u16) {
+    outcome(rt, out, register, Content::NoReading);
 }
 
-fn main() {
+fn main(rt: HostRuntime) {
     let mut short = [9; 15];
-    show(&mut short, 0);
+    show(&rt, &mut short, 0);
     let mut first = [9; 16];
-    show(&mut first, 0);
+    show(&rt, &mut first, 0);
     let mut cut = [9; 31];
-    show(&mut cut, 1);
+    show(&rt, &mut cut, 1);
     let mut second = [9; 32];
-    show(&mut second, 1);
+    show(&rt, &mut second, 1);
     let mut absent = [9; 32];
-    show(&mut absent, 256);
-    show_none(&mut [9; 15], 0);
-    show_none(&mut [9; 16], 0);
-    show_none(&mut [9; 32], 256);
-    show_as(&mut [9; 16], 0, 1);
-    show_as(&mut [9; 16], 0, 2);
-    show_as(&mut [9; 16], 0, 3);
-    show_as(&mut [9; 15], 0, 3);
-    show_as(&mut [9; 16], 256, 3);
-    show_as(&mut [9; 32], 1, 2);
+    show(&rt, &mut absent, 256);
+    show_none(&rt, &mut [9; 15], 0);
+    show_none(&rt, &mut [9; 16], 0);
+    show_none(&rt, &mut [9; 32], 256);
+    show_as(&rt, &mut [9; 16], 0, 1);
+    show_as(&rt, &mut [9; 16], 0, 2);
+    show_as(&rt, &mut [9; 16], 0, 3);
+    show_as(&rt, &mut [9; 15], 0, 3);
+    show_as(&rt, &mut [9; 16], 256, 3);
+    show_as(&rt, &mut [9; 32], 1, 2);
 }
