@@ -1,5 +1,6 @@
 // The read-out row: H9 of docs/HUB.md.
 #![tactic(auto)]
+
 ghost use Rattle.std.specs.Prelude.{◌≡◌, ◌+◌, ◌≤◌, length};
 ghost use Rattle.lists.specs.Over.{over_at};
 ghost use Rattle.model.specs.Row.{bytes_of, row_bytes, write_row};

@@ -1,5 +1,6 @@
 // The list of totals that comes with a setup (H12.1 to H12.3): whether it is accepted, and its rows as a hub keeps them.
 #![tactic(auto)]
+
 ghost use Rattle.std.specs.Prelude.{◌≡◌, ◌&&◌, ◌≤◌, ltb, leb, take};
 ghost use Rattle.lists.specs.Over.{over};
 ghost use Rattle.model.specs.Totals.{group_of, row_fits, before};
