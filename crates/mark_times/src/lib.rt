@@ -1,5 +1,6 @@
 // Flush (2) of the marks: their times, read at once behind those of the workers.
 #![tactic(auto)]
+
 ghost use Rattle.std.specs.Prelude.{◌≡◌, ◌+◌, ◌*◌, ◌≤◌, ◌<◌};
 ghost use Rattle.lists.specs.Over.{over_at};
 
