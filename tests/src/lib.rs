@@ -17,10 +17,10 @@ use std::thread;
 fn program(variable: &str) -> OsString {
     std::env::var_os(variable).unwrap_or_else(|| {
         panic!(
-            "{variable} is not set: in the top folder prove and build the programs with \
-             `rt check hublog && rt check eachlog && rt check rows`, and run \
-             `HUBLOG=$PWD/target/bin/hublog EACHLOG=$PWD/target/bin/eachlog \
-             ROWS=$PWD/target/bin/rows cargo test --offline --manifest-path tests/Cargo.toml`"
+            "{variable} is not set: prove and build the programs with `rt run </dev/null` in each of \
+             crates/hublog, crates/eachlog and crates/rows, and run in the top folder \
+             `HUBLOG=$PWD/crates/hublog/out/hublog EACHLOG=$PWD/crates/eachlog/out/eachlog \
+             ROWS=$PWD/crates/rows/out/rows cargo test --offline --manifest-path tests/Cargo.toml`"
         )
     })
 }
