@@ -1,5 +1,6 @@
 // Whether the numbers that a worker's place names are in range.
 #![tactic(auto)]
+
 ghost use Rattle.std.specs.Prelude.{◌≡◌, ◌≤◌};
 ghost use Rattle.ready_place.specs.Place.{named_below, purpose_fits, read_fits, place_fits};
 
