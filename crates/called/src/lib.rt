@@ -1,5 +1,6 @@
 // What a call gives back, whatever it asks.
 #![tactic(auto)]
+
 use state::Hub;
 use values::Answer;
 
