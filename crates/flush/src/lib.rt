@@ -1,5 +1,6 @@
 // Put (3) and flush (1): functions of just what they change, in lent memory.
 #![tactic(auto)]
+
 ghost use Rattle.std.specs.Prelude.{◌≡◌, ◌<◌, length};
 ghost use Rattle.lists.specs.Over.{over};
 ghost use Rattle.ranges.specs.Words.{flat};
@@ -24,6 +25,7 @@ pub struct Handed {
 }
 
 // Put (3), with the batch size: the covered version's range joins the n ranges of the local pool.
+#[tactic(auto, unfolding(crate::specs::Flush::handed_on))]
 pub fn put_hand_in(row: &[[u64; 6]], n: usize, covered: u16, size: u8) -> Handed
     ensures { result ≡ handed_on (row_of row.now) n covered size }
 {
