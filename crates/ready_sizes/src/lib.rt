@@ -1,5 +1,6 @@
 // Whether the sizes and counts of a hub, and the window of its queue, are in range.
 #![tactic(auto)]
+
 ghost use Rattle.std.specs.Prelude.{◌≡◌, ◌-◌};
 ghost use Rattle.ready_sizes.specs.Sizes.{window_fits, sizes_fit};
 
