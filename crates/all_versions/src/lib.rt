@@ -1,5 +1,6 @@
 // All version slots of a row of words: the test of neighbours, and a setup.
 #![tactic(auto)]
+
 ghost use Rattle.std.specs.Prelude.{◌≡◌};
 ghost use Rattle.slots.specs.Slots.{linked_to, made_to};
 ghost use Rattle.versions.specs.Versions.{row_of};
