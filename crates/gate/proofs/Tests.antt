@@ -1,10 +1,10 @@
 -- One law about the decision on a begin: a claim that holds of each of its refusals, and of the start of a worker below p, holds of it.
 use mathlib.Core.Path.{◌≡◌, sym, subst}
 use mathlib.Core.Bool.{Bool, true, cond}
-use mathlib.Core.List.{List, []}
+use mathlib.Core.List.{List}
 use Prim.Native.Nat.{ℕ, ◌<◌}
 use native.Mathlib.Omega.{arith}
-use lib.Dec.{ltb, eqb}
+use lib.Dec.{ltb}
 use Rattle.model.specs.Rules.{none_given, in_force}
 use Rattle.model.specs.Record.{Operation}
 use Rattle.model.specs.Demand.{occurrences}

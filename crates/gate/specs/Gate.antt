@@ -1,5 +1,5 @@
 -- The begin of an operation, as the code has it: the model's tests and its first place, of what is known in memory.
-use Rattle.std.specs.Prelude.{Bool, true, false, cond, List, [], ℕ, ltb, eqb}
+use Rattle.std.specs.Prelude.{Bool, true, false, cond, List, ℕ, ltb, eqb}
 use Rattle.model.specs.Rules.{none_given, in_force}
 use Rattle.model.specs.Record.{Operation}
 use Rattle.model.specs.Marks as Model

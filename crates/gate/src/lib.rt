@@ -2,6 +2,7 @@
 // the hub comes as numbers and lent arrays: v registers, the rows of totals, of which the first n count, the rows of rights, of which the first
 // `granted` count, the marks, and which of them each of the first p workers reads.
 #![tactic(auto)]
+
 ghost use Rattle.std.specs.Prelude.{◌≡◌, false, [], ◌≤◌, ltb, take};
 ghost use Rattle.model.specs.Record as Model;
 ghost use Rattle.model.specs.Apply.{tested};

@@ -1,0 +1,14 @@
+-- `open` meets its contract: its tests are those that the definition makes of an open.
+use Rattle.model.specs.Apply.{refusal}
+use Rattle.marks.specs.Marks.{refusal_in}
+use Rattle.gate.specs.Gate.{started}
+use Rattle.gate.proofs.open.Goals as goal
+
+pub returns : goal.returns
+unfolding refusal started refusal_in
+returns c =
+    rw (
+      c.start.ensures,
+      c.unless-k-2.ensures,
+      c.unless-k.ensures,
+    )
