@@ -1,5 +1,6 @@
 // One row given EN 13757-3 digits, and given back its old form: H14 of docs/HUB.md.
 #![tactic(auto)]
+
 ghost use Rattle.std.specs.Prelude.{◌≡◌, cond, ◌&&◌, ◌<◌, eqb, length, get_or};
 ghost use Rattle.lists.specs.Over.{over_at};
 ghost use Rattle.model.specs.Row.{bytes_of};
