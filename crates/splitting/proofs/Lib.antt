@@ -1,4 +1,3 @@
-pub mod PartLaws
 pub mod PoolLaws
 pub mod RequeueLaws
 pub mod SplitLaws

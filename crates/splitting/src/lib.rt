@@ -1,5 +1,6 @@
 // Flush (3): the merged list is split, and what is needed goes back to the queue with the local pool.
 #![tactic(auto)]
+
 ghost use Rattle.std.specs.Prelude.{◌≡◌, reverse, ◌-◌, ◌≤◌, ◌<◌, length, take};
 ghost use Rattle.lists.specs.Over.{over};
 ghost use Rattle.model.specs.Ranges.{needed_of, needless_of};
