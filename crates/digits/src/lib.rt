@@ -1,5 +1,6 @@
 // Stored rows given EN 13757-3 digits, and given back their old form, within their buffer: H14 of docs/HUB.md.
 #![tactic(auto)]
+
 ghost use Rattle.std.specs.Prelude.{◌≡◌, ◌*◌, ◌≤◌, length};
 ghost use Rattle.model.specs.Digits.{refusal_for, all_may_be, all_in_form, to_new, to_old};
 ghost use Rattle.model.specs.Digits as Model;

@@ -1,5 +1,6 @@
 // The log's lines (H10).
 #![tactic(auto)]
+
 ghost use Rattle.std.specs.Prelude.{◌≡◌, List, [], ◌∷◌, ◌++◌, ℕ, ◌+◌, ◌-◌, ◌*◌, ◌/◌, ◌≤◌, ◌<◌, min, length, take, drop, replicate};
 ghost use Rattle.model.specs.Log.{decimal};
 ghost use Rattle.lines.specs.Digits.{Spelled, tens_of, lead_of};
