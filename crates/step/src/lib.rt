@@ -1,6 +1,7 @@
 // One step of a worker: the place is taken apart once, here. Steps on slots, on the clock and on the announced time are done at once; put (3)
 // and flush (1) to (4), which move pools, times and readers, and the change of a mark, are named for the caller.
 #![tactic(auto)]
+
 ghost use Rattle.std.specs.Prelude.{◌≡◌, take};
 ghost use Rattle.versions.specs.Versions.{row_of};
 ghost use Rattle.step.specs.Step.{newest_at, next_free, put_publish_step, put_stamp_step, need_of, read_enter_step, total_found_of};
