@@ -1,5 +1,6 @@
 // A setup that is accepted: the hub that it makes, and what it writes into lent memory.
 #![tactic(auto)]
+
 ghost use Rattle.std.specs.Prelude.{◌≡◌, cond, ◌&&◌, ◌-◌, leb, take};
 ghost use Rattle.model.specs.Rights.{each_of, right_fits};
 ghost use Rattle.slots.specs.Slots.{made_to};
