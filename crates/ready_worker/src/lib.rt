@@ -1,5 +1,6 @@
 // Whether a worker's record is in range: its place, its local pool and the list that it has in hand.
 #![tactic(auto)]
+
 ghost use Rattle.std.specs.Prelude.{◌≡◌, ◌&&◌, ◌<◌, ◌≤◌, leb};
 ghost use Rattle.ready_worker.specs.Worker.{pool_fits, list_fits, hand_fits, worker_fits};
 
