@@ -1,17 +1,13 @@
--- Flush (3): the counts that allow a split, and the split and the pools queued, put together, as what it answers and leaves, whatever the
--- space that it works in held.
+-- Flush (3): the split and the pools queued, put together, as what it answers and leaves, whatever the space that it works in held.
 use mathlib.Core.Path.{◌≡◌, refl, ap, ◌∙◌}
-use mathlib.Core.Bool.{Bool, true, false, cond, not, ◌&&◌}
+use mathlib.Core.Bool.{Bool, true, false, cond, not}
 use mathlib.Core.List.{List, [], ◌∷◌, reverse}
-use Prim.Native.Nat.{ℕ, suc, ◌+◌, ◌-◌, ◌*◌, ◌<◌, ◌≤◌}
+use Prim.Native.Nat.{ℕ, suc, ◌+◌, ◌-◌, ◌*◌, ◌≤◌}
 use native.Mathlib.Omega.{arith}
-use lib.Dec.{ltb, leb}
 use lib.ListN.{length, take, replicate}
-use borrow.Author.Tests.{ltb-true, leb-true}
 use Rattle.lists.specs.Over.{over}
 use Rattle.model.specs.Store.{Range}
 use Rattle.model.specs.Ranges.{needed, filter, needed_of, needless_of}
-use Rattle.model.proofs.Basic.{and_both}
 use Rattle.ranges.specs.Words.{ranges_at, flat}
 use Rattle.ranges.proofs.WordLaws.{length-ranges_at, length-flat}
 use Rattle.worker.specs.declared.Pool.{Pool}
@@ -22,16 +18,6 @@ use Rattle.flush.specs.Flush.{part_of, with_part, times_of}
 use Rattle.splitting.specs.Splitting.{requeued, joined_after, may_cut, needless_by, needed_by}
 use Rattle.splitting.specs.Splitting.{split_left, split_queue, split_merged, split_needed, split_local, split_joined}
 use Rattle.splitting.proofs.RequeueLaws.{requeued-pad, joined-pad}
-
-------------------------------------------------------------------------
--- The counts
-
-pub split_facts : (w m t l : ℕ) → may_cut w m t l ≡ true → (w < 16) × (m ≤ 256) × (t ≤ 28) × (l ≤ 64)
-split_facts w m t l e =
-    let a = and_both (ltb w 16 && leb m 256) (leb t 28 && leb l 64) e in
-    let b = and_both (ltb w 16) (leb m 256) a.0 in
-    let c = and_both (leb t 28) (leb l 64) a.1 in
-    (ltb-true w 16 b.0, leb-true m 256 b.1, leb-true t 28 c.0, leb-true l 64 c.1)
 
 -- the needed and the needless ranges are all ranges
 parts : (p : Range → Bool) (l : List Range) → length (filter p l) + length (filter (λ ρ. not (p ρ)) l) ≡ length l
