@@ -1,6 +1,6 @@
 -- What the decision on a record says of the worker: an operation begins, and a step is taken, only where the memory counts as set up and of a
 -- worker below p. The worker that a record names stands in its byte 1.
-use mathlib.Core.Path.{◌≡◌, refl, sym, subst}
+use mathlib.Core.Path.{◌≡◌, refl, subst}
 use mathlib.Core.Bool.{Bool, true, false, cond, ◌&&◌}
 use mathlib.Core.List.{List}
 use Prim.Native.Nat.{ℕ, zero, suc, ◌<◌}

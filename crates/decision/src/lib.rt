@@ -1,5 +1,6 @@
 // The decision on a record: which refusal it meets, or what is to be done.
 #![tactic(auto)]
+
 ghost use Rattle.std.specs.Prelude.{◌≡◌, ◌≤◌, take};
 ghost use Rattle.places.specs.About.{about_of};
 ghost use Rattle.record.specs.Meaning.{decoded_of};

@@ -1,15 +1,13 @@
 -- `sizes_ok` meets its contract: the same tests; a clock of four bytes is at most the last.
 use mathlib.Core.Path.{◌≡◌, refl}
 use mathlib.Core.Bool.{Bool, true, false, ◌&&◌}
-use Prim.Native.Nat.{ℕ, ◌≤◌}
+use Prim.Native.Nat.{◌≤◌}
 use native.Mathlib.Omega.{arith}
 use lib.Dec.{leb}
 use borrow.Author.Tests.{le-leb}
 use Rattle.model.specs.Store.{last_clock}
 use Rattle.model.specs.Apply.{in_ranges}
-use borrow.Author.Rules.{rules}
-use Rattle.decision.proofs.sizes_ok.Statement.{statement}
-use Rattle.decision.proofs.sizes_ok.Tie as tie
+use Rattle.decision.proofs.sizes_ok.Goals as goal
 
 regroup : (x y g l : Bool) → x && (y && (g && l)) ≡ x && y && (g && true) && l
 regroup true true true l = refl
@@ -17,17 +15,11 @@ regroup true true false l = refl
 regroup true false g l = refl
 regroup false y g l = refl
 
-wide16-requires : tie.Need-wide16-requires
-wide16-requires c κs = search rules
-
-returns : tie.Need-returns
+pub returns : goal.returns
 unfolding in_ranges
 returns c =
-    let a = c.before.args in
-    let last : a.clock ≤ last_clock = omega (arith, c.before.ranges) in
+    let a = c.args in
+    let last : a.clock ≤ last_clock = omega (arith, c.ranges) in
     rw (c.wide16.ensures, le-leb a.clock last_clock last)
     (regroup (leb 1 a.p && leb a.p 16 && (leb 1 a.v && leb a.v 256)) (leb a.v a.n && leb a.n 2048) (leb 1 a.clock)
     (leb a.n a.long))
-
-pub sizes_ok_spec : {M : Type 1} → statement M
-sizes_ok_spec = tie.close (tie.spec wide16-requires returns)
