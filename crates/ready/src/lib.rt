@@ -1,5 +1,6 @@
 // Whether lent memory counts as set up: a test of all of it, by scans without branches.
 #![tactic(auto)]
+
 ghost use Rattle.std.specs.Prelude.{◌≡◌, ◌≤◌};
 ghost use Rattle.ready.specs.Ready.{workers_fit, ready_of, scans_fit};
 
