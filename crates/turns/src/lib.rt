@@ -1,6 +1,7 @@
 // A turn: what one record does to lent memory, and what it leaves to the loop, which holds the workers' records. Everything that lies in arrays of
 // numbers is changed here; the worker's place, its announced time and its pool are the loop's.
 #![tactic(auto)]
+
 ghost use Rattle.std.specs.Prelude.{◌≡◌, ◌+◌, ◌<◌, ◌%◌, length, get_or, set};
 ghost use Rattle.values.specs.declared.Answer.TheVariants.{Going, Done};
 ghost use Rattle.arrays.specs.Arrays.{short};
