@@ -1,6 +1,4 @@
--- `flush_free` meets its contract: the slot is what `next_to_free` ensures, and the calls that unlink it and push it on the free slots ensure
--- the rest.
--- the slot, its version and how many are free by their names
+-- The slot is what `next_to_free` ensures, and the calls that unlink it and push it on the free slots ensure the rest.
 use mathlib.Core.Path.{◌≡◌}
 use mathlib.Core.List.{List}
 use Prim.Native.Nat.{ℕ}
@@ -11,6 +9,7 @@ use Rattle.versions.specs.Versions.{row_of, slot_at_in, unlinked_in}
 use Rattle.freeing.specs.Freeing.{next_to_free, one_more, freed_step, freed_row, freed_free}
 use Rattle.freeing.proofs.flush_free.Goals as goal
 
+-- the slot, its version and how many are free by their names
 freed : (l : List Slot) (free merged : List ℕ) (w m n i k : ℕ) (v : Slot) (l' : List Slot) (free' : List ℕ) → i ≡ next_to_free merged w m
     → v ≡ slot_at_in l i → k ≡ one_more n → l' ≡ unlinked_in l i → free' ≡ set free n (short i)
     → (record { slot = short i; older = short v.older; free = k } ≡ freed_step l merged w m n)
