@@ -17,10 +17,9 @@ use std::thread;
 fn program(variable: &str) -> OsString {
     std::env::var_os(variable).unwrap_or_else(|| {
         panic!(
-            "{variable} is not set: prove and build the programs with `rt run </dev/null` in each of \
-             crates/hublog, crates/eachlog and crates/rows, and run in the top folder \
-             `HUBLOG=$PWD/crates/hublog/out/hublog EACHLOG=$PWD/crates/eachlog/out/eachlog \
-             ROWS=$PWD/crates/rows/out/rows cargo test --offline --manifest-path tests/Cargo.toml`"
+            "{variable} is not set: run in the top folder, which proves and builds the programs first, \
+             `HUBLOG=$(tools/program hublog) EACHLOG=$(tools/program eachlog) ROWS=$(tools/program rows) \
+             cargo test --offline --manifest-path tests/Cargo.toml`"
         )
     })
 }
