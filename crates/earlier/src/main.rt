@@ -57,7 +57,8 @@ fn after_with(rt: &impl Print, m: &mut Memory, list: &[u8], rec: [u8; 16]) {
         &mut m.merged,
     );
     let called = done.called;
-    m.slots = done.slots;
+    let row = done.slots;
+    m.slots = row;
     m.hub = called.hub;
     let answer = called.answer;
     let kinds = [answers::kind(answer)];

@@ -26,12 +26,10 @@ fn write_status(out: &mut [u8], k: usize, status: u8) {
 
 // Writes n steps of a worker from record k on; answers the number of the next record.
 fn write_steps(out: &mut [u8], k: usize, worker: u8, n: usize) -> usize {
-    let mut i: usize = 0;
     let mut at = k;
-    while i < n {
+    for _ in 0..n {
         write_record(out, at, 7, worker, 0, 0);
         at = at.wrapping_add(1);
-        i += 1;
     }
     at
 }
