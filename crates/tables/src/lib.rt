@@ -1,5 +1,6 @@
 // The call that gives a table, on slots that are words.
 #![tactic(auto)]
+
 ghost use Rattle.versions.specs.Versions.{row_of};
 ghost use Rattle.simulation.specs.Memory.{memory};
 ghost use Rattle.tables.specs.Tables.{TableGiven};
