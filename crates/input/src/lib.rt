@@ -2,7 +2,8 @@
 // names, and a message on standard error.
 #![tactic(auto)]
 
-ghost use Rattle.std.specs.Prelude.{◌≡◌, ◌≤◌, length, take};
+ghost use Rattle.std.specs.Prelude.{◌≡◌, ◌≤◌, ◌<◌, false, length, slice_range, take};
+ghost use Rattle.std.specs.Io.KnownBytes.{Consumes, IsAtEnd};
 
 use std::env::FillError;
 use std::fs;
@@ -16,9 +17,12 @@ pub struct Input {
     pub failed: bool,
 }
 
-// Reads until buf is full, the input ends or a read fails. Pieces of any size are put together.
-fn fill_from<R: Read>(from: &mut R, buf: &mut [u8]) -> Input
-    ensures { result.n ≤ length buf.new }
+// Reads until buf is full, the input ends or a read fails. Pieces of any size are put together: of a reader whose bytes are known they are the
+// next ones, all that were taken from it, and where no read failed there are fewer than buf has room for only at the end.
+pub fn fill_from<R: Read>(from: &mut R, buf: &mut [u8]) -> Input
+    ensures fits { result.n ≤ length buf.new }
+    ensures bytes { Consumes (R.remaining from.old) (R.remaining from.new) (take result.n buf.new) }
+    ensures end { result.failed ≡ false → result.n < length buf.new → IsAtEnd (R.remaining from.new) }
 {
     let mut n: usize = 0;
     while n < buf.len() {
@@ -69,15 +73,17 @@ pub fn read_named<R: Env + Files>(rt: &R, i: usize, buf: &mut [u8]) -> Input
 }
 
 // Reads once, into buf after its first `kept` bytes, which stay; answers how many bytes it has then. Where the input has ended they are as
-// many as before.
-pub fn read_after(rt: &HostRuntime, buf: &mut [u8], kept: usize) -> Input
+// many as before. Of a reader whose bytes are known the new ones are the next.
+pub fn read_after_from<R: Read>(from: &mut R, buf: &mut [u8], kept: usize) -> Input
     requires { kept ≤ length buf.old }
     ensures counts_kept { kept ≤ result.n }
     ensures fits { result.n ≤ length buf.new }
     ensures keeps { take kept buf.new ≡ take kept buf.old }
+    ensures bytes { Consumes (R.remaining from.old) (R.remaining from.new) (slice_range buf.new kept result.n) }
+    ensures end { result.failed ≡ false → result.n ≡ kept → kept < length buf.new → IsAtEnd (R.remaining from.new) }
 {
     let part = &mut buf[kept..];
-    let Ok(more) = rt.stdin().read(part) else {
+    let Ok(more) = from.read(part) else {
         return Input {
             n: kept,
             failed: true,
@@ -87,6 +93,16 @@ pub fn read_after(rt: &HostRuntime, buf: &mut [u8], kept: usize) -> Input
         n: kept + more,
         failed: false,
     }
+}
+
+// The same from standard input.
+pub fn read_after(rt: &HostRuntime, buf: &mut [u8], kept: usize) -> Input
+    requires { kept ≤ length buf.old }
+    ensures counts_kept { kept ≤ result.n }
+    ensures fits { result.n ≤ length buf.new }
+    ensures keeps { take kept buf.new ≡ take kept buf.old }
+{
+    read_after_from(&mut rt.stdin(), buf, kept)
 }
 
 // Says on standard error what went wrong. Where that cannot be written either, nothing is left to do.
