@@ -13,34 +13,12 @@ pub returns-then-most-out : goal.returns-then-most-out
 returns-then-most-out c =
     record { partly = partly_start _ _ _ _ _; done_bound = omega arith }
 
-pub put_tens-n-requires : goal.put_tens-n-requires
-put_tens-n-requires c = c.spell-start.ensures
-
-pub overflow_sub-stop : goal.overflow_sub-stop
-overflow_sub-stop c =
-    let A = c.args in
-    omega (arith, (suits A.most (length A.out.now) A.first c.if-most-out.false).some)
-
-pub overflow_sub-limit : goal.overflow_sub-limit
-overflow_sub-limit c =
-    let A = c.args in
-    omega (arith, (suits A.most (length A.out.now) A.first c.if-most-out.false).room)
-
 pub loop-k-init : goal.loop-k-init
 loop-k-init c =
     let A = c.args in
     let t = suits A.most (length A.out.now) A.first c.if-most-out.false in
     beginning_start _ _ _ _ _ _ _ t (omega (arith, t.some)) (omega (arith, t.room)) c.spell-start.ensures
     c.put_tens-n.ensures
-
-pub overflow_sub-last : goal.overflow_sub-last
-overflow_sub-last c = let d = digit-of _ _ _ _ _ _ _ c.loop-k.invariant c.loop-k-test.true in omega (arith, d)
-
-pub overflow_add-k : goal.overflow_add-k
-overflow_add-k c =
-    let L = c.loop-k in
-    let g = goes _ _ _ _ _ _ _ L.invariant c.loop-k-test.true in
-    omega (arith, g.few, L.invariant.suits.count)
 
 pub spill_lines-at-requires : goal.spill_lines-at-requires
 unfolding rows text
@@ -64,11 +42,6 @@ put_front-n-requires c =
     let g = goes _ _ _ _ _ _ _ L.invariant c.loop-k-test.true in
     spelled_start (c.count_up-start.ensures _ (L.invariant.counting g.before).tens)
 
-pub loop-k-smaller : goal.loop-k-smaller
-loop-k-smaller c =
-    let e = ends _ _ _ _ _ _ _ c.loop-k.invariant c.loop-k-test.true c.least-end.ensures in
-    omega (arith, e.0, e.1, c.loop-k.invariant.stops)
-
 pub loop-k-preserved : goal.loop-k-preserved
 loop-k-preserved c =
     let L = c.loop-k in
@@ -76,7 +49,3 @@ loop-k-preserved c =
     let t = one-ten _ _ _ _ _ _ _ L.invariant c.loop-k-test.true f in
     beginning-next _ _ _ _ _ _ _ L.invariant c.loop-k-test.true f (c.spill_lines-at.ensures _ _ _ L.invariant.partly t)
     c.count_up-start.ensures c.put_front-n.ensures
-
-pub returns : goal.returns
-returns c =
-    record { partly = c.loop-k.invariant.partly; done_bound = omega arith }

@@ -1,10 +1,7 @@
 -- `count_up` meets its contract: the loop keeps `Raising`, and its measure is the number of places left.
 use native.Mathlib.Omega.{arith}
-use Rattle.lines.proofs.Raising.{raising_start, raising_turn, raising_last, raising_end}
+use Rattle.lines.proofs.Raising.{raising_turn, raising_last, raising_end}
 use Rattle.lines.proofs.count_up.Goals as goal
-
-pub loop-i-init : goal.loop-i-init
-loop-i-init c = raising_start _
 
 pub returns-then-i-start : goal.returns-then-i-start
 returns-then-i-start c =

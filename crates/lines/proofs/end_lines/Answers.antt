@@ -1,11 +1,8 @@
 -- `end_lines` meets its contract: the loop keeps `Ending`, and its measure is the number of answers left.
 use borrow.Author.Rules.{rules}
 use Rattle.lines.proofs.Decimal.{spelled_start}
-use Rattle.lines.proofs.Ending.{ending_start, ending_turn, ending_end}
+use Rattle.lines.proofs.Ending.{ending_turn}
 use Rattle.lines.proofs.end_lines.Goals as goal
-
-pub loop-k-init : goal.loop-k-init
-loop-k-init c = ending_start _ _ _ _ _ _ _ c.spell-start.ensures
 
 pub write_line-at-requires : goal.write_line-at-requires
 write_line-at-requires c = spelled_start c.loop-k.invariant.number
@@ -15,6 +12,3 @@ loop-k-preserved c =
     ending_turn _ _ _ _ _ _ _ c.loop-k.invariant
     c.loop-k-test.true
     (search rules) c.write_line-at.ensures c.count_up-start.ensures
-
-pub returns : goal.returns
-returns c = ending_end _ _ _ _ _ _ _ c.loop-k.invariant c.loop-k-test.false

@@ -1,10 +1,7 @@
 -- `spell` meets its contract: the loop keeps `Spelling`, and its measure is the number of places left.
-use Rattle.lines.proofs.Spelling.{spelling_start, spelling_turn, spelling_last, spelling_end}
+use Rattle.lines.proofs.Spelling.{spelling_turn, spelling_last, spelling_end}
 use native.Mathlib.Omega.{arith}
 use Rattle.lines.proofs.spell.Goals as goal
-
-pub loop-i-init : goal.loop-i-init
-loop-i-init c = spelling_start _ _ c.requires
 
 pub returns-then-rest-lt10 : goal.returns-then-rest-lt10
 returns-then-rest-lt10 c = spelling_last _ _ _ _ c.loop-i.invariant c.loop-i-test.true c.if-rest-lt10.true

@@ -7,6 +7,3 @@ pub returns-then-x-lt10 : goal.returns-then-x-lt10
 returns-then-x-lt10 c =
     spills_none (one_digit c.args.x c.if-x-lt10.true
     c.put_byte.ensures)
-
-pub returns : goal.returns
-returns c = spills_none c.put_decimal.ensures
