@@ -1,2 +1,1 @@
 pub mod Faithful
-pub mod Refusals

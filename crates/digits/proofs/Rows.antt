@@ -1,6 +1,6 @@
 -- The loops over the rows of a buffer. What the rows that are left are tested by, or given, leads to the same for all rows: a turn takes the first
 -- of them off, by the definitions' own recursion; at the end none is left.
-use mathlib.Core.Path.{◌≡◌, refl, sym, ap, ◌∙◌}
+use mathlib.Core.Path.{◌≡◌, sym, ap, ◌∙◌}
 use mathlib.Core.Bool.{true, false, ◌&&◌}
 use mathlib.Core.List.{List, ◌++◌, append_assoc}
 use Prim.Native.Nat.{ℕ, suc, ◌+◌, ◌-◌, ◌*◌, ◌≤◌, ◌<◌}
@@ -37,9 +37,6 @@ pub record Testing (to : Form) (n : ℕ) (buf : List ℕ) (i : ℕ) : Type 0 whe
   pub left : all_may_be to n buf ≡ all_may_be to (n - i) (drop (16 * i) buf)
 
 module _ (to : Form) (n : ℕ) (buf : List ℕ) where
-  pub testing_start : Testing to n buf 0
-  testing_start = let e : n - 0 ≡ n = omega arith in record { within = omega arith; left = rw e }
-
   testing_one : (i : ℕ) → Testing to n buf i → i < n
       → all_may_be to n buf ≡ may_be to (lent buf i) && all_may_be to (n - (i + 1)) (drop (16 * (i + 1)) buf)
   unfolding all_may_be
@@ -65,9 +62,6 @@ pub record Putting (to : Form) (n : ℕ) (buf₀ buf : List ℕ) (i : ℕ) : Typ
   pub rows : take (16 * i) buf ++ all_in_form to (n - i) (drop (16 * i) buf) ≡ all_in_form to n buf₀
 
 module _ (to : Form) (n : ℕ) (buf₀ : List ℕ) (fits : 16 * n ≤ length buf₀) where
-  pub putting_start : Putting to n buf₀ buf₀ 0
-  putting_start = let e : n - 0 ≡ n = omega arith in record { within = omega arith; kept = refl; rows = rw e }
-
   -- row i comes back in the form, between the bytes before it and behind it
   pub putting_turn : (buf part : List ℕ) (i : ℕ) → Putting to n buf₀ buf i → i < n → part ≡ in_form to (lent buf i)
       → Putting to n buf₀ (take (16 * i) buf ++ (part ++ drop (16 * i + 16 - 16 * i) (drop (16 * i) buf))) (i + 1)

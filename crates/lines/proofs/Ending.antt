@@ -1,5 +1,5 @@
 -- The loop that writes the last lines, each exactly.
-use mathlib.Core.Path.{◌≡◌, refl, subst, ◌∙◌}
+use mathlib.Core.Path.{◌≡◌, subst, ◌∙◌}
 use mathlib.Core.List.{List}
 use Prim.Native.Nat.{ℕ, ◌+◌, ◌≤◌, ◌<◌}
 use native.Mathlib.Omega.{arith}
@@ -14,9 +14,6 @@ module _ (first : ℕ) (kinds numbers : List ℕ) (most : ℕ) (out₀ : List �
     pub kept : length out ≡ length out₀
     pub number : Spelled (first + k) places start
     pub partly : (d : List ℕ) → Partly d first kinds numbers most out₀ begun from → Partly d first kinds numbers most out at k
-
-  pub ending_start : {places : List ℕ} {start : ℕ} → Spelled (first + from) places start → Ending out₀ places start begun from
-  ending_start s = record { kept = refl; number = s; partly = λ d p. p }
 
   pub ending_turn :
       {out places : List ℕ} {start at k : ℕ} {out' places' : List ℕ} {start' at' : ℕ}

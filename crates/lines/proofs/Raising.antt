@@ -28,9 +28,6 @@ pub record Raising (d₀ d : List ℕ) (i : ℕ) : Type 0 where
   pub left : raised i d ≡ raised 20 d₀
   pub place : reached i d ≡ reached 20 d₀
 
-pub raising_start : (d : List ℕ) → Raising d d 20
-raising_start d = record { within = omega arith; left = refl; place = refl }
-
 -- a 9 becomes a 0
 pub raising_turn : (d₀ d : List ℕ) (i : ℕ) → Raising d₀ d i → 0 < i → 57 ≤ get_or d (i - 1) 0 → Raising d₀ (set d (i - 1) 48) (i - 1)
 unfolding raised reached
@@ -40,8 +37,8 @@ raising_turn d₀ d i r h l =
     record { within = omega (arith, r.within); left = rw f at (rw e at r.left); place = rw f at (rw e at r.place) }
 
 -- a number goes up by one: its last digit, or the rest
-one_more_lem : (x : ℕ) → x % 10 < 9 → ((x + 1) / 10 ≡ x / 10) × (48 + (x + 1) % 10 ≡ 48 + x % 10 + 1)
-one_more_lem x h = (omega arith, omega arith)
+one_more : (x : ℕ) → x % 10 < 9 → ((x + 1) / 10 ≡ x / 10) × (48 + (x + 1) % 10 ≡ 48 + x % 10 + 1)
+one_more x h = (omega arith, omega arith)
 
 carried : (x : ℕ) → 9 ≤ x % 10 → ((x + 1) / 10 ≡ x / 10 + 1) × ((x + 1) % 10 ≡ 0)
 carried x h = (omega arith, omega arith)
@@ -69,7 +66,7 @@ raised-last (suc k) x t =
         → ltb (48 + x % 10) 57 ≡ b
         → {l : List ℕ} → l ≡ last_digits k (x / 10 + 1) ++ 48 ∷ t
         → cond b (before ++ (48 + x % 10 + 1) ∷ t) l ≡ (last_digits k ((x + 1) / 10) ++ ((48 + (x + 1) % 10) ∷ [])) ++ t
-    by true e r = let o = one_more_lem x (omega (arith, ltb-true (48 + x % 10) 57 e)) in rw (o.0, o.1) (sym (append_snoc before (48 + x % 10 + 1) t))
+    by true e r = let o = one_more x (omega (arith, ltb-true (48 + x % 10) 57 e)) in rw (o.0, o.1) (sym (append_snoc before (48 + x % 10 + 1) t))
     by false e r =
         let o = carried x (omega (arith, ltb-false (48 + x % 10) 57 e)) in
         rw (o.0, o.1) (r ∙ sym (append_snoc (last_digits k (x / 10 + 1)) 48 t))
@@ -110,7 +107,7 @@ first_shown-more (suc k) x t =
     by true e false f r =
         let l = ltb-true (48 + x % 10) 57 e in
         let m = ltb-false x 10 f in
-        rw (le-ltb (x + 1) 10 (omega arith), (one_more_lem x (omega arith)).0) (omega (arith, first_shown-le k (x / 10)))
+        rw (le-ltb (x + 1) 10 (omega arith), (one_more x (omega arith)).0) (omega (arith, first_shown-le k (x / 10)))
     by false e true f r =
         let l = ltb-false (48 + x % 10) 57 e in
         let m = ltb-true x 10 f in

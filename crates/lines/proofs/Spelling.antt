@@ -1,7 +1,7 @@
 -- The loop that writes a number's digits into places that hold zeros, from the last on. The digits still to be written, before those
 -- that are, are all twenty; where none but zeros are left, they stand there already.
 use mathlib.Core.Path.{◌≡◌, refl, sym, ap, ◌∙◌}
-use mathlib.Core.List.{List, ◌∷◌, ◌++◌, append-nil}
+use mathlib.Core.List.{List, ◌∷◌, ◌++◌}
 use Prim.Native.Nat.{ℕ, zero, suc, ◌+◌, ◌-◌, ◌/◌, ◌%◌, ◌≤◌, ◌<◌}
 use native.Mathlib.Nat.{div-eq_of_lt}
 use native.Mathlib.Omega.{arith}
@@ -18,9 +18,6 @@ pub record Spelling (d : List ℕ) (x i rest : ℕ) : Type 0 where
   pub zeros : take i d ≡ replicate i 48
   pub left : last_digits i rest ++ drop i d ≡ last_digits 20 x
   pub first : first_shown i rest ≡ first_shown 20 x
-
-pub spelling_start : (d : List ℕ) (x : ℕ) → d ≡ replicate 20 48 → Spelling d x 20 x
-spelling_start d x e = rw e (record { within = omega arith; kept = refl; zeros = refl; left = append-nil (last_digits 20 x); first = refl })
 
 fewer_zeros : (k : ℕ) → take {A = ℕ} k (replicate (suc k) 48) ≡ replicate k 48
 fewer_zeros zero = refl

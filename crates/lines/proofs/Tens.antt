@@ -1,5 +1,5 @@
 -- The loop that writes the lines of one ten.
-use mathlib.Core.Path.{◌≡◌, refl, subst, ap, ◌∙◌}
+use mathlib.Core.Path.{◌≡◌, subst, ap, ◌∙◌}
 use mathlib.Core.List.{List, [], ◌∷◌, ◌++◌}
 use Prim.Native.Nat.{ℕ, ◌+◌, ◌-◌, ◌*◌, ◌/◌, ◌%◌, ◌≤◌, ◌<◌}
 use native.Mathlib.Omega.{arith}
@@ -29,10 +29,6 @@ module _ (kinds numbers tens : List ℕ) (digit begun from end : ℕ) (out₀ : 
     pub room : at ≤ begun + longest * (k - from)
     pub partly : (d : List ℕ) (first most : ℕ) → Partly d first kinds numbers most out₀ begun from
         → OneTen first most (length d) tens digit begun from end → Partly d first kinds numbers most out at k
-
-  pub tenth_start : from ≤ end → Tenth out₀ digit begun from
-  tenth_start h =
-      record { lower = omega arith; upper = h; kept = refl; digits = omega arith; room = omega arith; partly = λ d first most p t. p }
 
   pub tenth_turn : {out out' : List ℕ} {last at at' k : ℕ} → Tenth out last at k → k < end → length tens ≤ 8 → length out' ≡ length out
       → Spills (tens ++ (last ∷ []) ++ tail_from (get_or kinds k 0) (get_or numbers k 0)) at out out' at' → Tenth out' (last + 1) at' (k + 1)

@@ -1,16 +1,11 @@
--- What an operation needs: without rows it has it, and with rows they are to give it.
+-- What an operation needs, where there are rows: they are to give it.
 use mathlib.Core.Path.{◌≡◌, refl}
-use mathlib.Core.Bool.{true, and-true}
+use mathlib.Core.Bool.{and-true}
 use mathlib.Core.List.{List, [], ◌∷◌}
 use Prim.Native.Nat.{ℕ, ◌<◌}
 use native.Mathlib.Nat.{not-suc-le-zero}
-use native.Mathlib.Omega.{arith}
 use lib.ListN.{length}
 use Rattle.model.specs.Rights.{Permission, Needed, may_on, may_on_each, each_of, has, allowed}
-
-pub without_rows : (t : List ℕ) (v w : ℕ) (n : Needed) → length t ≡ 0 → allowed t v w n ≡ true
-without_rows [] v w n e = refl
-without_rows (x ∷ t) v w n e = absurd (omega (arith, e))
 
 pub with_rows : (t : List ℕ) (v w : ℕ) (n : Needed) → 0 < length t → allowed t v w n ≡ has t v w n
 with_rows [] v w n h = absurd (not-suc-le-zero h)

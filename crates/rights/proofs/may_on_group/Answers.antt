@@ -1,5 +1,5 @@
 -- `may_on_group` meets its contract. The invariant: the worker has the right on the register of each row of the group before i.
-use mathlib.Core.Path.{◌≡◌, refl, sym, ap, ◌∙◌}
+use mathlib.Core.Path.{◌≡◌, sym, ap, ◌∙◌}
 use mathlib.Core.Bool.{Bool}
 use mathlib.Core.List.{List, ◌∷◌}
 use Prim.Native.Nat.{ℕ, ◌+◌, ◌<◌}
@@ -12,9 +12,6 @@ use Rattle.rights_table.proofs.Scan.{Passed, turn, passed-all}
 use Rattle.rights.proofs.InGroup.{each_in, none_in, own-fails, own_behind, other-behind}
 use Rattle.rights.proofs.may_on_group.Goals as goal
 use Rattle.rights.proofs.may_on_group.Goals.{then-group_of-group+else-not-may, else-group_of-group}
-
-pub loop-i-init : goal.loop-i-init
-loop-i-init c = (omega arith, refl)
 
 -- the row that was read decides, or the rows behind it
 looked : (F : List ℕ → Bool) (n i : ℕ) (rows : List ℕ) → i < length (take n rows) → Passed F (take n rows) i

@@ -1,12 +1,9 @@
 -- `put_number` meets its contract: the loop keeps `Storing`, by which the bytes still to be stored lead to what is to be left behind.
 use mathlib.Core.Path.{refl}
-use Rattle.lists.proofs.Storing.{storing_start, storing_turn, storing_end}
+use Rattle.lists.proofs.Storing.{storing_turn, storing_end}
 use Rattle.model.specs.Row.{bytes_of}
 use Rattle.row.proofs.Row.{length-bytes_of}
 use Rattle.row.proofs.put_number.Goals as goal
-
-pub loop-i-init : goal.loop-i-init
-loop-i-init c = storing_start bytes_of _ _ _ _
 
 pub loop-i-preserved : goal.loop-i-preserved
 loop-i-preserved c = storing_turn bytes_of _ _ _ _ _ _ _ _ _ (λ m. refl) c.loop-i.invariant c.loop-i-test.true

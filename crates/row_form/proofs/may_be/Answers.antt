@@ -1,12 +1,9 @@
 -- `may_be` meets its contract: the length is tested first, and each arm has the test of its form.
 use Rattle.model.specs.Digits.{may_be}
 use native.Mathlib.Omega.{arith}
-use borrow.Author.Tests.{eq-eqb, ne_eqb}
+use borrow.Author.Tests.{eq-eqb}
 use Rattle.le.proofs.Numbers.{number-there}
 use Rattle.row_form.proofs.may_be.Goals as goal
-
-pub returns-then-row-ne16 : goal.returns-then-row-ne16
-returns-then-row-ne16 c = rw (ne_eqb _ _ c.if-row-ne16.true)
 
 pub returns-in-New : goal.returns-in-New
 unfolding may_be

@@ -1,12 +1,9 @@
 -- `put_bcd` meets its contract: the loop keeps `Storing`, by which the bytes still to be stored lead to what is to be left behind.
 use mathlib.Core.Path.{refl}
-use Rattle.lists.proofs.Storing.{storing_start, storing_turn, storing_end}
+use Rattle.lists.proofs.Storing.{storing_turn, storing_end}
 use Rattle.model.specs.Digits.{bcd_of}
 use borrow.Author.Rules.{rules}
 use Rattle.row_form.proofs.put_bcd.Goals as goal
-
-pub loop-i-init : goal.loop-i-init
-loop-i-init c = storing_start bcd_of _ _ _ _
 
 pub loop-i-preserved : goal.loop-i-preserved
 loop-i-preserved c = storing_turn bcd_of _ _ _ _ _ _ _ _ _ (λ m. refl) c.loop-i.invariant c.loop-i-test.true

@@ -2,12 +2,9 @@
 use Rattle.model.specs.Digits.{in_form}
 use Rattle.row_form.proofs.Row.{put-old, put-new}
 use native.Mathlib.Omega.{arith}
-use borrow.Author.Tests.{eq-eqb, ne_eqb}
+use borrow.Author.Tests.{eq-eqb}
 use Rattle.le.proofs.Numbers.{number-there}
 use Rattle.row_form.proofs.put_in_form.Goals as goal
-
-pub returns-then-row-ne16 : goal.returns-then-row-ne16
-returns-then-row-ne16 c = rw (ne_eqb _ _ c.if-row-ne16.true)
 
 pub returns-in-New : goal.returns-in-New
 unfolding in_form

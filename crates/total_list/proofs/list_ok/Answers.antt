@@ -1,5 +1,5 @@
 -- `list_ok` meets its contract. The invariant: the rows before i pass, and so many rows of the group stand last among them.
-use mathlib.Core.Path.{◌≡◌, refl, sym, ◌∙◌}
+use mathlib.Core.Path.{◌≡◌, sym, ◌∙◌}
 use mathlib.Core.Bool.{and-false}
 use Prim.Native.Nat.{◌*◌, ◌/◌, ◌%◌, ◌<◌}
 use native.Mathlib.Omega.{arith}
@@ -21,9 +21,6 @@ unfolding list_fits
 returns-then-list-ne0 c =
     let s = c.args in
     rw (ne_eqb (length s.list.now % 4) 0 (λ e. absurd (omega (arith, e))))
-
-pub loop-i-init : goal.loop-i-init
-loop-i-init c = (omega arith, omega arith, refl)
 
 pub returns-else-may_follow : goal.returns-else-may_follow
 unfolding list_fits
