@@ -4,4 +4,3 @@ pub mod Moving
 pub mod Acts
 pub mod Loop
 pub mod Stretches
-pub mod Sizes

@@ -5,7 +5,7 @@ use mathlib.Core.Path.{refl}
 use native.Mathlib.Omega.{arith}
 use Rattle.model.specs.Record.{Sizes}
 use Rattle.model.specs.Apply.{in_ranges}
-use Rattle.theorem.proofs.Setup.{InRanges, in_ranges_lem}
+use Rattle.theorem.proofs.Setup.{in_ranges_lem}
 use Rattle.state.specs.declared.Hub.{Hub}
 use Rattle.state.specs.State.{table_sound}
 use Rattle.decision.specs.Decision.{sizes_ok}
