@@ -38,6 +38,7 @@ pub fn outcome_of(
 }
 
 // Open (1).
+#[tactic(auto, unfolding(crate::specs::Announcing::open_announce_step))]
 pub fn open_announce(t: Announced, clock: u32, n: usize) -> Outcome
     ensures { result ≡ open_announce_step t clock n }
 {
@@ -67,6 +68,7 @@ fn passed(a: u32, clock: u32) -> u32
 }
 
 // Open (2).
+#[tactic(auto, unfolding(crate::specs::Announcing::open_pass_step))]
 pub fn open_pass(t: Announced, clock: u32, n: usize) -> Outcome
     ensures { result ≡ open_pass_step t clock n }
 {
@@ -77,6 +79,7 @@ pub fn open_pass(t: Announced, clock: u32, n: usize) -> Outcome
 }
 
 // Close.
+#[tactic(auto, unfolding(crate::specs::Announcing::close_withdraw_step))]
 pub fn close_withdraw(clock: u32, n: usize) -> Outcome
     ensures { result ≡ close_withdraw_step clock n }
 {

@@ -48,6 +48,7 @@ fn put_all_in_form(rows: &mut [u8], n: usize, to: Form)
 }
 
 // Tests every row before it writes the first, so that a refusal leaves every byte as it was.
+#[tactic(auto, unfolding(model::specs::Digits::convert))]
 fn convert(rows: &mut [u8], to: Form, refusal: u8) -> RowsAnswer
     requires { refusal ≡ refusal_for (form_of to) }
     ensures result_value { rows_answer_of result ≡ (Model.convert (form_of to) rows.old).answer }

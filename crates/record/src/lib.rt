@@ -146,6 +146,7 @@ fn begin(rec: &[u8], zero: bool, operation: Operation) -> Decoded
 }
 
 // Operation 7.
+#[tactic(auto, unfolding(model::specs::Record::command_of, model::specs::Record::unused_zero))]
 fn step(rec: &[u8]) -> Decoded
     requires { 16 ≤ length rec.now }
     ensures { decoded_of result ≡ checked_of rec.now 7 }
@@ -158,6 +159,7 @@ fn step(rec: &[u8]) -> Decoded
 }
 
 // A record of sixteen bytes, by its byte 0.
+#[tactic(auto, unfolding(model::specs::Record::command_of, model::specs::Record::unused_zero))]
 fn asked(rec: &[u8]) -> Decoded
     requires { 16 ≤ length rec.now }
     ensures { decoded_of result
@@ -215,6 +217,7 @@ fn asked(rec: &[u8]) -> Decoded
 
 // The command of a record, any bytes, any length. Refusals: 6 fewer than 16 bytes, 1 operation above 11, 2 an unused byte is not zero,
 // in this order. Bytes after the sixteenth are not looked at.
+#[tactic(auto, unfolding(model::specs::Record::decode))]
 pub fn decode(rec: &[u8]) -> Decoded
     ensures { decoded_of result ≡ Model.decode rec.now }
 {

@@ -45,6 +45,7 @@ fn put_row(row: &mut [u8], register: u16, time: u32, reading: Reading)
 }
 
 // Writes the row of a register into the lent buffer. A refusal, or no reading, leaves the buffer untouched.
+#[tactic(auto, using(crate::proofs::Row::row_back), unfolding(model::specs::Row::write_row))]
 pub fn write_row(out: &mut [u8], register: u16, time: u32, content: Content) -> RowAnswer
     ensures result_value { row_answer_of result ≡ (write_row register time (content_of content) out.old).answer }
     ensures out_after { out.new ≡ (write_row register time (content_of content) out.old).buffer }
