@@ -1,5 +1,5 @@
 -- One turn of the loop on a record is what the contract for one record says.
-use Rattle.std.specs.Prelude.{◌≡◌, ℕ, List}
+use Rattle.std.specs.Prelude.{ℕ, List}
 use mathlib.Core.Path.{sym, subst}
 use Rattle.model.specs.Rules.{Given}
 use Rattle.values.specs.declared.Answer.{Answer}

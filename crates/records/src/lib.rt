@@ -1,6 +1,7 @@
 // The calls for records, on slots that are words: one record, or as many of a buffer as there is room for answers. Both go through the loop of
 // `core`.
 #![tactic(auto)]
+
 ghost use Rattle.model.specs.Rules.{of_totals};
 ghost use Rattle.versions.specs.Versions.{row_of};
 ghost use Rattle.simulation.specs.Memory.{memory};

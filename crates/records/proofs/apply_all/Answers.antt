@@ -1,6 +1,5 @@
 -- `apply_all` meets its contract: the loop ran for as many records as there are and as there is room for.
 use mathlib.Core.Path.{refl}
-use borrow.Author.Rules.{rules}
 use Rattle.records.proofs.Room.{ran_all}
 use Rattle.simulation.proofs.Main.{applies}
 use Rattle.records.proofs.apply_all.Goals as goal
