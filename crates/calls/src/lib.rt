@@ -1,5 +1,6 @@
 // Every call in one, on the first slots of a row of words: what is asked is an enum by value, so that a further call is a case more.
 #![tactic(auto)]
+
 ghost use Rattle.std.specs.Prelude.{◌≡◌, take, drop};
 ghost use Rattle.model.specs.Rules.{of_totals};
 ghost use Rattle.versions.specs.Versions.{row_of};
