@@ -1,15 +1,3 @@
-pub mod Copying
-pub mod Front
 pub mod Growth
-pub mod Handed
-pub mod Lends
-pub mod Local
-pub mod Moves
-pub mod OnSlots
-pub mod Passed
-pub mod Performs
 pub mod Rows
-pub mod SlotArray
-pub mod Values
 pub mod Whole
-pub mod Words

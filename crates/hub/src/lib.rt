@@ -2,6 +2,7 @@
 // and they
 // are written back. And the same for a caller that owns the row.
 #![tactic(auto)]
+
 ghost use Rattle.std.specs.Prelude.{◌≡◌, min, replicate, take, drop};
 ghost use Rattle.model.specs.Rules.{of_totals};
 ghost use Rattle.versions.specs.Versions.{row_of};
@@ -18,6 +19,7 @@ use state::Hub;
 // ---- the row of structs as words, and back
 
 // The first n slots, read into the row of words.
+#[tactic(auto, unfolding(crate::specs::Rows::copied_to))]
 fn load_row(slots: &[Slot], row: &mut [[u64; 6]], n: usize)
     ensures { row_of row.new ≡ copied_to slots.now (row_of row.old) n }
 {
@@ -30,6 +32,7 @@ fn load_row(slots: &[Slot], row: &mut [[u64; 6]], n: usize)
 }
 
 // The first n slots of the words, written back.
+#[tactic(auto, unfolding(crate::specs::Rows::copied_to))]
 fn store_row(row: &[[u64; 6]], slots: &mut [Slot], n: usize)
     ensures { slots.new ≡ copied_to (row_of row.now) slots.old n }
 {
