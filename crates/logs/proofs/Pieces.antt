@@ -21,10 +21,9 @@ use Rattle.state.specs.State.{empty_hub}
 use Rattle.simulation.specs.Memory.{Memory, memory, lent_in}
 use Rattle.simulation.specs.Left.{ready}
 use Rattle.simulation.specs.Holds.{Holds}
-use Rattle.simulation.specs.Demands.{Demands}
 use Rattle.simulation.proofs.Demands.{demands}
 use Rattle.input_parts.specs.Whole.{whole_records}
-use Rattle.logs.specs.File.{CutBetweenRecords, StartsBlank, StartsWith, last_part, parts_of, AnyReads}
+use Rattle.logs.specs.File.{CutBetweenRecords, StartsBlank, StartsWith, parts_of, AnyReads}
 use Rattle.logs.proofs.Whole.{whole_file}
 
 pub starts_blank : StartsBlank

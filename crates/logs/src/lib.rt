@@ -1,5 +1,6 @@
 // The log of the records, part by part: the records of a part of the input are applied, and their lines are written as text.
 #![tactic(auto)]
+
 ghost use Rattle.std.specs.Prelude.{◌≡◌, ◌*◌, ◌/◌, ◌≤◌, min, length};
 ghost use Rattle.model.specs.Rules.{of_totals};
 ghost use Rattle.versions.specs.Versions.{row_of};
