@@ -1,5 +1,6 @@
 // Numbers in bytes, the least byte first (H3.2).
 #![tactic(auto)]
+
 ghost use Rattle.std.specs.Prelude.{◌≡◌, cond, ◌+◌, ◌<◌, ◌≤◌, leb, length};
 ghost use Rattle.model.specs.Record.{number};
 

@@ -7,13 +7,13 @@ use Prim.Native.Nat.{ℕ, zero, suc, ◌+◌, ◌*◌, ◌≤◌, ◌<◌, max}
 use native.Mathlib.Omega.{arith}
 use native.Mathlib.Nat.{le_of_suc-le-suc, not-suc-le-zero}
 use lib.Dec.{ltb, leb, eqb}
-use lib.ListN.{length, get_or, take, length-append}
+use lib.ListN.{length, take}
 use borrow.Author.Tests as Tests
 use Rattle.model.specs.Store.{Content, count_of, status_of}
 use Rattle.model.specs.Totals.{group_of, sign_of, register_of, row_fits, before, follow, of_group, first_of, row_at, goes_on, Sum}
 use Rattle.model.specs.Sums.{add_row}
 use Rattle.model.specs.Demand.{sum_over}
-use Rattle.model.proofs.Basic.{eq_cases, lt_cases, and_both}
+use Rattle.model.proofs.Basic.{eq_cases, and_both}
 
 ------------------------------------------------------------------------
 -- One row more

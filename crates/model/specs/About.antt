@@ -1,7 +1,7 @@
 -- What is asked of a worker's place besides its step: one definition, a line for each place.
 use Rattle.std.specs.Prelude.{Bool, true, false, List, ℕ}
-use Rattle.model.specs.Store.{Range, TimeStep, OpenAnnounce, OpenPass, CloseWithdraw, MarkKeep, MarkRelease, Purpose, Single, Marked}
-use Rattle.model.specs.Store.{Totaling, Goal, Doing, Idle, PutPublish, PutStamp, PutHandIn, FlushTake, FlushRead, FlushFree, OnTime}
+use Rattle.model.specs.Store.{Range, TimeStep, OpenAnnounce, OpenPass, CloseWithdraw, MarkKeep, MarkRelease, Purpose, Single}
+use Rattle.model.specs.Store.{Goal, Doing, Idle, PutPublish, PutStamp, PutHandIn, FlushTake, FlushRead, FlushFree, OnTime}
 use Rattle.model.specs.Store.{ReadEnter, ReadStand, GetShow}
 
 -- the versions that a place has in hand: none, the one in the slot that a put covers, a merged list

@@ -10,7 +10,7 @@
 -- the places of `Doing`, and `absent` for a time that is not there.
 use Rattle.std.specs.Prelude.{◌≡◌, Bool, true, false, cond, not, ◌&&◌, List, [], ◌∷◌, ◌++◌, map, ℕ, zero, suc, ◌+◌, ◌≤◌, ◌<◌, ltb, leb, eqb, length, get_or}
 use Rattle.std.proofs.Math.Option.{Option, none, some}
-use Rattle.model.specs.Store.{absent, Reading, Content, Slot, Doing, PutPublish, Store, Hub, blank, up, worker_at, slot_at, newest_of, holders, Lent, lent₀}
+use Rattle.model.specs.Store.{absent, Reading, Content, Doing, PutPublish, Store, Hub, blank, up, worker_at, slot_at, newest_of, holders, Lent, lent₀}
 use Rattle.model.specs.Store.{held}
 use Rattle.model.specs.About.{Effect, NoEffect, ByStamp, ByClock, about}
 use Rattle.model.specs.Rules.{Given, none_given, Ruled}

@@ -1,6 +1,6 @@
 -- The theorems under document 01's rules and under those in force, and what the two differ in: this is what holds of the hub as it is built.
 use Rattle.std.specs.Prelude.{◌≡◌, ◌⊎◌, List, ℕ}
-use Rattle.model.specs.Store.{Content, Slot, Hub, blank, Lent}
+use Rattle.model.specs.Store.{Content, Hub, blank, Lent}
 use Rattle.model.specs.Batch.{AsDocumented}
 use Rattle.model.specs.Rules.{Given, Rules, document01, in_force, Allowed, all_under}
 use Rattle.model.specs.Answer.{Ok}

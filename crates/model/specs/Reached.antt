@@ -2,7 +2,7 @@
 -- Proved in theorem/proofs/Reached.antt from the invariant of Invariant.antt beside it.
 use Rattle.std.specs.Prelude.{◌≡◌, true, cond, ◌⊎◌, ◌↔◌, List, [], ◌∷◌, ℕ, zero, suc, ◌+◌, ◌*◌, ◌-◌, ◌≤◌, ◌<◌, ltb, length}
 use Rattle.model.specs.Totals.{group_of, row_at, of_group, follow}
-use Rattle.model.specs.Store.{absent, mark_count, last_clock, Reading, Slot, Purpose, Single, Marked, Totaling, PutPublish, Worker, Lent}
+use Rattle.model.specs.Store.{absent, mark_count, last_clock, Reading, Purpose, Single, Marked, Totaling, PutPublish, Worker, Lent}
 use Rattle.model.specs.Store.{Store, Hub, blank, up, worker_at, slot_at, newest_of, mark_at}
 use Rattle.model.specs.About.{Hand, Empty, Covered, Merged, Needless, about}
 use Rattle.model.specs.Rules.{Rules, twelve_digits, Allowed, Ruled}

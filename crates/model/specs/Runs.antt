@@ -3,7 +3,7 @@
 use Rattle.std.specs.Prelude.{◌≡◌, List, [], ◌∷◌, ◌++◌, map, ℕ, replicate}
 use Rattle.std.proofs.Math.Option.{Option, none, some}
 use Rattle.model.specs.Store.{Reading, Content, Hub}
-use Rattle.model.specs.Rules.{of_totals, twelve_digits, document01, in_force, Ruled, under}
+use Rattle.model.specs.Rules.{of_totals, document01, in_force, Ruled, under}
 use Rattle.model.specs.Record.{Open, Read, Close, Get, Collect, Total, Mark, Release, MarkedRead, Command, Begin, Step}
 use Rattle.model.specs.Answer.{Answer, Ok, Value, None, Below, Done, No}
 use Rattle.model.specs.Apply.{give_table, apply_ruled, answers_to}

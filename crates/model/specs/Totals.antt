@@ -1,5 +1,5 @@
 -- Totals: H12 of docs/HUB.md. The rows of the list that comes with a setup, the walk along the rows of one group, and sums over them.
-use Rattle.std.specs.Prelude.{Bool, true, cond, ◌&&◌, List, [], ◌∷◌, ℕ, zero, suc, ◌+◌, ◌/◌, ◌%◌, ltb, leb, eqb, length, get_or}
+use Rattle.std.specs.Prelude.{Bool, true, cond, ◌&&◌, List, [], ◌∷◌, ℕ, suc, ◌+◌, ◌/◌, ◌%◌, ltb, leb, eqb, length, get_or}
 
 ------------------------------------------------------------------------
 -- Rows

@@ -1,5 +1,6 @@
 // One range more in a pool: its slot, its low and its high are put at the index n, how many there were.
 #![tactic(auto)]
+
 ghost use Rattle.std.specs.Prelude.{◌≡◌};
 ghost use Rattle.pools.specs.Placed.{placed, one_more};
 

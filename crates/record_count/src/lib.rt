@@ -1,5 +1,6 @@
 // How many records a buffer has, and how many of them there is room to answer.
 #![tactic(auto)]
+
 ghost use Rattle.std.specs.Prelude.{◌≡◌, ◌+◌, ◌/◌, min};
 
 // How many records n bytes are. A rest of fewer than sixteen is one more (H3.6).

@@ -1,5 +1,6 @@
 // The version slots: one lent row of structs, of which one slot is loaded or stored.
 #![tactic(auto)]
+
 ghost use Rattle.std.specs.Prelude.{◌≡◌, set, get_or};
 ghost use Rattle.slots.specs.Slots.{vacant_slot};
 
