@@ -6,7 +6,6 @@ use reference::generate::{script, Kind};
 use reference::{log, Hub};
 use std::fs::File;
 use std::io::{Read, Write};
-use std::os::unix::process::ExitStatusExt;
 use std::path::Path;
 use std::process::{Command, ExitStatus, Output, Stdio};
 use std::thread;
@@ -73,13 +72,12 @@ fn abandoned(words: &str) -> (Vec<u8>, ExitStatus) {
 
 #[test]
 fn a_reader_that_goes_away_ends_it() {
-    const SIGPIPE: i32 = 13;
-    let (said, status) = abandoned("");
-    assert_eq!((said, status.signal()), (Vec::new(), Some(SIGPIPE)));
-    // Where that signal is ignored, the write fails like any other.
-    let (said, status) = abandoned("trap '' PIPE;");
-    assert_eq!(said, b"hublog: cannot write standard output\n");
-    assert!(status.success());
+    // What the program starts with ignores the pipe's signal, whatever its parent did: the write fails like any other.
+    for words in ["", "trap '' PIPE;"] {
+        let (said, status) = abandoned(words);
+        assert_eq!(said, b"hublog: cannot write standard output\n");
+        assert!(status.success());
+    }
 }
 
 #[test]
