@@ -1,5 +1,5 @@
 // The calls for records, on slots that are words: one record, or as many of a buffer as there is room for answers. Both go through the loop of
-// `core`.
+// `hub_core`.
 #![tactic(auto)]
 
 ghost use Rattle.model.specs.Rules.{of_totals};
