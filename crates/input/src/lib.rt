@@ -19,7 +19,7 @@ pub struct Input {
 
 // Reads until buf is full, the input ends or a read fails. Pieces of any size are put together: of a reader whose bytes are known they are the
 // next ones, all that were taken from it, and where no read failed there are fewer than buf has room for only at the end.
-pub fn fill_from<R: Read>(from: &mut R, buf: &mut [u8]) -> Input
+fn fill_from<R: Read>(from: &mut R, buf: &mut [u8]) -> Input
     ensures fits { result.n ≤ length buf.new }
     ensures bytes { Consumes (R.remaining from.old) (R.remaining from.new) (take result.n buf.new) }
     ensures end { result.failed ≡ false → result.n < length buf.new → IsAtEnd (R.remaining from.new) }
@@ -74,7 +74,7 @@ pub fn read_named<R: Env + Files>(rt: &R, i: usize, buf: &mut [u8]) -> Input
 
 // Reads once, into buf after its first `kept` bytes, which stay; answers how many bytes it has then. Where the input has ended they are as
 // many as before. Of a reader whose bytes are known the new ones are the next.
-pub fn read_after_from<R: Read>(from: &mut R, buf: &mut [u8], kept: usize) -> Input
+fn read_after_from<R: Read>(from: &mut R, buf: &mut [u8], kept: usize) -> Input
     requires { kept ≤ length buf.old }
     ensures counts_kept { kept ≤ result.n }
     ensures fits { result.n ≤ length buf.new }
