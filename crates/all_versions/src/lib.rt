@@ -9,8 +9,9 @@ ghost use Rattle.versions.specs.Versions.{row_of};
 pub fn all_linked(row: &[[u64; 6]], n: usize) -> bool
     ensures { result ≡ linked_to (row_of row.now) n n }
 {
-    let most = bounds::at_most(n, row.len());
+    let most = n.min(row.len());
     let mut ok = true;
+    // By index, here and below: what the words of a slot mean `versions::load` and `store` know, of a row and an index.
     for i in 0..most {
         let s = versions::load(row, i);
         ok = one_slot::linked_and(ok, s, n);

@@ -5,7 +5,7 @@ ghost use Rattle.std.specs.Prelude.{◌≡◌, cond, ◌+◌, eqb, ltb};
 ghost use Rattle.model.specs.Store.{last_clock};
 ghost use Rattle.announcing.specs.Announcing.{outcome_of, open_announce_step, open_pass_step, close_withdraw_step};
 
-use values::Answer;
+use values::{Answer, Refusal};
 use worker::{Announced, Doing, TimeStep};
 
 // What a step leaves: the worker's place and announced time, the clock, how many slots are free; and its answer.
@@ -43,11 +43,17 @@ pub fn open_announce(t: Announced, clock: u32, n: usize) -> Outcome
     ensures { result ≡ open_announce_step t clock n }
 {
     if clock == 4294967295 {
-        return outcome_of(Doing::Idle, t, clock, n, Answer::No(15));
+        return outcome_of(
+            Doing::Idle,
+            t,
+            clock,
+            n,
+            Answer::No(Refusal::ClockAtEnd.number()),
+        );
     }
     outcome_of(
         Doing::OnTime(TimeStep::OpenPass),
-        Announced::At(clock),
+        Some(clock),
         clock,
         n,
         Answer::Going,
@@ -59,10 +65,7 @@ fn passed(a: u32, clock: u32) -> u32
     ensures { result ≡ cond (eqb clock a) (cond (ltb clock last_clock) (clock + 1) clock) clock }
 {
     if clock == a {
-        if clock < 4294967295 {
-            return clock + 1;
-        }
-        return clock;
+        return clock.saturating_add(1);
     }
     clock
 }
@@ -73,8 +76,8 @@ pub fn open_pass(t: Announced, clock: u32, n: usize) -> Outcome
     ensures { result ≡ open_pass_step t clock n }
 {
     match t {
-        Announced::Nothing => outcome_of(Doing::Idle, t, clock, n, Answer::Going),
-        Announced::At(a) => outcome_of(Doing::Idle, t, passed(a, clock), n, Answer::At(a)),
+        None => outcome_of(Doing::Idle, t, clock, n, Answer::Going),
+        Some(a) => outcome_of(Doing::Idle, t, passed(a, clock), n, Answer::At(a)),
     }
 }
 
@@ -83,5 +86,5 @@ pub fn open_pass(t: Announced, clock: u32, n: usize) -> Outcome
 pub fn close_withdraw(clock: u32, n: usize) -> Outcome
     ensures { result ≡ close_withdraw_step clock n }
 {
-    outcome_of(Doing::Idle, Announced::Nothing, clock, n, Answer::Done)
+    outcome_of(Doing::Idle, None, clock, n, Answer::Done)
 }

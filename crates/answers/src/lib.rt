@@ -12,7 +12,7 @@ fn with_status(kind: u16, x: Reading) -> u16
     requires { kind ≤ 255 }
     ensures { result ≡ kind + 256 * x.status }
 {
-    kind + 256 * (x.status as u16)
+    kind + 256 * u16::from(x.status)
 }
 
 pub fn kind(a: Answer) -> u16
@@ -37,13 +37,13 @@ pub fn number(a: Answer) -> u64
     match a {
         Answer::Ok => 0,
         Answer::Going => 0,
-        Answer::Freed(slot) => slot as u64,
-        Answer::At(time) => time as u64,
+        Answer::Freed(slot) => u64::from(slot),
+        Answer::At(time) => u64::from(time),
         Answer::Value(reading) => reading.count,
         Answer::None => 0,
         Answer::Below(reading) => reading.count,
         Answer::Done => 0,
-        Answer::No(refusal) => refusal as u64,
+        Answer::No(refusal) => u64::from(refusal),
     }
 }
 

@@ -22,7 +22,8 @@ pub fn fill_newest(newest: &mut [u16; 256], v: usize)
     }
 }
 
-// H2.10: the k free slots from n - k on. The lowest is taken first, so it stands last.
+// H2.10: the k free slots from n - k on. The lowest is taken first, so it stands last. The loop stays beside the one above: a function of both, over a
+// closure for what an entry is, would need clauses for the closure and be longer than the two.
 pub fn fill_free(free: &mut [u16; 2048], n: usize, k: usize)
     requires { k ≤ n }
     ensures { free.new ≡ fill_to free.old (λ j. short (n - 1 - j)) k }

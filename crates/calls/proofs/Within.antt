@@ -10,10 +10,11 @@ use lib.Seq.{take_all, take_at, drop_at}
 use Rattle.model.specs.Rules.{Given}
 use Rattle.model.proofs.Basic.{le_cases}
 use Rattle.state.specs.declared.Hub.{Hub}
+use Rattle.state.specs.declared.Lent.{Lent}
 use Rattle.slots.specs.declared.Slot.{Slot}
 use Rattle.versions.specs.Versions.{slot_in, row_of}
 use Rattle.called.specs.declared.Called.{Called}
-use Rattle.simulation.specs.Memory.{memory}
+use Rattle.simulation.specs.Lent.{lent_memory}
 use Rattle.calls.specs.declared.Call.{Call}
 use Rattle.calls.specs.Calls.{Performed}
 
@@ -64,18 +65,16 @@ module _ (n k : ℕ) (row part : List (List ℕ)) (is : k ≡ min n (length row)
   first_out = ap row_of (sym (take_at part (drop (k - 0) row) k part_long) ∙ take-most n k left left_long) ∙ row_take n left
 
   -- ---- what a call does to the first words is what is said of the first slots, by what is asked
-  module _ {h : Hub} {newest free queue lens merged newest' free' queue' lens' merged' : List ℕ} {given : Given} {bytes kinds numbers kinds'
-      numbers' : List ℕ}
-      {r : Called} where
+  module _ {h : Hub} {lent lent' : Lent} {given : Given} {bytes kinds numbers kinds' numbers' : List ℕ} {r : Called} where
     pub performed : (what this : Call) → what ≡ this
-        → Performed this (memory h (row_of (take (k - 0) row)) newest free queue lens merged) given bytes kinds numbers r
-        (memory r.hub (row_of part) newest' free' queue' lens' merged') kinds' numbers'
-        → Performed what (memory h (take n (row_of row)) newest free queue lens merged) given bytes kinds numbers r
-        (memory r.hub (take n (row_of left)) newest' free' queue' lens' merged') kinds' numbers'
+        → Performed this (lent_memory h (row_of (take (k - 0) row)) lent) given bytes kinds numbers r
+        (lent_memory r.hub (row_of part) lent') kinds' numbers'
+        → Performed what (lent_memory h (take n (row_of row)) lent) given bytes kinds numbers r
+        (lent_memory r.hub (take n (row_of left)) lent') kinds' numbers'
     performed what this e p =
-        subst (λ (w : Call). Performed w (memory h (take n (row_of row)) newest free queue lens merged) given bytes kinds numbers r
-        (memory r.hub (take n (row_of left)) newest' free' queue' lens' merged') kinds' numbers') (sym e)
-        (subst (λ (l : List Slot). Performed this (memory h l newest free queue lens merged) given bytes kinds numbers r
-        (memory r.hub (take n (row_of left)) newest' free' queue' lens' merged') kinds' numbers') first_in
-        (subst (λ (l : List Slot). Performed this (memory h (row_of (take (k - 0) row)) newest free queue lens merged) given bytes kinds numbers r
-        (memory r.hub l newest' free' queue' lens' merged') kinds' numbers') first_out p))
+        subst (λ (w : Call). Performed w (lent_memory h (take n (row_of row)) lent) given bytes kinds numbers r
+        (lent_memory r.hub (take n (row_of left)) lent') kinds' numbers') (sym e)
+        (subst (λ (l : List Slot). Performed this (lent_memory h l lent) given bytes kinds numbers r
+        (lent_memory r.hub (take n (row_of left)) lent') kinds' numbers') first_in
+        (subst (λ (l : List Slot). Performed this (lent_memory h (row_of (take (k - 0) row)) lent) given bytes kinds numbers r
+        (lent_memory r.hub l lent') kinds' numbers') first_out p))

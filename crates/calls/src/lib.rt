@@ -4,11 +4,11 @@
 ghost use Rattle.std.specs.Prelude.{◌≡◌, take, drop};
 ghost use Rattle.model.specs.Rules.{of_totals};
 ghost use Rattle.versions.specs.Versions.{row_of};
-ghost use Rattle.simulation.specs.Memory.{memory};
+ghost use Rattle.simulation.specs.Lent.{lent_memory};
 ghost use Rattle.calls.specs.Calls.{Performed};
 
 use called::Called;
-use state::Hub;
+use state::{Hub, Lent};
 use tables::Table;
 
 // What a call asks.
@@ -32,32 +32,20 @@ pub fn perform(
     bytes: &[u8],
     kinds: &mut [u16],
     numbers: &mut [u64],
-    newest: &mut [u16; 256],
-    free: &mut [u16; 2048],
-    queue: &mut [u32; 12288],
-    lens: &mut [u32; 4096],
-    merged: &mut [u32; 12288],
+    lent: &mut Lent,
 ) -> Called
     ensures { (drop n row.new ≡ drop n row.old)
         × Performed what
-        (memory hub (take n (row_of row.old))
-        newest.old free.old queue.old lens.old merged.old)
+        (lent_memory hub (take n (row_of row.old)) lent.old)
         (of_totals given.now) bytes.now kinds.old numbers.old result
-        (memory result.hub (take n (row_of row.new))
-        newest.new free.new queue.new lens.new merged.new)
+        (lent_memory result.hub (take n (row_of row.new)) lent.new)
         kinds.new numbers.new }
 {
-    let k = bounds::at_most(n, row.len());
+    let k = n.min(row.len());
     let first = &mut row[0..k];
     match what {
-        Call::Record => records::apply_one(
-            first, hub, given, bytes, newest, free, queue, lens, merged,
-        ),
-        Call::Records => records::apply_all(
-            first, hub, given, bytes, kinds, numbers, newest, free, queue, lens, merged,
-        ),
-        Call::Give(table) => tables::give(
-            first, hub, table, bytes, newest, free, queue, lens, merged,
-        ),
+        Call::Record => records::apply_one(first, hub, given, bytes, lent),
+        Call::Records => records::apply_all(first, hub, given, bytes, kinds, numbers, lent),
+        Call::Give(table) => tables::give(first, hub, table, bytes, lent),
     }
 }

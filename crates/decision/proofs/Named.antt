@@ -8,22 +8,23 @@ use native.Mathlib.Omega.{arith}
 use lib.Dec.{ltb}
 use lib.ListN.{length, get_or}
 use borrow.Author.Tests.{ltb-true}
+use Rattle.std.proofs.Common.{Result, Ok, Err}
 use Rattle.model.specs.Record as Model
 use Rattle.model.specs.Record.{SetUp, Begin, Step, Decoded, Asks, Refuses}
 use Rattle.model.proofs.Basic.{cond_both, and_both}
 use Rattle.gate.specs.declared.Gate.{Gate}
-use Rattle.gate.specs.declared.Gate.TheVariants.{Refuse, Make, Start, Go}
+use Rattle.gate.specs.declared.Gate.TheVariants.{Make, Start, Go}
 use Rattle.gate.proofs.Tests.{begin-gate_by}
 use Rattle.decision.specs.Decision.{sizes_ok, gate_of}
 
 -- what a gate says of the worker w that the record names
-abbrev pub Named : Bool → ℕ → ℕ → ℕ → Gate → Type 0
-Named up w p long (Refuse k) = Unit {0}
-Named up w p long (Make x y n k) = (up ≡ false) × (sizes_ok x y n k long ≡ true)
-Named up w p long (Start x d) = (up ≡ true) × (x ≡ w) × (w < p)
-Named up w p long (Go x) = (up ≡ true) × (x ≡ w) × (w < p)
+abbrev pub Named : Bool → ℕ → ℕ → ℕ → Result Gate ℕ → Type 0
+Named up w p long (Err k) = Unit {0}
+Named up w p long (Ok (Make x y n k)) = (up ≡ false) × (sizes_ok x y n k long ≡ true)
+Named up w p long (Ok (Start x d)) = (up ≡ true) × (x ≡ w) × (w < p)
+Named up w p long (Ok (Go x)) = (up ≡ true) × (x ≡ w) × (w < p)
 
-named_worker : (w p long : ℕ) (g : Gate) → (w < p → Named true w p long g) → (t : Bool) → ltb w p ≡ t → Named true w p long (cond t g (Refuse 3))
+named_worker : (w p long : ℕ) (g : Result Gate ℕ) → (w < p → Named true w p long g) → (t : Bool) → ltb w p ≡ t → Named true w p long (cond t g (Err 3))
 named_worker w p long g f true e = f (ltb-true w p e)
 named_worker w p long g f false e = tt
 
@@ -50,7 +51,7 @@ named (Asks (Begin w o)) u e true p v long idle has list rows marks reading tabl
 named (Asks (Step w)) u e false p v long idle has list rows marks reading table = tt
 named (Asks (Step w)) u e true p v long idle has list rows marks reading table =
     subst (λ (i : ℕ). Named true i p long (gate_of (Asks (Step w)) true p v long idle has list rows marks reading table)) e
-    (named_worker w p long (Go w) (λ h. (refl, refl, h)) (ltb w p) refl)
+    (named_worker w p long (Ok (Go w)) (λ h. (refl, refl, h)) (ltb w p) refl)
 
 ------------------------------------------------------------------------
 -- The worker that a record names stands in its byte 1 (H3.3)

@@ -1,17 +1,57 @@
--- The loops over the rows of a buffer. What the rows that are left are tested by, or given, leads to the same for all rows: a turn takes the first
--- of them off, by the definitions' own recursion; at the end none is left.
-use mathlib.Core.Path.{◌≡◌, sym, ap, ◌∙◌}
-use mathlib.Core.Bool.{true, false, ◌&&◌}
-use mathlib.Core.List.{List, ◌++◌, append_assoc}
-use Prim.Native.Nat.{ℕ, suc, ◌+◌, ◌-◌, ◌*◌, ◌≤◌, ◌<◌}
+-- The rows of a buffer, one after the other: what is tested of each, or given to each, is the same for all, by the definitions' own recursion.
+use mathlib.Core.Path.{◌≡◌, refl, sym, ap, ◌∙◌}
+use mathlib.Core.Bool.{Bool, ◌&&◌}
+use mathlib.Core.List.{List, [], ◌∷◌, ◌++◌, append_assoc}
+use Prim.Native.Nat.{ℕ, zero, suc, ◌+◌, ◌-◌, ◌*◌, ◌/◌, ◌≤◌, ◌<◌}
 use native.Mathlib.Omega.{arith}
+use borrow.Author.Tests.{eq-eqb}
+use lib.Dec.{eqb}
 use lib.ListN.{length, take, drop, length-append, length-drop, take-append-drop}
 use lib.Seq.{take_at, drop_at, drop-drop, length-take-le}
+use Rattle.std.specs.Iterator.{AlwaysYields}
+use Rattle.std.specs.List.{list_all}
+use Rattle.std.specs.Slice.Iter.{chunks_exact_size, chunks_exact_rest, chunks_exact_steps}
+use Rattle.std.proofs.lemmas.Iterator.{YieldsList}
+use Rattle.std.specs.declared.slice.ChunksExact.{ChunksExact}
 use Rattle.model.specs.Digits.{Form, may_be, in_form, all_may_be, all_in_form}
 use Rattle.model.proofs.Digits.{length-in_form}
 
-------------------------------------------------------------------------
--- The rows of a buffer
+-- the first n rows
+abbrev pub rows_in : ℕ → List ℕ → List (List ℕ)
+rows_in zero buf = []
+rows_in (suc n) buf = take 16 buf ∷ rows_in n (drop 16 buf)
+
+-- they are what is gone over
+rows_come : (n : ℕ) (s : ChunksExact ℕ) (buf : List ℕ)
+    → chunks_exact_size s ≡ 16 → chunks_exact_rest s ≡ buf → 16 * n ≤ length buf → length buf < 16 * n + 16
+    → AlwaysYields chunks_exact_steps (λ x. x.now) s (rows_in n buf)
+rows_come zero s buf z r h k = λ x j p.
+    absurd (omega (arith, k, z, ap length (sym r ∙ p.1.0), length-append x.now (chunks_exact_rest j), p.1.1))
+rows_come (suc n) s buf z r h k = (
+  λ j p. absurd (omega (arith, h, z, ap length r, p.1.0)),
+  λ x j p.
+      let a : length x.now ≡ 16 = p.1.1 ∙ z in
+      let e : buf ≡ x.now ++ chunks_exact_rest j = sym r ∙ p.1.0 in
+      let f : drop 16 buf ≡ chunks_exact_rest j = rw e (drop_at x.now (chunks_exact_rest j) 16 a) in
+      let l : length (drop 16 buf) ≡ length buf - 16 = length-drop 16 buf in
+      (sym (rw e (take_at x.now (chunks_exact_rest j) 16 a)), rows_come n j (drop 16 buf) (p.0 ∙ z) (sym f) (omega (arith, l, h)) (omega (arith, l, k))),
+)
+
+pub rows_yielded : (s : ChunksExact ℕ) (buf : List ℕ) → chunks_exact_size s ≡ 16 → chunks_exact_rest s ≡ buf
+    → YieldsList chunks_exact_steps (λ x. x.now) s (rows_in (length buf / 16) buf)
+rows_yielded s buf z r = record { runs = rows_come (length buf / 16) s buf z r (omega arith) (omega arith) }
+
+-- the test of a row, and of all
+abbrev pub is_row_for : Form → List ℕ → Bool
+is_row_for to row = eqb (length row) 16 && may_be to row
+
+pub all_rows : (to : Form) (n : ℕ) (buf : List ℕ) → 16 * n ≤ length buf → list_all (is_row_for to) (rows_in n buf) ≡ all_may_be to n buf
+unfolding all_may_be
+all_rows to zero buf h = refl
+all_rows to (suc n) buf h =
+    let a : length (take 16 buf) ≡ 16 = length-take-le 16 buf (omega arith) in
+    let l : length (drop 16 buf) ≡ length buf - 16 = length-drop 16 buf in
+    rw (eq-eqb _ _ a, all_rows to n (drop 16 buf) (omega (arith, l, h)))
 
 -- row i as it is lent on
 abbrev pub lent : List ℕ → ℕ → List ℕ
@@ -27,33 +67,6 @@ module _ (buf : List ℕ) (i : ℕ) where
 
   pub lent-long : (n : ℕ) → 16 * n ≤ length buf → i < n → length (lent buf i) ≡ 16
   lent-long n fits h = rw sixteen (length-take-le 16 (drop (16 * i) buf) (rw (length-drop (16 * i) buf) (omega arith)))
-
-------------------------------------------------------------------------
--- The test of all rows
-
--- before row i: the test of the rows that are left is that of all
-pub record Testing (to : Form) (n : ℕ) (buf : List ℕ) (i : ℕ) : Type 0 where
-  pub within : i ≤ n
-  pub left : all_may_be to n buf ≡ all_may_be to (n - i) (drop (16 * i) buf)
-
-module _ (to : Form) (n : ℕ) (buf : List ℕ) where
-  testing_one : (i : ℕ) → Testing to n buf i → i < n
-      → all_may_be to n buf ≡ may_be to (lent buf i) && all_may_be to (n - (i + 1)) (drop (16 * (i + 1)) buf)
-  unfolding all_may_be
-  testing_one i t h = let e : n - i ≡ suc (n - (i + 1)) = omega arith in rw (sixteen buf i, ← behind buf i) (rw e at t.left)
-
-  pub testing_turn : (i : ℕ) → Testing to n buf i → i < n → may_be to (lent buf i) ≡ true → Testing to n buf (i + 1)
-  testing_turn i t h ok = record { within = omega arith; left = rw ok at (testing_one i t h) }
-
-  pub testing_no : (i : ℕ) → Testing to n buf i → i < n → may_be to (lent buf i) ≡ false → false ≡ all_may_be to n buf
-  testing_no i t h bad = sym (rw bad at (testing_one i t h))
-
-  pub testing_end : (i : ℕ) → Testing to n buf i → n ≤ i → true ≡ all_may_be to n buf
-  unfolding all_may_be
-  testing_end i t h = let e : n - i ≡ 0 = omega arith in sym (rw e at t.left)
-
-------------------------------------------------------------------------
--- All rows given a form
 
 -- before row i: with the rows that are left in the form, the buffer is what is to be left behind
 pub record Putting (to : Form) (n : ℕ) (buf₀ buf : List ℕ) (i : ℕ) : Type 0 where

@@ -3,39 +3,25 @@
 // LIST names the file with the list of totals, TABLE that with the table of rights.
 #![tactic(auto)]
 
-ghost use Rattle.std.specs.Prelude.{◌≤◌, length};
+ghost use Rattle.std.specs.Prelude.{◌≤◌};
 
 use calls::Call;
-use state::Hub;
+use state::{Hub, Lent};
 use std::rt::Env;
 use tables::Table;
 use values::Answer;
 
-// The number with one decimal digit more, at most 100000000; other bytes change nothing.
+// The number with one decimal digit more, at most 100000000; other bytes change nothing, so this is not `parse`.
 fn with_digit(x: usize, b: u8) -> usize
     ensures { result ≤ 100000000 }
 {
-    if 10000000 <= x {
+    if x >= 10000000 {
         return 100000000;
     }
-    if b < 48 {
+    if !b.is_ascii_digit() {
         return x;
     }
-    if 57 < b {
-        return x;
-    }
-    10 * x + ((b - 48) as usize)
-}
-
-// The number of the first n bytes.
-fn number(buf: &[u8], n: usize) -> usize
-    requires { n ≤ length buf.now }
-{
-    let mut x: usize = 0;
-    for i in 0..n {
-        x = with_digit(x, buf[i]);
-    }
-    x
+    10 * x + usize::from(b - b'0')
 }
 
 // Argument i as a number; `other` where there is none.
@@ -43,49 +29,26 @@ fn argument(rt: &impl Env, i: usize, other: usize) -> usize {
     let mut buf = [0u8; 20];
     match rt.arg(i, &mut buf) {
         Ok(0) | Err(_) => other,
-        Ok(n) => number(&buf, n),
+        Ok(n) => buf[..n].iter().fold(0, |x, b| with_digit(x, *b)),
     }
 }
 
 // Writes the line of record k with this answer to standard output; answers whether it was written.
 fn write_answer(rt: &impl Print, k: u64, answer: Answer) -> bool {
-    let mut kind_space = [0u16; 1];
-    let kinds: &mut [u16] = &mut kind_space;
-    let mut number_space = [0u64; 1];
-    let numbers: &mut [u64] = &mut number_space;
-    kinds[0] = answers::kind(answer);
-    numbers[0] = answers::number(answer);
-    let mut text_space = [0u8; 70];
-    let text: &mut [u8] = &mut text_space;
-    let used = lines::write_lines(text, k, kinds, numbers, 1);
-    let line = &text[..];
-    rt.write_all(&line[0..used]).is_ok()
+    let mut text = [0u8; 70];
+    let used = lines::write_answer(&mut text, k, answer);
+    rt.write_all(&text[..used]).is_ok()
 }
 
 // A hub with no worker, no register and no slot, to which the table was given. Such memory counts as not set up whatever is lent beside it, so that
 // no slot and zeros are lent.
 fn hub_with(rt: &HostRuntime, table: &[u8]) -> Hub {
-    let newest = [0u16; 256];
-    let free = [0u16; 2048];
-    let queue = [0u32; 12288];
-    let lens = [0u32; 4096];
-    let merged = [0u32; 12288];
+    let lent = Lent::blank();
     let hub = Hub::empty();
-    let given = tables::give(
-        &[],
-        hub,
-        Table::Rights,
-        table,
-        &newest,
-        &free,
-        &queue,
-        &lens,
-        &merged,
-    );
-    let answer = given.answer;
+    let given = tables::give(&[], hub, Table::Rights, table, &lent);
     // All but `Ok` is a refusal, and on memory that is not set up none but 24 is given.
-    if answers::kind(answer) != 0 {
-        input::say(rt, b"eachlog: the table is refused: 24\n");
+    if answers::kind(given.answer) != 0 {
+        let _ = eprintln!(rt; "eachlog: the table is refused: 24");
     }
     given.hub
 }
@@ -94,71 +57,51 @@ fn main(rt: HostRuntime) {
     let long = argument(&rt, 1, 2048);
     let at = argument(&rt, 2, 100000000);
     let later = argument(&rt, 3, 2048);
-    let mut space = [0u8; 16];
-    let rec: &mut [u8] = &mut space;
-    let mut newest = [0u16; 256];
-    let mut free = [0u16; 2048];
-    let mut queue = [0u32; 12288];
-    let mut lens = [0u32; 4096];
-    let mut merged = [0u32; 12288];
+    let mut rec = [0u8; 16];
+    let mut lent = Lent::blank();
     // The list of totals: one byte more than the longest that a setup accepts.
-    let mut list_space = [0u8; 4097];
-    let list: &mut [u8] = &mut list_space;
-    let listed = input::read_named(&rt, 4, list);
-    if listed.failed {
-        input::say(&rt, b"eachlog: cannot read the list of totals\n");
+    let mut list = [0u8; 4097];
+    let Ok(end) = input::read_named(&rt, 4, &mut list) else {
+        let _ = eprintln!(rt; "eachlog: cannot read the list of totals");
         return;
-    }
-    let end = listed.n;
+    };
     // The table of rights: one byte more than the longest that is accepted.
-    let mut table_space = [0u8; 513];
-    let table: &mut [u8] = &mut table_space;
-    let tabled = input::read_named(&rt, 5, table);
-    if tabled.failed {
-        input::say(&rt, b"eachlog: cannot read the table of rights\n");
+    let mut table = [0u8; 513];
+    let Ok(rows) = input::read_named(&rt, 5, &mut table) else {
+        let _ = eprintln!(rt; "eachlog: cannot read the table of rights");
         return;
-    }
-    let rows = tabled.n;
-    let shared = &table[..];
-    let none = slots::vacant();
-    let mut slots = [none; 2048];
-    let mut hub = hub_with(&rt, &shared[0..rows]);
+    };
+    let mut slots = [slots::vacant(); 2048];
+    let mut hub = hub_with(&rt, &table[..rows]);
     let mut k: u64 = 0;
-    let mut lent = long;
+    let mut slots_lent = long;
     // Nothing says that the input ends, so the turns are counted, up to a number that no run reaches.
     for _ in 0..u64::MAX {
-        let got = input::fill(&rt, rec);
-        let n = got.n;
         // Where a read fails, what it has of a record is none.
-        if got.failed | (n == 0) {
+        let Ok(n) = input::fill(&rt, &mut rec) else {
+            return;
+        };
+        if n == 0 {
             return;
         }
         if k == at as u64 {
-            lent = later;
+            slots_lent = later;
         }
         let done = hub::call_owned(
             slots,
-            lent,
+            slots_lent,
             hub,
             Call::Record,
-            &list[0..end],
-            &rec[0..n],
+            &list[..end],
+            &rec[..n],
             &mut [],
             &mut [],
-            &mut newest,
-            &mut free,
-            &mut queue,
-            &mut lens,
-            &mut merged,
+            &mut lent,
         );
-        let s = done.slots;
-        let called = done.called;
-        let h = called.hub;
-        slots = s;
-        hub = h;
-        let answer = called.answer;
-        if !write_answer(&rt, k, answer) {
-            input::say(&rt, b"eachlog: cannot write standard output\n");
+        slots = done.slots;
+        hub = done.called.hub;
+        if !write_answer(&rt, k, done.called.answer) {
+            let _ = eprintln!(rt; "eachlog: cannot write standard output");
             return;
         }
         if n < 16 {

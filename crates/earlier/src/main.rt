@@ -6,36 +6,29 @@
 
 use calls::Call;
 use slots::Slot;
-use state::Hub;
+use state::{Hub, Lent};
 use values::{Content, Reading};
 use worker::{Doing, Worker};
 
-const PUT: u8 = 1;
-
-const OPEN: u8 = 2;
-
-const READ: u8 = 3;
-
-const CLOSE: u8 = 4;
-
-const GET: u8 = 5;
-
-const COLLECT: u8 = 6;
-
-const STEP: u8 = 7;
-
-const TOTAL: u8 = 8;
+// The operations, by the number in byte 0 of a record.
+#[derive(Clone, Copy)]
+enum Operation {
+    Put = 1,
+    Open = 2,
+    Read = 3,
+    Close = 4,
+    Get = 5,
+    Collect = 6,
+    Step = 7,
+    Total = 8,
+}
 
 // The memory that is lent with each record, and the number of the next line.
 #[derive(Clone, Copy)]
 struct Memory {
     hub: Hub,
     slots: [Slot; 2048],
-    newest: [u16; 256],
-    free: [u16; 2048],
-    queue: [u32; 12288],
-    lens: [u32; 4096],
-    merged: [u32; 12288],
+    lent: Lent,
     line: u64,
 }
 
@@ -50,21 +43,16 @@ fn after_with(rt: &impl Print, m: &mut Memory, list: &[u8], rec: [u8; 16]) {
         &rec,
         &mut [],
         &mut [],
-        &mut m.newest,
-        &mut m.free,
-        &mut m.queue,
-        &mut m.lens,
-        &mut m.merged,
+        &mut m.lent,
     );
+    // Named before they are put into the memory: written straight from `done` they get no proof.
     let called = done.called;
     let row = done.slots;
     m.slots = row;
     m.hub = called.hub;
     let answer = called.answer;
-    let kinds = [answers::kind(answer)];
-    let numbers = [answers::number(answer)];
     let mut text = [0u8; 70];
-    let used = lines::write_lines(&mut text, m.line, &kinds, &numbers, 1);
+    let used = lines::write_answer(&mut text, m.line, answer);
     let _ = rt.write_all(&text[..used]);
     m.line = m.line.wrapping_add(1);
 }
@@ -74,41 +62,34 @@ fn after(rt: &impl Print, m: &mut Memory, rec: [u8; 16]) {
     after_with(rt, m, &[], rec);
 }
 
-// A record of this operation, worker and value, on register 0 or group 0; the value is below 2^40.
-fn record_of(operation: u8, worker: u8, value: u64) -> [u8; 16] {
-    let a = (value % 256) as u8;
-    let b = (value / 256 % 256) as u8;
-    let c = (value / 65536 % 256) as u8;
-    let d = (value / 16777216 % 256) as u8;
-    let e = (value / 4294967296 % 256) as u8;
-    [operation, worker, 0, 0, 0, 0, 0, 0, a, b, c, d, e, 0, 0, 0]
+// A record of this operation, worker and value, on register 0 or group 0.
+fn record_of(operation: Operation, worker: u8, value: u64) -> [u8; 16] {
+    let mut rec = [0; 16];
+    rec[0] = operation as u8;
+    rec[1] = worker;
+    rec[8..].copy_from_slice(&value.to_le_bytes());
+    rec
 }
 
 // Applies n steps of a worker.
 fn stepped(rt: &impl Print, m: &mut Memory, worker: u8, n: u8) {
     for _ in 0..n {
-        after(rt, m, record_of(STEP, worker, 0));
+        after(rt, m, record_of(Operation::Step, worker, 0));
     }
 }
 
 // Applies a record that begins an operation, and n steps of its worker.
-fn sent(rt: &impl Print, m: &mut Memory, operation: u8, worker: u8, value: u64, n: u8) {
+fn sent(rt: &impl Print, m: &mut Memory, operation: Operation, worker: u8, value: u64, n: u8) {
     after(rt, m, record_of(operation, worker, value));
     stepped(rt, m, worker, n);
 }
 
 // Memory that is not set up.
 fn blank() -> Memory {
-    let none = slots::vacant();
-    let hub = Hub::empty();
     Memory {
-        hub,
-        slots: [none; 2048],
-        newest: [0u16; 256],
-        free: [0u16; 2048],
-        queue: [0u32; 12288],
-        lens: [0u32; 4096],
-        merged: [0u32; 12288],
+        hub: Hub::empty(),
+        slots: [slots::vacant(); 2048],
+        lent: Lent::blank(),
         line: 0,
     }
 }
@@ -125,7 +106,7 @@ fn read(value: u64) -> Reading {
 fn stored(m: &mut Memory, i: usize, value: u64) {
     let s = m.slots[i % 2048];
     m.slots[i % 2048] = Slot {
-        value: Content::Of(read(value)),
+        value: Some(read(value)),
         ..s
     };
 }
@@ -143,8 +124,8 @@ fn putting(m: &mut Memory, w: usize, value: u64) {
 // Two workers, one register and four slots; worker 0 has put 1000000000000 into slot 1, worker 1 is about to put 1000000000001.
 fn earlier(rt: &impl Print, m: &mut Memory) {
     after(rt, m, [0, 2, 1, 0, 4, 0, 0, 0, 1, 0, 0, 0, 0, 0, 0, 0]);
-    sent(rt, m, PUT, 0, 1, 3);
-    sent(rt, m, PUT, 1, 1, 0);
+    sent(rt, m, Operation::Put, 0, 1, 3);
+    sent(rt, m, Operation::Put, 1, 1, 0);
     stored(m, 1, 1000000000000);
     putting(m, 1, 1000000000001);
 }
@@ -154,19 +135,19 @@ fn changing(rt: &impl Print) {
     let m = &mut memory;
     earlier(rt, m);
     // A get and a read show the stored value.
-    sent(rt, m, GET, 0, 0, 1);
-    sent(rt, m, OPEN, 0, 0, 2);
-    sent(rt, m, READ, 0, 0, 2);
-    sent(rt, m, CLOSE, 0, 0, 1);
+    sent(rt, m, Operation::Get, 0, 0, 1);
+    sent(rt, m, Operation::Open, 0, 0, 2);
+    sent(rt, m, Operation::Read, 0, 0, 2);
+    sent(rt, m, Operation::Close, 0, 0, 1);
     // The put that had begun goes on; a new one is refused.
     stepped(rt, m, 1, 3);
-    sent(rt, m, PUT, 0, 1000000000002, 0);
-    sent(rt, m, GET, 0, 0, 1);
+    sent(rt, m, Operation::Put, 0, 1000000000002, 0);
+    sent(rt, m, Operation::Get, 0, 0, 1);
     // A smaller one covers the second large value, and two collects free both.
-    sent(rt, m, PUT, 0, 5, 9);
-    sent(rt, m, COLLECT, 1, 0, 8);
-    sent(rt, m, COLLECT, 1, 0, 7);
-    sent(rt, m, GET, 1, 0, 1);
+    sent(rt, m, Operation::Put, 0, 5, 9);
+    sent(rt, m, Operation::Collect, 1, 0, 8);
+    sent(rt, m, Operation::Collect, 1, 0, 7);
+    sent(rt, m, Operation::Get, 1, 0, 1);
 }
 
 // Two workers, two registers and six slots, and a total of both registers. Worker 0 has put 1000000000000 into slot 2.
@@ -176,12 +157,12 @@ fn over(rt: &impl Print) {
     let mut memory = blank();
     let m = &mut memory;
     after_with(rt, m, &list, setup);
-    sent(rt, m, PUT, 0, 1, 3);
+    sent(rt, m, Operation::Put, 0, 1, 3);
     stored(m, 2, 1000000000000);
     // The total is refused at the value, its worker is idle then, and the snapshot stays open.
-    sent(rt, m, OPEN, 1, 0, 2);
-    sent(rt, m, TOTAL, 1, 0, 3);
-    sent(rt, m, READ, 1, 0, 2);
+    sent(rt, m, Operation::Open, 1, 0, 2);
+    sent(rt, m, Operation::Total, 1, 0, 3);
+    sent(rt, m, Operation::Read, 1, 0, 2);
 }
 
 fn main(rt: HostRuntime) {

@@ -4,7 +4,7 @@ use Rattle.values.specs.declared.Answer.{Answer}
 use Rattle.values.specs.declared.Answer.TheVariants.{Going, Done}
 use Rattle.slots.specs.declared.Slot.{Slot}
 use Rattle.versions.specs.Versions.{slot_at_in}
-use Rattle.worker.specs.declared.Announced.{Announced}
+use Rattle.worker.specs.Rep.{Announced}
 use Rattle.worker.specs.declared.Doing.{Doing}
 use Rattle.worker.specs.declared.Doing.TheVariants.{Idle, FlushTake}
 use Rattle.worker.specs.declared.Pool.{Pool}

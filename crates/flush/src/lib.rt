@@ -29,49 +29,27 @@ pub struct Handed {
 pub fn put_hand_in(row: &[[u64; 6]], n: usize, covered: u16, size: u8) -> Handed
     ensures { result ≡ handed_on (row_of row.now) n covered size }
 {
-    let v = versions::load(row, covered as usize);
+    let v = versions::load(row, usize::from(covered));
     let low = (v.low % 4294967296) as u32;
     let high = (v.high % 4294967296) as u32;
-    let len = pools::one_more(n);
-    if len == size as usize {
-        return Handed {
-            low,
-            high,
-            len,
-            doing: Doing::FlushTake,
-            answer: Answer::Going,
-        };
-    }
+    let len = pools::one_more::<64>(n);
+    let (doing, answer) = if len == usize::from(size) {
+        (Doing::FlushTake, Answer::Going)
+    } else {
+        (Doing::Idle, Answer::Done)
+    };
     Handed {
         low,
         high,
         len,
-        doing: Doing::Idle,
-        answer: Answer::Done,
+        doing,
+        answer,
     }
 }
 
 // ---- flush (1)
 
-// Up to two pools of the queue, merged into worker w's part of the merged lists.
-fn take_into(
-    queue: &mut [u32; 12288],
-    lens: &mut [u32; 4096],
-    window: Window,
-    merged: &mut [u32],
-    w: usize,
-) -> Taking
-    requires { (w < 16) × (length merged.old ≡ 12288) }
-    ensures count_value { result.count ≡ length (taken (pools_in queue.old lens.old window)) }
-    ensures window_after { pools_in queue.new lens.new result.window ≡ rest (pools_in queue.old lens.old window) }
-    ensures merged_after { merged.new ≡ with_part merged.old w (over (flat (taken (pools_in queue.old lens.old window))) (part_of merged.old w)) }
-{
-    let at = 768 * w;
-    let e = at + 768;
-    queue::take(queue, lens, window, &mut merged[at..e])
-}
-
-// Flush (1).
+// Flush (1): up to two pools of the queue, merged into worker w's part of the merged lists.
 pub fn flush_take(
     queue: &mut [u32; 12288],
     lens: &mut [u32; 4096],
@@ -84,5 +62,6 @@ pub fn flush_take(
     ensures window_after { pools_in queue.new lens.new result.window ≡ rest (pools_in queue.old lens.old window) }
     ensures merged_after { merged.new ≡ with_part merged.old w (over (flat (taken (pools_in queue.old lens.old window))) (part_of merged.old w)) }
 {
-    take_into(queue, lens, window, merged, w)
+    let at = 768 * w;
+    queue::take(queue, lens, window, &mut merged[at..at + 768])
 }

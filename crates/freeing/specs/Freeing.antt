@@ -2,6 +2,7 @@
 use Rattle.std.specs.Prelude.{cond, List, ℕ, ◌+◌, ◌-◌, ◌*◌, ltb, get_or, set}
 use Rattle.slots.specs.declared.Slot.{Slot}
 use Rattle.arrays.specs.Arrays.{short}
+use Rattle.pools.specs.Placed.{one_more_to}
 use Rattle.versions.specs.Versions.{slot_at_in, unlinked_in}
 use Rattle.freeing.specs.declared.Freed.{Freed}
 
@@ -11,7 +12,7 @@ next_to_free merged w m = cond (ltb (256 * w + (m - 1)) 4096) (get_or merged (3 
 
 -- one slot more is free; there are 2048 at the most
 abbrev pub one_more : ℕ → ℕ
-one_more n = cond (ltb n 2048) (n + 1) n
+one_more n = one_more_to 2048 n
 
 -- H5.28: the slot that is freed, its older neighbour, and how many are free then
 unfoldable pub freed_step : List Slot → List ℕ → ℕ → ℕ → ℕ → Freed

@@ -3,7 +3,7 @@
 
 ghost use Rattle.std.specs.Prelude.{◌≡◌, ◌<◌};
 ghost use Rattle.versions.specs.Versions.{row_of};
-ghost use Rattle.freeing.specs.Freeing.{next_to_free, one_more, freed_step, freed_row, freed_free};
+ghost use Rattle.freeing.specs.Freeing.{next_to_free, freed_step, freed_row, freed_free};
 
 // The slot that is freed, its older neighbour, and how many slots are free then.
 #[derive(Clone, Copy)]
@@ -13,31 +13,13 @@ pub struct Freed {
     pub free: usize,
 }
 
-fn wide32(x: u32) -> usize
-    ensures { result ≡ x }
-{
-    x as usize
-}
-
 // The slot of the range that is freed next, the last of m in worker w's part.
 fn next_to_free(merged: &[u32; 12288], w: usize, m: u16) -> usize
     requires { (w < 16) × (0 < m) }
     ensures { result ≡ next_to_free merged.now w m }
 {
-    let i = 256 * w + ((m as usize) - 1);
-    if i < 4096 {
-        return wide32(merged[3 * i]);
-    }
-    0
-}
-
-fn one_more(n: usize) -> usize
-    ensures { result ≡ one_more n }
-{
-    if n < 2048 {
-        return n + 1;
-    }
-    n
+    let i = 256 * w + (usize::from(m) - 1);
+    if i < 4096 { merged[3 * i] as usize } else { 0 }
 }
 
 // Flush (4), with m ranges left to free and n slots free.
@@ -61,6 +43,6 @@ pub fn flush_free(
     Freed {
         slot: (i % 65536) as u16,
         older: (v.older % 65536) as u16,
-        free: one_more(n),
+        free: pools::one_more::<2048>(n),
     }
 }

@@ -1,12 +1,11 @@
 // The calls on slots that are structs: the first 2048 of a lent row, of any length, are read into words, the call of `calls` goes on the words,
-// and they
-// are written back. And the same for a caller that owns the row.
+// and they are written back. And the same for a caller that owns the row.
 #![tactic(auto)]
 
 ghost use Rattle.std.specs.Prelude.{◌≡◌, min, replicate, take, drop};
 ghost use Rattle.model.specs.Rules.{of_totals};
 ghost use Rattle.versions.specs.Versions.{row_of};
-ghost use Rattle.simulation.specs.Memory.{memory};
+ghost use Rattle.simulation.specs.Lent.{lent_memory};
 ghost use Rattle.calls.specs.Calls.{Performed};
 ghost use Rattle.hub.specs.Rows.{copied_to};
 ghost use Rattle.hub.specs.OnRow.{OnRow};
@@ -14,7 +13,7 @@ ghost use Rattle.hub.specs.OnRow.{OnRow};
 use called::Called;
 use calls::Call;
 use slots::Slot;
-use state::Hub;
+use state::{Hub, Lent};
 
 // ---- the row of structs as words, and back
 
@@ -23,11 +22,9 @@ use state::Hub;
 fn load_row(slots: &[Slot], row: &mut [[u64; 6]], n: usize)
     ensures { row_of row.new ≡ copied_to slots.now (row_of row.old) n }
 {
-    let mut i = 0;
-    while i < n {
-        let s = slots::load(slots, i);
-        versions::store(row, i, s);
-        i = i + 1;
+    // By index, here and below: `slots` and `versions` know what lies at an index of their rows.
+    for i in 0..n {
+        versions::store(row, i, slots::load(slots, i));
     }
 }
 
@@ -36,11 +33,8 @@ fn load_row(slots: &[Slot], row: &mut [[u64; 6]], n: usize)
 fn store_row(row: &[[u64; 6]], slots: &mut [Slot], n: usize)
     ensures { slots.new ≡ copied_to (row_of row.now) slots.old n }
 {
-    let mut i = 0;
-    while i < n {
-        let s = versions::load(row, i);
-        slots::store(slots, i, s);
-        i = i + 1;
+    for i in 0..n {
+        slots::store(slots, i, versions::load(row, i));
     }
 }
 
@@ -62,26 +56,18 @@ pub fn call(
     bytes: &[u8],
     kinds: &mut [u16],
     numbers: &mut [u64],
-    newest: &mut [u16; 256],
-    free: &mut [u16; 2048],
-    queue: &mut [u32; 12288],
-    lens: &mut [u32; 4096],
-    merged: &mut [u32; 12288],
+    lent: &mut Lent,
 ) -> Called
     ensures { OnRow what
-        (memory hub slots.old
-        newest.old free.old queue.old lens.old merged.old)
+        (lent_memory hub slots.old lent.old)
         (of_totals given.now) bytes.now kinds.old numbers.old result
-        (memory result.hub slots.new
-        newest.new free.new queue.new lens.new merged.new)
+        (lent_memory result.hub slots.new lent.new)
         kinds.new numbers.new }
 {
     let mut row = zeros();
-    let n = bounds::at_most(slots.len(), 2048);
+    let n = slots.len().min(2048);
     load_row(slots, &mut row, n);
-    let done = calls::perform(
-        &mut row, n, hub, what, given, bytes, kinds, numbers, newest, free, queue, lens, merged,
-    );
+    let done = calls::perform(&mut row, n, hub, what, given, bytes, kinds, numbers, lent);
     store_row(&row, slots, n);
     done
 }
@@ -103,23 +89,17 @@ pub fn call_owned(
     bytes: &[u8],
     kinds: &mut [u16],
     numbers: &mut [u64],
-    newest: &mut [u16; 256],
-    free: &mut [u16; 2048],
-    queue: &mut [u32; 12288],
-    lens: &mut [u32; 4096],
-    merged: &mut [u32; 12288],
+    lent: &mut Lent,
 ) -> Owned
     ensures { (drop (min long 2048) result.slots ≡ drop (min long 2048) row)
         × Performed what
-        (memory hub (take (min long 2048) row)
-        newest.old free.old queue.old lens.old merged.old)
+        (lent_memory hub (take (min long 2048) row) lent.old)
         (of_totals given.now) bytes.now kinds.old numbers.old result.called
-        (memory result.called.hub (take (min long 2048) result.slots)
-        newest.new free.new queue.new lens.new merged.new)
+        (lent_memory result.called.hub (take (min long 2048) result.slots) lent.new)
         kinds.new numbers.new }
 {
     let mut slots = row;
-    let n = bounds::at_most(long, 2048);
+    let n = long.min(2048);
     let called = call(
         &mut slots[0..n],
         hub,
@@ -128,11 +108,7 @@ pub fn call_owned(
         bytes,
         kinds,
         numbers,
-        newest,
-        free,
-        queue,
-        lens,
-        merged,
+        lent,
     );
     Owned { called, slots }
 }

@@ -15,8 +15,9 @@ use Rattle.pools.specs.Placed.{placed}
 use Rattle.queue.specs.State.{Queue, pools_in}
 use Rattle.state.specs.declared.Site.{Site}
 use Rattle.state.specs.State.{nobody, at_place}
-use Rattle.gate.specs.declared.Gate.{Gate}
-use Rattle.gate.specs.declared.Gate.TheVariants.{Refuse, Make, Start, Go}
+use Rattle.gate.specs.Gate.{Decided}
+use Rattle.gate.specs.declared.Gate.TheVariants.{Make, Start, Go}
+use Rattle.std.specs.Prelude.{Ok as Grants, Err as Refuse}
 use Rattle.step.specs.declared.Next.{Next}
 use Rattle.step.specs.declared.Next.TheVariants.{Taken, HandIn, Take, Read, ReadMarks, Split, Free, Mark}
 use Rattle.step.proofs.Said.{Said, said}
@@ -26,8 +27,7 @@ use Rattle.turns.specs.declared.Arm.{Arm}
 use Rattle.turns.specs.declared.Arm.TheVariants.{Says, Sets, Times, Reads, Makes, HandsIn, Splits, Moves}
 use Rattle.turns.specs.declared.Fixed.{Fixed}
 use Rattle.turns.specs.declared.Turn.{Turn}
-use Rattle.counts.specs.Counts.{clock_in, free_in, window_in, counts_as}
-use Rattle.turns.specs.Parts.{Parts, parts}
+use Rattle.turns.specs.Parts.{Parts, parts, with_queue, with_window, with_times}
 use Rattle.turns.specs.Turns.{Turned, next_turn, stepped_in, parts_after, go_turn, turn_by}
 use Rattle.simulation.specs.Memory.{Memory, Result}
 use Rattle.simulation.specs.Shell.{taken_in, handed_in, took_in, read_in, all_read_in, marked_in, split_in, freed_in, off_worker, next_in, go_in, set_up_in, obey_in}
@@ -35,14 +35,11 @@ use Rattle.simulation.specs.Loop.{makes}
 use Rattle.hub_core.specs.Stretch.{site_of, memory_of}
 
 -- lent memory with other times, and after flush (3) with another queue and other merged lists
-abbrev pub with_times : Parts → List ℕ → Parts
-with_times a times =
-    parts a.slots a.newest a.free a.queue a.lens a.merged a.clock a.counts times a.marks a.reading
+abbrev pub timed : Parts → List ℕ → Parts
+timed a times = parts a.slots a.lent (with_times a.running times)
 
 abbrev pub with_split : Parts → Queue → List ℕ → Parts
-with_split a q merged =
-    parts a.slots a.newest a.free q.queue q.lens merged a.clock (counts_as (free_in a.counts) q.window) a.times a.marks
-    a.reading
+with_split a q merged = parts a.slots (with_queue a.lent q merged) (with_window a.running q.window)
 
 -- What worker w's record becomes
 abbrev pub handed_worker : Worker → Turn → Worker
@@ -70,15 +67,15 @@ acted Times y ws w t a given =
     memory_of y (set ws w (record { doing = t.doing; announced = t.announced; pool = (get_or ws w nobody).pool })) a
 acted Reads y ws w t a given =
     memory_of y (set ws w (at_place (get_or ws w nobody) t.doing))
-    (with_times a (set a.times (28 * w + t.read % 16) (time_of (get_or ws (t.read % 16) nobody).announced)))
+    (timed a (set a.running.times (28 * w + t.read % 16) (time_of (get_or ws (t.read % 16) nobody).announced)))
 acted Makes y ws w t a given = set_up_in (memory_of y ws a) given t.sizes.p t.sizes.v t.sizes.n t.sizes.clock
 acted HandsIn y ws w t a given = memory_of y (set ws w (handed_worker (get_or ws w nobody) t)) a
 acted Splits y ws w t a given =
     let q = (get_or ws w nobody).pool in
-    memory_of y (set ws w (split_worker (get_or ws w nobody) (split_left a.merged w t.merged a.times t.read q)))
+    memory_of y (set ws w (split_worker (get_or ws w nobody) (split_left a.lent.merged w t.merged a.running.times t.read q)))
     (with_split a
-    (split_queue (pools_in a.queue a.lens (window_in a.counts)) a.merged w t.merged a.times t.read y.batch q)
-    (split_merged a.merged w t.merged a.times t.read q))
+    (split_queue (pools_in a.lent.queue a.lent.lens a.running.window) a.lent.merged w t.merged a.running.times t.read y.batch q)
+    (split_merged a.lent.merged w t.merged a.running.times t.read q))
 acted Moves y ws w t a given = memory_of y (map (off_worker t.slot t.older) (set ws w (at_place (get_or ws w nobody) t.doing))) a
 
 abbrev pub is_makes : Arm → Bool
@@ -118,14 +115,14 @@ module _ (f : Fixed) (n : ℕ) (rows rights : List ℕ) (ws : List Worker) (w : 
       ap (λ d. record {
         memory =
             memory_of y (set ws w (at_place x d))
-            (with_times a (set a.times (28 * w + j % 16) (time_of (get_or ws (j % 16) nobody).announced)));
+            (timed a (set a.running.times (28 * w + j % 16) (time_of (get_or ws (j % 16) nobody).announced)));
         answer = Going;
       }) (read_small m j h few)
   next-acts few a (ReadMarks m) h =
       let e : (f.p + 12) % 256 ≡ (f.p % 256 + 12) % 256 = omega arith in
       rw (le-leb f.p 16 few)
       (ap (λ i. record {
-        memory = memory_of y (set ws w (at_place x (FlushRead m i))) (with_times a (over_at (28 * w + f.p) a.marks a.times));
+        memory = memory_of y (set ws w (at_place x (FlushRead m i))) (timed a (over_at (28 * w + f.p) a.running.marks a.running.times));
         answer = Going;
       }) e)
   next-acts few a (Split m j) h = refl
@@ -133,26 +130,26 @@ module _ (f : Fixed) (n : ℕ) (rows rights : List ℕ) (ws : List Worker) (w : 
   next-acts few a (Mark i t) h = refl
 
   -- what is known of the worker that a decision names
-  abbrev pub Names : Gate → Type 0
+  abbrev pub Names : Decided → Type 0
   Names (Refuse k) = Unit {0}
-  Names (Make p v m k) = Unit {0}
-  Names (Start v d) = v ≡ w
-  Names (Go v) = (v ≡ w) × (f.p ≤ 16)
+  Names (Grants (Make p v m k)) = Unit {0}
+  Names (Grants (Start v d)) = v ≡ w
+  Names (Grants (Go v)) = (v ≡ w) × (f.p ≤ 16)
 
-  abbrev turn_on : Parts → Gate → Turned
+  abbrev turn_on : Parts → Decided → Turned
   turn_on a g = turn_by f w x.doing x.announced x.pool.len rows a g
 
   -- the record is carried out as the definition says
-  pub obeys : (a : Parts) (g : Gate) → Names g → obey_in (memory_of y ws a) given g ≡ result_of (turn_on a g)
+  pub obeys : (a : Parts) (g : Decided) → Names g → obey_in (memory_of y ws a) given g ≡ result_of (turn_on a g)
   unfolding obey_in turn_by go_in go_turn
   obeys a (Refuse k) e = refl
-  obeys a (Make p v m k) e = refl
-  obeys a (Start v d) e = ap (λ (i : ℕ). obey_in (memory_of y ws a) given (Start i d)) e
-  obeys a (Go v) (e, few) =
+  obeys a (Grants (Make p v m k)) e = refl
+  obeys a (Grants (Start v d)) e = ap (λ (i : ℕ). obey_in (memory_of y ws a) given (Grants (Start i d))) e
+  obeys a (Grants (Go v)) (e, few) =
       let s = stepped_in f x.doing x.announced rows a in
-      ap (λ (i : ℕ). obey_in (memory_of y ws a) given (Go i)) e
+      ap (λ (i : ℕ). obey_in (memory_of y ws a) given (Grants (Go i))) e
       ∙ next-acts few (parts_after a s) s.next
-      (said x.doing x.announced (clock_in a.clock) (free_in a.counts) f.p a.slots a.newest a.free _ a.marks _)
+      (said x.doing x.announced a.running.clock a.running.free f.p a.slots a.lent.newest a.lent.free _ a.running.marks _)
 
   -- the two numbers of the answer
   next-said : (a : Parts) (s : Next) → let z = (next_of a s).turn.said in (z.kind ≡ kind_of z.answer) × (z.number ≡ number_of z.answer)
@@ -166,12 +163,12 @@ module _ (f : Fixed) (n : ℕ) (rows rights : List ℕ) (ws : List Worker) (w : 
   next-said a (Free m) = (refl, refl)
   next-said a (Mark i t) = (refl, refl)
 
-  pub turn_said : (a : Parts) (g : Gate) → let z = (turn_on a g).turn.said in (z.kind ≡ kind_of z.answer) × (z.number ≡ number_of z.answer)
+  pub turn_said : (a : Parts) (g : Decided) → let z = (turn_on a g).turn.said in (z.kind ≡ kind_of z.answer) × (z.number ≡ number_of z.answer)
   unfolding turn_by go_turn
   turn_said a (Refuse k) = (refl, refl)
-  turn_said a (Make p v m k) = (refl, refl)
-  turn_said a (Start v d) = (refl, refl)
-  turn_said a (Go v) = let s = stepped_in f x.doing x.announced rows a in next-said (parts_after a s) s.next
+  turn_said a (Grants (Make p v m k)) = (refl, refl)
+  turn_said a (Grants (Start v d)) = (refl, refl)
+  turn_said a (Grants (Go v)) = let s = stepped_in f x.doing x.announced rows a in next-said (parts_after a s) s.next
 
   -- a setup is accepted
   next-makes : (a : Parts) (s : Next) → is_makes (next_of a s).turn.arm ≡ false
@@ -185,9 +182,9 @@ module _ (f : Fixed) (n : ℕ) (rows rights : List ℕ) (ws : List Worker) (w : 
   next-makes a (Free m) = refl
   next-makes a (Mark i t) = refl
 
-  pub turn_makes : (a : Parts) (g : Gate) → makes g ≡ is_makes (turn_on a g).turn.arm
+  pub turn_makes : (a : Parts) (g : Decided) → makes g ≡ is_makes (turn_on a g).turn.arm
   unfolding turn_by go_turn
   turn_makes a (Refuse k) = refl
-  turn_makes a (Make p v m k) = refl
-  turn_makes a (Start v d) = refl
-  turn_makes a (Go v) = let s = stepped_in f x.doing x.announced rows a in sym (next-makes (parts_after a s) s.next)
+  turn_makes a (Grants (Make p v m k)) = refl
+  turn_makes a (Grants (Start v d)) = refl
+  turn_makes a (Grants (Go v)) = let s = stepped_in f x.doing x.announced rows a in sym (next-makes (parts_after a s) s.next)

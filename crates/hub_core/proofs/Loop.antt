@@ -1,6 +1,6 @@
 -- The loop over the records: what holds before each, and that each arm keeps it. A turn with what the loop then does is what the definition says of
 -- the record (Acts.antt).
-use Rattle.std.specs.Prelude.{◌≡◌, ℕ, ◌+◌, ◌*◌, ◌%◌, ◌<◌, ◌≤◌, Bool, true, false, ◌||◌, List, [], map, length, get_or, set, replicate}
+use Rattle.std.specs.Prelude.{◌≡◌, ℕ, ◌+◌, ◌*◌, ◌%◌, ◌<◌, ◌≤◌, Bool, true, false, ◌||◌, Some, None, List, [], map, length, get_or, set, replicate}
 use mathlib.Core.Path.{refl, sym, ap, ◌∙◌, subst}
 use mathlib.Core.Bool.{true≢false}
 use native.Mathlib.Omega.{arith}
@@ -19,25 +19,24 @@ use Rattle.worker.proofs.Rep.{padded-nil}
 use Rattle.places.specs.About.{about_of}
 use Rattle.queue.specs.State.{pools_in}
 use Rattle.state.specs.State.{nobody, at_place}
-use Rattle.gate.specs.declared.Gate.{Gate}
-use Rattle.gate.specs.declared.Gate.TheVariants.{Refuse, Make, Start, Go}
+use Rattle.gate.specs.Gate.{Decided}
+use Rattle.gate.specs.declared.Gate.TheVariants.{Make, Start, Go}
+use Rattle.std.specs.Prelude.{Ok as Grants, Err as Refuse}
 use Rattle.gate.specs.Gate.{has_time}
 use Rattle.decision.proofs.Named.{Named, named, decode-names}
 use Rattle.splitting.specs.Splitting.{split_left, split_queue, split_merged}
 use Rattle.turns.specs.declared.Arm.{Arm}
 use Rattle.turns.specs.declared.Arm.TheVariants.{Reads, Makes, HandsIn, Splits, Moves}
 use Rattle.turns.specs.declared.Fixed.{Fixed}
-use Rattle.turns.specs.declared.Sizes.{Sizes}
 use Rattle.turns.specs.declared.Turn.{Turn}
-use Rattle.counts.specs.Counts.{free_in, window_in, counts_as}
-use Rattle.turns.specs.Parts.{Parts, parts}
+use Rattle.turns.specs.Parts.{Parts}
 use Rattle.turns.specs.Turns.{Turned, turn_by, decided_in, turn_of}
 use Rattle.simulation.specs.Memory.{Memory}
 use Rattle.simulation.specs.Shell.{off_worker, done_as}
 use Rattle.simulation.specs.Records.{record_at}
 use Rattle.simulation.specs.Loop.{State, next, after}
 use Rattle.hub_core.specs.Stretch.{site_of, memory_of, state_with, Went}
-use Rattle.hub_core.proofs.Acts.{with_times, with_split, handed_worker, split_worker, acted, is_makes, result_of, Names, obeys, turn_said, turn_makes}
+use Rattle.hub_core.proofs.Acts.{timed, with_split, handed_worker, split_worker, acted, is_makes, result_of, Names, obeys, turn_said, turn_makes}
 use Rattle.hub_core.proofs.Tested.{sizes_few}
 
 pub or_false : (t : Bool) → (t || false) ≡ t
@@ -75,7 +74,7 @@ module _ (f : Fixed) (few : f.up ≡ true → f.p ≤ 16) (list rows rights : Li
   abbrev x : Worker
   x = get_or ws w nobody
 
-  abbrev g : Gate
+  abbrev g : Decided
   g = decided_in f x.doing x.announced given.totals rows rights b a
 
   abbrev r : Turned
@@ -84,7 +83,7 @@ module _ (f : Fixed) (few : f.up ≡ true → f.p ≤ 16) (list rows rights : Li
   who : Named f.up (get_or b 1 0) f.p (length a.slots) g
   who =
       named (Model.decode b) (get_or b 1 0) (decode-names b) f.up f.p f.v (length a.slots) (about_of x.doing).idle
-      (has_time x.announced) given.totals _ a.marks _ _
+      (has_time x.announced) given.totals _ a.running.marks _ _
 
   module _ (n k : ℕ) (kinds numbers : List ℕ) (last : Answer) where
     abbrev m : Memory
@@ -94,11 +93,11 @@ module _ (f : Fixed) (few : f.up ≡ true → f.p ≤ 16) (list rows rights : Li
     T = state_with f.up m kinds numbers last
 
     -- the decision says who
-    names : (g : Gate) → Named f.up (get_or b 1 0) f.p (length a.slots) g → Names f n rows rights ws w given g
+    names : (g : Decided) → Named f.up (get_or b 1 0) f.p (length a.slots) g → Names f n rows rights ws w given g
     names (Refuse k) h = tt
-    names (Make p v m k) h = tt
-    names (Start v d) (u, e, h) = let l = few u in e ∙ omega arith
-    names (Go v) (u, e, h) = let l = few u in (e ∙ omega arith, l)
+    names (Grants (Make p v m k)) h = tt
+    names (Grants (Start v d)) (u, e, h) = let l = few u in e ∙ omega arith
+    names (Grants (Go v)) (u, e, h) = let l = few u in (e ∙ omega arith, l)
 
     done : done_as f.up m given b ≡ result_of f n rows rights ws w given r
     unfolding done_as
@@ -124,14 +123,14 @@ module _ (f : Fixed) (few : f.up ≡ true → f.p ≤ 16) (list rows rights : Li
     turn-taken z e = next-is ∙ ap stateAfter (sym e)
 
   -- a setup that is accepted has at most sixteen workers
-  made_few : (g : Gate) → Named f.up (get_or b 1 0) f.p (length a.slots) g
+  made_few : (g : Decided) → Named f.up (get_or b 1 0) f.p (length a.slots) g
       → is_makes (turn_by f w x.doing x.announced x.pool.len rows a g).turn.arm ≡ true
       → (turn_by f w x.doing x.announced x.pool.len rows a g).turn.sizes.p ≤ 16
   unfolding turn_by
   made_few (Refuse k) h e = absurd (true≢false (sym e))
-  made_few (Make p v m k) h e = (sizes_few p v m k (length a.slots) h.1).0
-  made_few (Start v d) h e = absurd (true≢false (sym e))
-  made_few (Go v) h e = absurd (true≢false (sym e ∙ sym (turn_makes f 0 rows rights ws w given a (Go v))))
+  made_few (Grants (Make p v m k)) h e = (sizes_few p v m k (length a.slots) h.1).0
+  made_few (Grants (Start v d)) h e = absurd (true≢false (sym e))
+  made_few (Grants (Go v)) h e = absurd (true≢false (sym e ∙ sym (turn_makes f 0 rows rights ws w given a (Grants (Go v)))))
 
   pub few_made : (z : Turned) → z ≡ r → z.turn.arm ≡ Makes → z.turn.sizes.p ≤ 16
   few_made z e m =
@@ -203,87 +202,73 @@ module _ {given : Given} {bytes : List ℕ} {from count k : ℕ} {s : ℕ → St
 
   -- and ends before a setup
   pub on_makes : t.arm ≡ Makes
-      → Went given bytes from count (k + 1) true t.sizes s (λ n. state_with f.up (memory_of (site_of f n rows rights) ws a') kinds' numbers' last')
+      → Went given bytes from count (k + 1) (Some t.sizes) s (λ n. state_with f.up (memory_of (site_of f n rows rights) ws a') kinds' numbers' last')
   on_makes e =
       let M = one_more_lem (left Makes true v) R more (by_arm Makes true e (or_true f.up)) in
       record {
         inside = M.inside;
         onward = λ h. let i = R.onward in omega arith;
-        few = λ h. few_made f few list rows rights given lent c ws a _ turned_is e;
+        few = few_made f few list rows rights given lent c ws a _ turned_is e;
         state = M.state;
       }
 
+  -- what the loop leaves
+  abbrev Leaves : List Worker → Parts → Type 0
+  Leaves ws' p = SoFar given bytes from count (k + 1) s (λ n. state_with f.up (memory_of (site_of f n rows rights) ws' p) kinds' numbers' last')
+
   -- flush (2): the time of worker j is read
-  pub on_reads : (j i : ℕ) (times : List ℕ) → t.arm ≡ Reads → i ≡ t.read → j ≡ i % 16
-      → times ≡ set a'.times (28 * v + j) (time_of (get_or ws j nobody).announced)
-      → SoFar given bytes from count (k + 1) s
-      (λ n. state_with f.up (memory_of (site_of f n rows rights) (set ws v (at_place (get_or ws v nobody) t.doing)) (with_times a' times)) kinds' numbers' last')
-  on_reads j i times e ei ej et =
+  pub on_reads : (i j : ℕ) (times : List ℕ) → t.arm ≡ Reads → i ≡ t.read → j ≡ i % 16
+      → times ≡ set a'.running.times (28 * v + j) (time_of (get_or ws j nobody).announced)
+      → Leaves (set ws v (at_place (get_or ws v nobody) t.doing)) (timed a' times)
+  on_reads i j times e ei ej et =
       let q : j ≡ t.read % 16 = ej ∙ ap (λ (l : ℕ). l % 16) ei in
-      let all : times ≡ set a'.times (28 * v + t.read % 16) (time_of (get_or ws (t.read % 16) nobody).announced) =
-      et ∙ ap (λ (l : ℕ). set a'.times (28 * v + l) (time_of (get_or ws l nobody).announced)) q in
-      subst (λ (l : List ℕ). SoFar given bytes from count (k + 1) s
-      (λ n. state_with f.up (memory_of (site_of f n rows rights) (set ws v (at_place (get_or ws v nobody) t.doing)) (with_times a' l)) kinds' numbers' last'))
-      (sym all) (on_arm Reads refl e)
+      let all : times ≡ set a'.running.times (28 * v + t.read % 16) (time_of (get_or ws (t.read % 16) nobody).announced) =
+      et ∙ ap (λ (l : ℕ). set a'.running.times (28 * v + l) (time_of (get_or ws l nobody).announced)) q in
+      subst (λ (l : List ℕ). Leaves (set ws v (at_place (get_or ws v nobody) t.doing)) (timed a' l)) (sym all) (on_arm Reads refl e)
 
   -- put (3)
-  pub on_hands_in : (y : Worker) → t.arm ≡ HandsIn → y ≡ handed_worker (get_or ws v nobody) t
-      → SoFar given bytes from count (k + 1) s (λ n. state_with f.up (memory_of (site_of f n rows rights) (set ws v y) a') kinds' numbers' last')
-  on_hands_in y e ey =
-      subst (λ (z : Worker). SoFar given bytes from count (k + 1) s
-      (λ n. state_with f.up (memory_of (site_of f n rows rights) (set ws v z) a') kinds' numbers' last'))
-      (sym ey) (on_arm HandsIn refl e)
+  pub on_hands_in : (y : Worker) → t.arm ≡ HandsIn → y ≡ handed_worker (get_or ws v nobody) t → Leaves (set ws v y) a'
+  on_hands_in y e ey = subst (λ (z : Worker). Leaves (set ws v z) a') (sym ey) (on_arm HandsIn refl e)
 
   -- flush (4), once the reads of all workers are moved
   pub on_moves : (ws' : List Worker) → t.arm ≡ Moves
-      → ws' ≡ map (off_worker t.slot t.older) (set ws v (at_place (get_or ws v nobody) t.doing))
-      → SoFar given bytes from count (k + 1) s (λ n. state_with f.up (memory_of (site_of f n rows rights) ws' a') kinds' numbers' last')
-  on_moves ws' e ew =
-      subst (λ (z : List Worker). SoFar given bytes from count (k + 1) s (λ n. state_with f.up (memory_of (site_of f n rows rights) z a') kinds' numbers' last'))
-      (sym ew) (on_arm Moves refl e)
+      → ws' ≡ map (off_worker t.slot t.older) (set ws v (at_place (get_or ws v nobody) t.doing)) → Leaves ws' a'
+  on_moves ws' e ew = subst (λ (z : List Worker). Leaves z a') (sym ew) (on_arm Moves refl e)
 
   -- flush (3)
-  pub on_splits : (i : ℕ) (old window : Window) (n : ℕ) (queue lens merged counts : List ℕ) → t.arm ≡ Splits → i ≡ t.read
-      → old ≡ window_in a'.counts
-      → n ≡ split_left a'.merged v t.merged a'.times i (get_or ws v nobody).pool
+  pub on_splits : (j n : ℕ) (window : Window) (queue lens merged : List ℕ) → t.arm ≡ Splits → j ≡ t.read
+      → n ≡ split_left a'.lent.merged v t.merged a'.running.times j (get_or ws v nobody).pool
       → pools_in queue lens window
-      ≡ split_queue (pools_in a'.queue a'.lens old) a'.merged v t.merged a'.times i f.batch (get_or ws v nobody).pool
-      → merged ≡ split_merged a'.merged v t.merged a'.times i (get_or ws v nobody).pool → counts ≡ counts_as (free_in a'.counts) window
-      → SoFar given bytes from count (k + 1) s
-      (λ l. state_with f.up (memory_of (site_of f l rows rights) (set ws v (emptied_worker (get_or ws v nobody) n))
-      (parts a'.slots a'.newest a'.free queue lens merged a'.clock counts a'.times a'.marks a'.reading)) kinds' numbers' last')
-  on_splits i old window n queue lens merged counts e ei eo en eq em ec =
-      let y = emptied_worker (get_or ws v nobody) n in
-      let pool = (get_or ws v nobody).pool in
-      let leaves : Worker → Parts → Type 0 = λ y p. SoFar given bytes from count (k + 1) s
-      (λ l. state_with f.up (memory_of (site_of f l rows rights) (set ws v y) p) kinds' numbers' last') in
+      ≡ split_queue (pools_in a'.lent.queue a'.lent.lens a'.running.window) a'.lent.merged v t.merged a'.running.times j f.batch (get_or ws v nobody).pool
+      → merged ≡ split_merged a'.lent.merged v t.merged a'.running.times j (get_or ws v nobody).pool
+      → Leaves (set ws v (emptied_worker (get_or ws v nobody) n)) (with_split a' (pools_in queue lens window) merged)
+  on_splits j n window queue lens merged e ej en eq em =
+      let y = get_or ws v nobody in
+      let y₀ : emptied_worker y n ≡ split_worker y (split_left a'.lent.merged v t.merged a'.running.times t.read y.pool) =
+      sym (empty-is y n) ∙ ap (split_worker y) (en ∙ ap (λ (l : ℕ). split_left a'.lent.merged v t.merged a'.running.times l y.pool) ej) in
       let q₀ : pools_in queue lens window
-      ≡ split_queue (pools_in a'.queue a'.lens (window_in a'.counts)) a'.merged v t.merged a'.times t.read f.batch pool =
-      eq ∙ (λ j. split_queue (pools_in a'.queue a'.lens (eo j)) a'.merged v t.merged a'.times (ei j) f.batch pool) in
-      let y₀ : y ≡ split_worker (get_or ws v nobody) (split_left a'.merged v t.merged a'.times t.read pool) =
-      sym (empty-is (get_or ws v nobody) n) ∙ ap (split_worker (get_or ws v nobody)) (en ∙ ap (λ (j : ℕ). split_left a'.merged v t.merged a'.times j pool) ei) in
-      let d₀ : merged ≡ split_merged a'.merged v t.merged a'.times t.read pool =
-      em ∙ ap (λ (j : ℕ). split_merged a'.merged v t.merged a'.times j pool) ei in
-      let split = with_split a'
-      (split_queue (pools_in a'.queue a'.lens (window_in a'.counts)) a'.merged v t.merged a'.times t.read f.batch pool)
-      (split_merged a'.merged v t.merged a'.times t.read pool) in
-      let p₀ : parts a'.slots a'.newest a'.free queue lens merged a'.clock counts a'.times a'.marks a'.reading ≡ split =
-      ap (λ (l : List ℕ). parts a'.slots a'.newest a'.free queue lens merged a'.clock l a'.times a'.marks a'.reading) ec
-      ∙ (λ j. with_split a' (q₀ j) (d₀ j)) in
-      subst (leaves y) (sym p₀) (subst (λ (z : Worker). leaves z split) (sym y₀) (on_arm Splits refl e))
+      ≡ split_queue (pools_in a'.lent.queue a'.lent.lens a'.running.window) a'.lent.merged v t.merged a'.running.times t.read f.batch y.pool =
+      eq ∙ ap (λ (l : ℕ). split_queue (pools_in a'.lent.queue a'.lent.lens a'.running.window) a'.lent.merged v t.merged a'.running.times l f.batch y.pool) ej in
+      let d₀ : merged ≡ split_merged a'.lent.merged v t.merged a'.running.times t.read y.pool =
+      em ∙ ap (λ (l : ℕ). split_merged a'.lent.merged v t.merged a'.running.times l y.pool) ej in
+      subst (λ (z : Worker). Leaves (set ws v z) (with_split a' (pools_in queue lens window) merged)) (sym y₀)
+      (subst (λ (p : Parts). Leaves (set ws v (split_worker y (split_left a'.lent.merged v t.merged a'.running.times t.read y.pool))) p)
+      (λ l. with_split a' (sym q₀ l) (sym d₀ l)) (on_arm Splits refl e))
 
 -- before the first record, and behind the last
 pub begun : {given : Given} {bytes : List ℕ} {from count : ℕ} {s : ℕ → State} → from ≤ count → SoFar given bytes from count from s s
 begun h = record { inside = h; onward = omega arith; state = λ S n e. e }
 
-pub ended : {given : Given} {bytes : List ℕ} {from count k : ℕ} {s t : ℕ → State} {z : Sizes} → SoFar given bytes from count k s t → count ≤ k
-    → Went given bytes from count k false z s t
-ended R h =
+pub ended : {given : Given} {bytes : List ℕ} {from count k : ℕ} {s t : ℕ → State} → SoFar given bytes from count k s t → count ≤ k
+    → Went given bytes from count count None s t
+ended {given = given} {bytes = bytes} {count = count} {k = k} R h =
+    let i = R.inside in
+    let all : k ≡ count = omega arith in
     record {
-      inside = R.inside;
-      onward = λ e. omega arith;
-      few = λ e. absurd (true≢false (sym e));
-      state = R.state;
+      inside = omega arith;
+      onward = λ e. e;
+      few = tt;
+      state = λ S n e. R.state S n e ∙ ap (after S given bytes) all;
     }
 
 -- a row of answers and the workers keep their number

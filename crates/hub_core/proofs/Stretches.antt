@@ -1,5 +1,5 @@
 -- The stretches of the records between setups: what holds before each, and that it still holds behind one, with the setup at its end or without.
-use Rattle.std.specs.Prelude.{◌≡◌, ℕ, ◌+◌, ◌-◌, ◌*◌, ◌/◌, ◌<◌, ◌≤◌, min, Bool, true, false, List, length, set}
+use Rattle.std.specs.Prelude.{◌≡◌, ℕ, ◌+◌, ◌-◌, ◌*◌, ◌/◌, ◌<◌, ◌≤◌, min, Bool, true, Option, Some, None, List, length, set}
 use mathlib.Core.Path.{refl, sym, ap, ◌∙◌, subst}
 use native.Mathlib.Numerals.{add-one}
 use borrow.Author.Tests.{lt-ltb}
@@ -18,15 +18,17 @@ use Rattle.arrays.specs.Arrays.{short, fill_to}
 use Rattle.versions.specs.Versions.{slot_in, row_of}
 use Rattle.state.specs.declared.Site.{Site}
 use Rattle.state.specs.declared.Hub.{Hub}
+use Rattle.state.specs.declared.Lent.{Lent}
 use Rattle.state.specs.State.{fresh_hub, site_made}
 use Rattle.ready.specs.Ready.{ready_of}
 use Rattle.turns.specs.declared.Sizes.{Sizes}
 use Rattle.simulation.specs.Memory.{Memory, memory}
+use Rattle.simulation.specs.Lent.{lent_memory}
 use Rattle.simulation.specs.Left.{ready}
 use Rattle.simulation.specs.Shell.{set_up_in, obey_in, done_as}
 use Rattle.simulation.specs.Records.{record_at}
 use Rattle.simulation.specs.Loop.{State, next, after, before, Ran}
-use Rattle.hub_core.specs.Stretch.{state_with, made_after, Went, RestRefused}
+use Rattle.hub_core.specs.Stretch.{state_with, made_after, few_made, Went, RestRefused}
 use Rattle.hub_core.proofs.Cutting.{rest-short}
 use Rattle.hub_core.proofs.Loop.{or_false}
 
@@ -34,14 +36,14 @@ use Rattle.hub_core.proofs.Loop.{or_false}
 -- A stretch on a hub by value
 
 -- where the number of slots is known, the states are
-pub at_site : {given : Given} {bytes : List ℕ} {from count at : ℕ} {made : Bool} {z : Sizes} {s t : ℕ → State} {s' t' : State} (n : ℕ)
-    → Went given bytes from count at made z s t → s n ≡ s' → t n ≡ t' → Went given bytes from count at made z (λ _. s') (λ _. t')
-at_site {given = given} {made = made} {z = z} n W es et =
+pub at_site : {given : Given} {bytes : List ℕ} {from count at : ℕ} {made : Option Sizes} {s t : ℕ → State} {s' t' : State} (n : ℕ)
+    → Went given bytes from count at made s t → s n ≡ s' → t n ≡ t' → Went given bytes from count at made (λ _. s') (λ _. t')
+at_site {given = given} {made = made} n W es et =
     record {
       inside = W.inside;
       onward = W.onward;
       few = W.few;
-      state = λ S i e. ap (made_after made given z) (sym et) ∙ W.state S n (es ∙ e);
+      state = λ S i e. ap (made_after made given) (sym et) ∙ W.state S n (es ∙ e);
     }
 
 ------------------------------------------------------------------------
@@ -54,35 +56,35 @@ pub record Reached (S : State) (given : Given) (bytes : List ℕ) (count k : ℕ
   -- memory that counts as set up has at most sixteen workers
   pub few : T.up ≡ true → T.memory.hub.site.p ≤ 16
 
-module _ {S : State} {given : Given} {bytes : List ℕ} {count k at : ℕ} {s t : State} {z : Sizes} (R : Reached S given bytes count k s) where
+module _ {S : State} {given : Given} {bytes : List ℕ} {count k at : ℕ} {s t : State} (R : Reached S given bytes count k s) where
   -- a stretch that ended with the last record
-  pub went_on : (made : Bool) → Went given bytes k count at made z (λ _. s) (λ _. t) → made ≡ false → s.up ≡ t.up
+  pub went_on : (made : Option Sizes) → Went given bytes k count at made (λ _. s) (λ _. t) → made ≡ None → s.up ≡ t.up
       → t.memory.hub.site ≡ s.memory.hub.site → Reached S given bytes count at t
   went_on made W e eu ep =
       record {
         inside = W.inside;
-        state = ap (λ (b : Bool). made_after b given z t) (sym e) ∙ W.state S 0 R.state;
+        state = ap (λ (o : Option Sizes). made_after o given t) (sym e) ∙ W.state S 0 R.state;
         few = λ u. subst (λ (x : Site). x.p ≤ 16) (sym ep) (R.few (eu ∙ u));
       }
 
   -- and one that ended with a setup, once that is carried out
-  pub went_up : (made : Bool) → Went given bytes k count at made z (λ _. s) (λ _. t) → made ≡ true → (h : Hub) (slots : List Slot) (newest free : List ℕ)
-      → h ≡ fresh_hub (site_made t.memory.hub given.totals z.p z.v z.n) z.clock → slots ≡ made_to t.memory.slots z.v z.n
-      → newest ≡ fill_to t.memory.newest short z.v → free ≡ fill_to t.memory.free (λ j. short (z.n - 1 - j)) h.free
-      → Reached S given bytes count at
-      (state_with true (memory h slots newest free t.memory.queue t.memory.lens t.memory.merged) t.kinds t.numbers t.last)
+  pub went_up : (made : Option Sizes) → Went given bytes k count at made (λ _. s) (λ _. t) → (z : Sizes) → made ≡ Some z → (h : Hub) (slots : List Slot)
+      (m : Lent) → h ≡ fresh_hub (site_made t.memory.hub given.totals z.p z.v z.n) z.clock → slots ≡ made_to t.memory.slots z.v z.n
+      → m.newest ≡ fill_to t.memory.newest short z.v → m.free ≡ fill_to t.memory.free (λ j. short (z.n - 1 - j)) h.free
+      → (m.queue ≡ t.memory.queue) × (m.lens ≡ t.memory.lens) × (m.merged ≡ t.memory.merged)
+      → Reached S given bytes count at (state_with true (lent_memory h slots m) t.kinds t.numbers t.last)
   unfolding set_up_in
-  went_up made W e h slots newest free eh es en ef =
-      let all : free ≡ fill_to t.memory.free (λ j. short (z.n - 1 - j)) (z.n - z.v) =
+  went_up made W z e h slots m eh es en ef (eq, el, em) =
+      let all : m.free ≡ fill_to t.memory.free (λ j. short (z.n - 1 - j)) (z.n - z.v) =
       ef ∙ ap (λ (y : Hub). fill_to t.memory.free (λ j. short (z.n - 1 - j)) y.free) eh in
       record {
         inside = W.inside;
         state =
-            (λ i. state_with true (memory (eh i) (es i) (en i) (all i) t.memory.queue t.memory.lens t.memory.merged) t.kinds t.numbers
+            (λ i. state_with true (memory (eh i) (es i) (en i) (all i) (eq i) (el i) (em i)) t.kinds t.numbers
             t.last)
-            ∙ ap (λ (b : Bool). made_after b given z t) (sym e)
+            ∙ ap (λ (o : Option Sizes). made_after o given t) (sym e)
             ∙ W.state S 0 R.state;
-        few = λ u. subst (λ (y : Hub). y.site.p ≤ 16) (sym eh) (W.few e);
+        few = λ u. subst (λ (y : Hub). y.site.p ≤ 16) (sym eh) (subst few_made e W.few);
       }
 
 ------------------------------------------------------------------------
@@ -145,12 +147,12 @@ refuse-all {from = from} {kinds = kinds} {numbers = numbers} {kinds' = kinds'} {
 ------------------------------------------------------------------------
 -- The test before the first record, and the end
 
-pub ready-is : (h : Hub) (row : List (List ℕ)) (newest free queue lens merged : List ℕ) (up linked : Bool)
-    → linked ≡ linked_to (row_of row) h.site.n h.site.n → up ≡ ready_of h newest free queue lens merged linked (length row)
-    → up ≡ ready (memory h (row_of row) newest free queue lens merged)
+pub ready-is : (h : Hub) (row : List (List ℕ)) (l : Lent) (up linked : Bool)
+    → linked ≡ linked_to (row_of row) h.site.n h.site.n → up ≡ ready_of h l.newest l.free l.queue l.lens l.merged linked (length row)
+    → up ≡ ready (lent_memory h (row_of row) l)
 unfolding ready
-ready-is h row newest free queue lens merged up linked ek eu =
-    eu ∙ (λ i. ready_of h newest free queue lens merged (ek i) (sym (length-map row slot_in) i))
+ready-is h row l up linked ek eu =
+    eu ∙ (λ i. ready_of h l.newest l.free l.queue l.lens l.merged (ek i) (sym (length-map row slot_in) i))
 
 -- all records are applied: the whole ones, and those behind them are refused
 pub finished : (m : Memory) (given : Given) (bytes kinds numbers : List ℕ) (count most whole k : ℕ) (up : Bool) (T : State) (kinds' numbers' : List ℕ)

@@ -1,6 +1,6 @@
 -- What the parts of the loop do: the records from one on, until a setup is accepted or all are applied. The workers' records are the loop's own,
 -- everything else is lent.
-use Rattle.std.specs.Prelude.{◌≡◌, ℕ, ◌+◌, ◌*◌, ◌<◌, ◌≤◌, Bool, true, false, List, length}
+use Rattle.std.specs.Prelude.{◌≡◌, ℕ, ◌+◌, ◌*◌, ◌<◌, ◌≤◌, Bool, true, Option, Some, None, List, length}
 use Rattle.model.specs.Rules.{Given}
 use Rattle.values.specs.declared.Answer.{Answer}
 use Rattle.worker.specs.declared.Worker.{Worker}
@@ -8,9 +8,9 @@ use Rattle.state.specs.declared.Site.{Site}
 use Rattle.state.specs.declared.Hub.{Hub}
 use Rattle.turns.specs.declared.Fixed.{Fixed}
 use Rattle.turns.specs.declared.Sizes.{Sizes}
-use Rattle.counts.specs.Counts.{clock_in, free_in, window_in}
 use Rattle.turns.specs.Parts.{Parts}
-use Rattle.simulation.specs.Memory.{Memory, memory}
+use Rattle.simulation.specs.Memory.{Memory}
+use Rattle.simulation.specs.Lent.{lent_memory}
 use Rattle.simulation.specs.Shell.{set_up_in}
 use Rattle.simulation.specs.Loop.{State, after}
 
@@ -33,26 +33,26 @@ abbrev pub hub_of : Site → List Worker → Parts → Hub
 hub_of x ws a =
     record {
       site = x;
-      clock = clock_in a.clock;
-      free = free_in a.counts;
-      window = window_in a.counts;
-      times = a.times;
-      marks = a.marks;
-      reading = a.reading;
+      clock = a.running.clock;
+      free = a.running.free;
+      window = a.running.window;
+      times = a.running.times;
+      marks = a.running.marks;
+      reading = a.running.reading;
       workers = ws;
     }
 
 abbrev pub memory_of : Site → List Worker → Parts → Memory
-memory_of x ws a = memory (hub_of x ws a) a.slots a.newest a.free a.queue a.lens a.merged
+memory_of x ws a = lent_memory (hub_of x ws a) a.slots a.lent
 
 -- the state of the loop
 abbrev pub state_with : Bool → Memory → List ℕ → List ℕ → Answer → State
 state_with up m kinds numbers last = record { up = up; memory = m; kinds = kinds; numbers = numbers; last = last }
 
--- a setup that is accepted is still to be carried out, where `made` says so
-abbrev pub made_after : Bool → Given → Sizes → State → State
-made_after false given z s = s
-made_after true given z s =
+-- a setup that is accepted, of these sizes, is still to be carried out, where there is one
+abbrev pub made_after : Option Sizes → Given → State → State
+made_after None given s = s
+made_after (Some z) given s =
     record {
       up = true;
       memory = set_up_in s.memory given z.p z.v z.n z.clock;
@@ -61,13 +61,18 @@ made_after true given z s =
       last = s.last;
     }
 
--- The records from `from` to before `at`, of `count`, were applied. They met the state s and left the state t; where `made` says so, the last of them
+-- its workers are at most sixteen
+abbrev pub few_made : Option Sizes → Type 0
+few_made None = Unit {0}
+few_made (Some z) = z.p ≤ 16
+
+-- The records from `from` to before `at`, of `count`, were applied. They met the state s and left the state t; where `made` has sizes, the last of them
 -- is a setup that is accepted and still to be carried out. Both states are known but for how many slots the setup before them has.
-pub record Went (given : Given) (bytes : List ℕ) (from count at : ℕ) (made : Bool) (z : Sizes) (s t : ℕ → State) : Type 0 where
+pub record Went (given : Given) (bytes : List ℕ) (from count at : ℕ) (made : Option Sizes) (s t : ℕ → State) : Type 0 where
   pub inside : at ≤ count
   pub onward : from < count → from < at
-  pub few : made ≡ true → z.p ≤ 16
-  pub state : (S : State) (n : ℕ) → s n ≡ after S given bytes from → made_after made given z (t n) ≡ after S given bytes at
+  pub few : few_made made
+  pub state : (S : State) (n : ℕ) → s n ≡ after S given bytes from → made_after made given (t n) ≡ after S given bytes at
 
 -- The records from `from` to before `count`, none of which has sixteen bytes, were refused: what was answered is written over the two rows, and
 -- memory stays as it is.

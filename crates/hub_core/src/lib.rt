@@ -2,10 +2,11 @@
 // slots are a lent row of words. Every public call goes through it.
 #![tactic(auto)]
 
-ghost use Rattle.std.specs.Prelude.{◌≡◌, ◌+◌, ◌*◌, ◌<◌, ◌≤◌, min, true, length, slice_set};
+ghost use Rattle.std.specs.Prelude.{◌≡◌, ◌+◌, ◌*◌, ◌<◌, ◌≤◌, min, true, length, map, slice_set};
 ghost use Rattle.model.specs.Rules.{of_totals};
 ghost use Rattle.versions.specs.Versions.{row_of};
-ghost use Rattle.simulation.specs.Memory.{memory};
+ghost use Rattle.simulation.specs.Lent.{lent_memory};
+ghost use Rattle.simulation.specs.Shell.{off_worker};
 ghost use Rattle.simulation.specs.Records.{record_at};
 ghost use Rattle.pools.specs.Placed.{placed};
 ghost use Rattle.worker.specs.Rep.{time_of};
@@ -14,16 +15,10 @@ ghost use Rattle.hub_core.specs.Sized.{RanSized};
 ghost use Rattle.hub_core.specs.Stretch.{site_of, memory_of, state_with, Went, RestRefused};
 
 use answers::Said;
-use state::Hub;
-use turns::{Arm, Fixed, Sizes, Turn};
-use values::{Answer, Window};
+use state::{Hub, Lent};
+use turns::{Arm, Fixed, Running, Sizes, Turn};
+use values::{Answer, Refusal};
 use worker::{Announced, Doing, Worker};
-
-fn wide(x: u8) -> usize
-    ensures { (result ≡ x) × (result ≤ 255) }
-{
-    x as usize
-}
 
 // Record k of the bytes, which has all sixteen.
 fn record_at(bytes: &[u8], k: usize) -> &[u8]
@@ -73,22 +68,32 @@ fn handed(y: Worker, t: Turn) -> Worker
 {
     let mut pool = y.pool;
     let at = pool.len;
-    pools::put_slot(&mut pool.slots, at, t.slot);
-    pools::put_time(&mut pool.lows, at, t.low);
-    pools::put_time(&mut pool.highs, at, t.high);
+    pools::put(&mut pool.slots, at, t.slot);
+    pools::put(&mut pool.lows, at, t.low);
+    pools::put(&mut pool.highs, at, t.high);
     pool.len = t.len;
     let doing = t.doing;
     Worker { doing, pool, ..y }
 }
 
-// What a part of the records leaves: the workers, before which record it ended, whether the one before that is a setup that is accepted, its sizes, and
-// the last answer.
+// Flush (4). H5.27: the reads of all workers move off the freed slot.
+fn move_off(workers: &mut [Worker; 16], slot: u16, older: u16)
+    ensures { workers.new ≡ map (off_worker slot older) workers.old }
+{
+    for y in workers.iter_mut() {
+        if standing::stands_on(y.doing, slot) {
+            y.doing = standing::off(y.doing, slot, older);
+        }
+    }
+}
+
+// What a part of the records leaves: the workers, before which record it ended, the sizes of a setup that is accepted where the one before that is
+// one, and the last answer.
 #[derive(Clone, Copy)]
 struct Part {
     workers: [Worker; 16],
     at: usize,
-    made: bool,
-    sizes: Sizes,
+    made: Option<Sizes>,
     last: Answer,
 }
 
@@ -106,29 +111,19 @@ fn run_lent<'a>(
     count: usize,
     kinds: &mut [u16],
     numbers: &mut [u64],
-    newest: &mut [u16; 256],
-    free: &mut [u16; 2048],
-    queue: &mut [u32; 12288],
-    lens: &mut [u32; 4096],
-    merged: &mut [u32; 12288],
-    clock: &mut [u32; 1],
-    counts: &mut [usize; 5],
-    times: &mut [u64; 448],
-    marks: &mut [u64; 12],
-    reading: &mut [u8; 16],
+    lent: &mut Lent,
+    running: &mut Running,
 ) -> Part
     requires { (fixed.up ≡ true → fixed.p ≤ 16) × (count ≤ length kinds.old) × (count ≤ length numbers.old)
         × (from ≤ count) × (16 * count ≤ length bytes.now) }
-    ensures { Went (of_totals list.now) bytes.now from count result.at result.made result.sizes
+    ensures { Went (of_totals list.now) bytes.now from count result.at result.made
         (λ n. state_with fixed.up
         (memory_of (site_of fixed n rows.now rights.now) start
-        (parts (row_of row.old) newest.old free.old queue.old lens.old merged.old
-        clock.old counts.old times.old marks.old reading.old))
+        (parts (row_of row.old) lent.old running.old))
         kinds.old numbers.old first)
         (λ n. state_with fixed.up
         (memory_of (site_of fixed n rows.now rights.now) result.workers
-        (parts (row_of row.new) newest.new free.new queue.new lens.new merged.new
-        clock.new counts.new times.new marks.new reading.new))
+        (parts (row_of row.new) lent.new running.new))
         kinds.new numbers.new result.last) }
 {
     let mut workers = start;
@@ -137,25 +132,28 @@ fn run_lent<'a>(
     let mut needed = [0u32; 768];
     let mut local = [0u32; 192];
     let mut joined = [0u32; 960];
+    // No `for`: it would go on behind the match, and all its cases would be proved as one.
     let mut k = from;
     while k < count {
         let rec = record_at(bytes, k);
         // The record that is looked at is the worker's own where there are more than w workers; elsewhere it does not matter.
-        let w = wide(rec[1]) % 16;
-        let x = workers[w];
-        let d = x.doing;
-        let a = x.announced;
-        let q = x.pool;
+        let w = usize::from(rec[1]) % 16;
         let t = turns::take_turn(
-            row, newest, free, queue, lens, merged, clock, counts, times, marks, reading, rec, w,
-            d, a, q.len, fixed, list, rows, rights,
+            row,
+            lent,
+            running,
+            rec,
+            w,
+            &workers[w],
+            fixed,
+            list,
+            rows,
+            rights,
         );
-        let said = t.said;
-        last = put_answer(kinds, numbers, k, said);
+        last = put_answer(kinds, numbers, k, t.said);
         k += 1;
         let doing = t.doing;
-        let arm = t.arm;
-        match arm {
+        match t.arm {
             Arm::Says => {}
             Arm::Sets => {
                 let y = workers[w];
@@ -172,20 +170,17 @@ fn run_lent<'a>(
             }
             // Flush (2).
             Arm::Reads => {
-                let j = wide(t.read) % 16;
+                let j = usize::from(t.read) % 16;
                 let z = workers[j];
-                let other = z.announced;
-                keep_time(times, w, j, other);
+                keep_time(&mut running.times, w, j, z.announced);
                 let y = workers[w];
                 workers[w] = Worker { doing, ..y };
             }
             Arm::Makes => {
-                let sizes = t.sizes;
                 return Part {
                     workers,
                     at: k,
-                    made: true,
-                    sizes,
+                    made: Some(t.sizes),
                     last,
                 };
             }
@@ -199,71 +194,50 @@ fn run_lent<'a>(
                 let y = workers[w];
                 let pool = y.pool;
                 let f = splitting::flush_split(
-                    queue,
-                    lens,
-                    counts::window_of(counts),
-                    merged,
+                    &mut lent.queue,
+                    &mut lent.lens,
+                    running.window,
+                    &mut lent.merged,
                     w,
                     t.merged,
-                    times,
-                    wide(t.read),
+                    &running.times,
+                    usize::from(t.read),
                     fixed.batch,
                     pool,
                     &mut needed,
                     &mut local,
                     &mut joined,
                 );
-                let window = f.window;
-                counts::set_window(counts, window);
+                running.window = f.window;
                 workers[w] = Worker {
                     doing: Doing::FlushFree { left: f.left },
                     pool: worker::EMPTY,
                     ..y
                 };
             }
-            // Flush (4). H5.27: reads move off the freed slot.
+            // Flush (4).
             Arm::Moves => {
                 let y = workers[w];
                 workers[w] = Worker { doing, ..y };
-                let mut j: usize = 0;
-                while j < 16 {
-                    let z = workers[j];
-                    let e = z.doing;
-                    if standing::stands_on(e, t.slot) {
-                        let doing = standing::off(e, t.slot, t.older);
-                        workers[j] = Worker { doing, ..z };
-                        j += 1;
-                    } else {
-                        j += 1;
-                    }
-                }
+                move_off(&mut workers, t.slot, t.older);
             }
         }
     }
     Part {
         workers,
-        at: k,
-        made: false,
-        sizes: NO_SIZES,
+        at: count,
+        made: None,
         last,
     }
 }
 
-const NO_SIZES: Sizes = Sizes {
-    p: 0,
-    v: 0,
-    n: 0,
-    clock: 0,
-};
-
-// What a stretch of the records leaves of the hub by value, before which record it ended, whether the one before that is a setup that is accepted, its
-// sizes, and the last answer.
+// What a stretch of the records leaves of the hub by value, before which record it ended, the sizes of a setup that is accepted where the one before
+// that is one, and the last answer.
 #[derive(Clone, Copy)]
 struct Stretch {
     hub: Hub,
     at: usize,
-    made: bool,
-    sizes: Sizes,
+    made: Option<Sizes>,
     last: Answer,
 }
 
@@ -279,22 +253,16 @@ fn run_stretch(
     count: usize,
     kinds: &mut [u16],
     numbers: &mut [u64],
-    newest: &mut [u16; 256],
-    free: &mut [u16; 2048],
-    queue: &mut [u32; 12288],
-    lens: &mut [u32; 4096],
-    merged: &mut [u32; 12288],
+    lent: &mut Lent,
 ) -> Stretch
     requires { (up ≡ true → start.site.p ≤ 16) × (count ≤ length kinds.old) × (count ≤ length numbers.old)
         × (from ≤ count) × (16 * count ≤ length bytes.now) }
-    ensures went { Went (of_totals list.now) bytes.now from count result.at result.made result.sizes
+    ensures went { Went (of_totals list.now) bytes.now from count result.at result.made
         (λ _. state_with up
-        (memory start (row_of row.old)
-        newest.old free.old queue.old lens.old merged.old)
+        (lent_memory start (row_of row.old) lent.old)
         kinds.old numbers.old first)
         (λ _. state_with up
-        (memory result.hub (row_of row.new)
-        newest.new free.new queue.new lens.new merged.new)
+        (lent_memory result.hub (row_of row.new) lent.new)
         kinds.new numbers.new result.last) }
     ensures site_value { result.hub.site ≡ start.site }
 {
@@ -307,12 +275,17 @@ fn run_stretch(
         listed: site.listed,
         granted: site.granted,
     };
-    let old = start.window;
-    let mut clock = [start.clock; 1];
-    let mut counts = [start.free, old.first, old.pools, old.from, old.queued];
-    let mut times = start.times;
-    let mut marks = start.marks;
-    let mut reading = start.reading;
+    let times = start.times;
+    let marks = start.marks;
+    let reading = start.reading;
+    let mut running = Running {
+        clock: start.clock,
+        free: start.free,
+        window: start.window,
+        times,
+        marks,
+        reading,
+    };
     let before = start.workers;
     let e = run_lent(
         row,
@@ -327,42 +300,28 @@ fn run_stretch(
         count,
         kinds,
         numbers,
-        newest,
-        free,
-        queue,
-        lens,
-        merged,
-        &mut clock,
-        &mut counts,
-        &mut times,
-        &mut marks,
-        &mut reading,
+        lent,
+        &mut running,
     );
-    let window = Window {
-        first: counts[1],
-        pools: counts[2],
-        from: counts[3],
-        queued: counts[4],
-    };
+    let times = running.times;
+    let marks = running.marks;
+    let reading = running.reading;
     let workers = e.workers;
     let hub = Hub {
         site,
-        clock: clock[0],
-        free: counts[0],
-        window,
+        clock: running.clock,
+        free: running.free,
+        window: running.window,
         times,
         marks,
         reading,
         workers,
     };
-    let sizes = e.sizes;
-    let last = e.last;
     Stretch {
         hub,
         at: e.at,
         made: e.made,
-        sizes,
-        last,
+        last: e.last,
     }
 }
 
@@ -377,11 +336,10 @@ fn refuse_rest(
     requires { (from ≤ count) × (count ≤ length kinds.old) × (count ≤ length numbers.old) }
     ensures { RestRefused from count kinds.old numbers.old first kinds.new numbers.new result }
 {
+    let said = answers::say(Answer::No(Refusal::CutOff.number()));
     let mut last = first;
-    let mut k = from;
-    while k < count {
-        last = put_answer(kinds, numbers, k, answers::say(Answer::No(6)));
-        k += 1;
+    for k in from..count {
+        last = put_answer(kinds, numbers, k, said);
     }
     last
 }
@@ -403,50 +361,43 @@ pub fn run(
     count: usize,
     kinds: &mut [u16],
     numbers: &mut [u64],
-    newest: &mut [u16; 256],
-    free: &mut [u16; 2048],
-    queue: &mut [u32; 12288],
-    lens: &mut [u32; 4096],
-    merged: &mut [u32; 12288],
+    lent: &mut Lent,
 ) -> Ended
     ensures { RanSized
-        (memory start (row_of row.old)
-        newest.old free.old queue.old lens.old merged.old)
+        (lent_memory start (row_of row.old) lent.old)
         (of_totals list.now) bytes.now kinds.old numbers.old
         (min count (min (length kinds.old) (length numbers.old)))
-        (memory result.hub (row_of row.new)
-        newest.new free.new queue.new lens.new merged.new)
+        (lent_memory result.hub (row_of row.new) lent.new)
         kinds.new numbers.new result.last }
 {
     // Where an array is lent as a slice, the proof learns how long it is.
-    let newest_long: &[u16] = newest;
-    let free_long: &[u16] = free;
-    let queue_long: &[u32] = queue;
-    let lens_long: &[u32] = lens;
-    let merged_long: &[u32] = merged;
+    let newest_long: &[u16] = &lent.newest;
+    let free_long: &[u16] = &lent.free;
+    let queue_long: &[u32] = &lent.queue;
+    let lens_long: &[u32] = &lent.lens;
+    let merged_long: &[u32] = &lent.merged;
     let linked = all_versions::all_linked(row, start.site.n);
-    let mut up = ready::ready(start, newest, free, queue, lens, merged, linked, row.len());
-    let room = bounds::at_most(kinds.len(), numbers.len());
-    let most = bounds::at_most(count, room);
-    let whole = bounds::at_most(bytes.len() / 16, most);
+    let mut up = ready::ready(start, lent, linked, row.len());
+    let room = kinds.len().min(numbers.len());
+    let most = count.min(room);
+    let whole = (bytes.len() / 16).min(most);
     let mut hub = start;
     let mut last = Answer::Ok;
     let mut k: usize = 0;
     while k < whole {
         let e = run_stretch(
-            row, hub, up, last, list, bytes, k, whole, kinds, numbers, newest, free, queue, lens,
-            merged,
+            row, hub, up, last, list, bytes, k, whole, kinds, numbers, lent,
         );
         k = e.at;
-        let said = e.last;
-        last = said;
-        let left = e.hub;
-        if e.made {
-            let z = e.sizes;
-            hub = setup::set_up(left, row, newest, free, list, z.p, z.v, z.n, z.clock);
-            up = true;
-        } else {
-            hub = left;
+        last = e.last;
+        match e.made {
+            Some(z) => {
+                hub = setup::set_up(e.hub, row, lent, list, z.p, z.v, z.n, z.clock);
+                up = true;
+            }
+            None => {
+                hub = e.hub;
+            }
         }
     }
     let answer = refuse_rest(kinds, numbers, whole, most, last);

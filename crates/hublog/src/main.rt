@@ -3,36 +3,18 @@
 // the memory of the hub.
 #![tactic(auto)]
 
-use state::Hub;
+use state::{Hub, Lent};
 use tables::Table;
 
-// The hub without setup: no worker, no register, no slot, and the table of rights, where it is accepted.
-fn with_table<'a>(
-    rt: &HostRuntime,
-    row: &'a [[u64; 6]],
-    table: &'a [u8],
-    newest: &'a [u16; 256],
-    free: &'a [u16; 2048],
-    queue: &'a [u32; 12288],
-    lens: &'a [u32; 4096],
-    merged: &'a [u32; 12288],
-) -> Hub {
+// The hub without setup: no worker, no register, no slot, and the table of rights, where it is accepted. `eachlog` has its like, which says its own
+// name and lends no slot.
+fn with_table<'a>(rt: &HostRuntime, row: &'a [[u64; 6]], table: &'a [u8], lent: &'a Lent) -> Hub {
     let hub = Hub::empty();
-    let given = tables::give(
-        row,
-        hub,
-        Table::Rights,
-        table,
-        newest,
-        free,
-        queue,
-        lens,
-        merged,
-    );
+    let given = tables::give(row, hub, Table::Rights, table, lent);
     let answer = given.answer;
     // All but `Ok` is a refusal, and on memory that is not set up none but 24 is given.
     if answers::kind(answer) != 0 {
-        input::say(rt, b"hublog: the table is refused: 24\n");
+        let _ = eprintln!(rt; "hublog: the table is refused: 24");
     }
     given.hub
 }
@@ -48,26 +30,20 @@ fn log_input(rt: &HostRuntime, list: &[u8], table: &[u8]) {
     let kinds: &mut [u16] = &mut kind_space;
     let mut number_space = [0u64; 16384];
     let numbers: &mut [u64] = &mut number_space;
-    let mut newest = [0u16; 256];
-    let mut free = [0u16; 2048];
-    let mut queue = [0u32; 12288];
-    let mut lens = [0u32; 4096];
-    let mut merged = [0u32; 12288];
+    let mut lent = Lent::blank();
     // The slots, six words each.
     let mut row_space = [[0u64; 6]; 2048];
     let row: &mut [[u64; 6]] = &mut row_space;
-    let mut hub = with_table(rt, row, table, &newest, &free, &queue, &lens, &merged);
+    let mut hub = with_table(rt, row, table, &lent);
     // The number of the next record, and how many of its bytes stand at the start of the block.
     let mut first: u64 = 0;
     let mut kept: usize = 0;
     // Nothing says that the input ends, so the turns are counted, up to a number that no run reaches.
     for _ in 0..u64::MAX {
-        let got = input::read_after(rt, block, kept);
-        if got.failed {
-            input::say(rt, b"hublog: cannot read standard input\n");
+        let Ok(n) = input::read_after(rt, block, kept) else {
+            let _ = eprintln!(rt; "hublog: cannot read standard input");
             return;
-        }
-        let n = got.n;
+        };
         let ended = n == kept;
         let end = input_parts::to_log(n, ended);
         if ended & (end == 0) {
@@ -82,17 +58,13 @@ fn log_input(rt: &HostRuntime, list: &[u8], table: &[u8]) {
             text,
             kinds,
             numbers,
-            &mut newest,
-            &mut free,
-            &mut queue,
-            &mut lens,
-            &mut merged,
+            &mut lent,
         );
         let h = done.hub;
         hub = h;
         let used = done.used;
         if rt.write_all(&text[0..used]).is_err() {
-            input::say(rt, b"hublog: cannot write standard output\n");
+            let _ = eprintln!(rt; "hublog: cannot write standard output");
             return;
         }
         if ended {
@@ -107,21 +79,17 @@ fn main(rt: HostRuntime) {
     // The list of totals: one byte more than the longest that a setup accepts.
     let mut list_space = [0u8; 4097];
     let list: &mut [u8] = &mut list_space;
-    let listed = input::read_named(&rt, 1, list);
-    if listed.failed {
-        input::say(&rt, b"hublog: cannot read the list of totals\n");
+    let Ok(long) = input::read_named(&rt, 1, list) else {
+        let _ = eprintln!(rt; "hublog: cannot read the list of totals");
         return;
-    }
-    let long = listed.n;
+    };
     // The table of rights: one byte more than the longest that is accepted.
     let mut table_space = [0u8; 513];
     let table: &mut [u8] = &mut table_space;
-    let tabled = input::read_named(&rt, 2, table);
-    if tabled.failed {
-        input::say(&rt, b"hublog: cannot read the table of rights\n");
+    let Ok(rows) = input::read_named(&rt, 2, table) else {
+        let _ = eprintln!(rt; "hublog: cannot read the table of rights");
         return;
-    }
-    let rows = tabled.n;
+    };
     let given_table = &table[..];
     let given_list = &list[..];
     log_input(&rt, &given_list[0..long], &given_table[0..rows]);

@@ -25,8 +25,6 @@ pub fn keep_rest(buf: &mut [u8], from: usize, n: usize) -> usize
     ensures bound { result ≤ length buf.new }
 {
     let rest = n - from;
-    for i in 0..rest {
-        buf[i] = buf[i + from];
-    }
+    buf.copy_within(from..n, 0);
     rest
 }

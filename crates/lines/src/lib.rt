@@ -3,12 +3,17 @@
 
 ghost use Rattle.std.specs.Prelude.{◌≡◌, List, [], ◌∷◌, ◌++◌, ℕ, ◌+◌, ◌-◌, ◌*◌, ◌/◌, ◌≤◌, ◌<◌, min, length, take, drop, replicate};
 ghost use Rattle.model.specs.Log.{decimal};
+ghost use Rattle.answers.specs.Numbers.{kind_of, number_of};
 ghost use Rattle.lines.specs.Digits.{Spelled, tens_of, lead_of};
 ghost use Rattle.lines.specs.Words.{rows, up_to_number, has_number, has_status, status_part, tail_with, tail_from};
 ghost use Rattle.lines.specs.Written.{Appended, Spills, LineAppended, LinesWritten, Partly, OneTen};
 
+use values::Answer;
+
 // A row of eight bytes for each kind, the last for every further one: a space and the words, up to their number or with the line's end. Then a
-// byte for each row: the length of this text, 16 more where a number follows, and 32 more where a status follows that.
+// byte for each row: the length of this text, 16 more where a number follows, and 32 more where a status follows that. It is lent to those who read it.
+// As a list of rows with an enum for what follows, and structs for the number that is counted, a log of `uniform` takes 7.6 % more instructions.
+// With `for`, `min` and `copy_from_slice` in place of the loops by index and `least`, it takes 2.4 instructions more for each record.
 const ROWS: [u8; 90] =
     *b" ok\n\0\0\0\0 going\n\0 freed \0 at \0\0\0\0 value \0 done\n\0\0 no \0\0\0\0 value - none\n\0\0 no \0\0\0\0\x04\x07\x17\x14\x37\x06\x14\x38\x06\x14";
 
@@ -73,7 +78,8 @@ fn put_all(out: &mut [u8], at: usize, places: &[u8; 20], start: usize) -> usize
     put_text(out, at, &all[start..])
 }
 
-// The same for m to 2m digits: the first m of them, then the last m. Where the compiler knows m, each is one move.
+// The same for m to 2m digits: the first m of them, then the last m. Where the compiler knows m, each is one move. With
+// `put_all` for any number of digits, a log of `uniform` takes 2.6 instructions more for each record.
 fn put_ends(out: &mut [u8], at: usize, places: &[u8; 20], start: usize, m: usize) -> usize
     requires { (start + m ≤ 20) × (20 ≤ start + 2 * m) × (at + 20 ≤ length out.old) }
     ensures appended { Appended (drop start places.now) at out.old out.new result }
@@ -199,6 +205,7 @@ fn put_short(out: &mut [u8], at: usize, x: u64) -> usize
     ensures { Spills (decimal x) at out.old out.new result }
 {
     let mut end = at;
+    // The units are divided and not counted: a `for` over them would list seven.
     let mut unit = 10000000;
     while unit > 1 {
         end = put_lead(out, end, x, unit);
@@ -453,4 +460,13 @@ pub fn write_lines(
     let most = least(count, least(kinds.len(), numbers.len()));
     let begun = begin_lines(out, first, kinds, numbers, most);
     end_lines(out, first, kinds, numbers, most, begun.done, begun.at)
+}
+
+// Writes the line of one record, which has the number n, with its answer, at the start of out; answers how many bytes it has.
+pub fn write_answer(out: &mut [u8], n: u64, answer: Answer) -> usize
+    ensures { LinesWritten out.old n (kind_of answer ∷ []) (number_of answer ∷ []) 1 result out.new }
+{
+    let kinds = [answers::kind(answer)];
+    let numbers = [answers::number(answer)];
+    write_lines(out, n, &kinds, &numbers, 1)
 }

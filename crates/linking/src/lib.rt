@@ -41,7 +41,7 @@ fn published(reading: Reading, i: usize) -> Slot
     ensures { result ≡ published_slot reading i }
 {
     Slot {
-        value: Content::Of(reading),
+        value: Some(reading),
         low: 4294967296,
         high: 4294967296,
         older: i,

@@ -1,3 +1,3 @@
 pub mod Over
+pub mod Parts
 pub mod Mapped
-pub mod Storing

@@ -9,10 +9,6 @@ pub fn read_all(times: &mut [u64; 448], w: usize, p: usize, marks: &[u64; 12])
     requires { (w < 16) × (p ≤ 16) }
     ensures { times.new ≡ over_at (28 * w + p) marks.now times.old }
 {
-    let to: &mut [u64] = times;
-    let from: &[u64] = marks;
     let at = 28 * w + p;
-    for i in 0..from.len() {
-        to[at + i] = from[i];
-    }
+    times[at..at + 12].copy_from_slice(marks);
 }

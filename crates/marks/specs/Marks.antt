@@ -1,14 +1,13 @@
 -- Marks (H13) in this code's types: each definition is the model's of the like name (model/specs/Marks.antt). `marks` is the time that each mark
 -- holds, absent where it is empty; `reading` has for each worker the mark that it reads plus one, 0 where it reads none.
-use Rattle.std.specs.Prelude.{Bool, false, cond, ◌||◌, List, [], ◌∷◌, ℕ, ◌+◌, ◌%◌, ltb, eqb, get_or}
+use Rattle.std.specs.Prelude.{Option, Some, None, Bool, false, cond, ◌||◌, List, [], ◌∷◌, ℕ, ◌+◌, ◌%◌, ltb, eqb, get_or}
 use Rattle.model.specs.Store.{absent}
-use Rattle.worker.specs.declared.Announced.{Announced}
+use Rattle.worker.specs.Rep.{Announced}
 use Rattle.worker.specs.declared.Doing.{Doing}
 use Rattle.worker.specs.declared.Purpose.{Purpose}
 use Rattle.worker.specs.declared.Purpose.TheVariants.{Single, Marked, Totaling}
-use Rattle.places.specs.declared.Stance.{Stance}
-use Rattle.places.specs.declared.Stance.TheVariants.{Nowhere, StandsOn}
 use Rattle.worker.specs.Rep.{time_of}
+use Rattle.places.specs.declared.Stand.{Stand}
 use Rattle.places.specs.About.{about_of}
 use Rattle.marks.specs.declared.MarkNeed.{MarkNeed}
 use Rattle.marks.specs.declared.MarkNeed.TheVariants.{Nothing, Empty, Held, Unread}
@@ -27,9 +26,9 @@ read_as (Marked m) = shown_as m
 read_as (Totaling g i k plus minus) = 0
 
 -- H13.8: a read of a mark runs from its first step to its end: while it stands on a version
-abbrev pub read_from : Stance → ℕ
-read_from Nowhere = 0
-read_from (StandsOn g c) = read_as g.purpose
+abbrev pub read_from : Option Stand → ℕ
+read_from None = 0
+read_from (Some x) = read_as x.goal.purpose
 
 -- the mark that a worker at this place reads, plus one; 0 where it reads none
 abbrev pub read_by : Doing → ℕ

@@ -1,14 +1,16 @@
 // The marks (H13): what is asked of one, and which worker reads which.
 #![tactic(auto)]
 
-ghost use Rattle.std.specs.Prelude.{◌≡◌, ◌+◌, ◌≤◌, ◌<◌, length, take};
+ghost use Rattle.std.specs.Prelude.{◌≡◌};
+ghost use Rattle.values.specs.Refusals.{number_or_0};
 ghost use Rattle.marks.specs.Marks.{shown_as, read_as, read_by, read_next, read_in, mark_in, held_in, refusal_in, time_in};
 
-use places::Stance;
+use places::Stand;
+use values::Refusal;
 use worker::{Announced, Doing, Purpose};
 
 // What is asked of a mark: nothing; that it is empty, else 19; that it holds a time, else 20; that it holds a time, else 20, and that no
-// read of it runs, else 21.
+// read of it runs, else 21. Nothing is a case among the others, so that one match says what is asked.
 #[derive(Clone, Copy)]
 pub enum MarkNeed {
     Nothing,
@@ -33,13 +35,7 @@ fn read_as(x: Purpose) -> u8
     match x {
         Purpose::Single => 0,
         Purpose::Marked(m) => shown_as(m),
-        Purpose::Totaling {
-            group: _,
-            row: _,
-            status: _,
-            plus: _,
-            minus: _,
-        } => 0,
+        Purpose::Totaling { .. } => 0,
     }
 }
 
@@ -47,14 +43,9 @@ fn read_as(x: Purpose) -> u8
 fn read_by(d: Doing) -> u8
     ensures { result ≡ read_by d }
 {
-    let y = places::about(d);
-    let stance = y.stance;
-    match stance {
-        Stance::Nowhere => 0,
-        Stance::StandsOn { goal, slot: _ } => {
-            let purpose = goal.purpose;
-            read_as(purpose)
-        }
+    match places::about(d).stance {
+        None => 0,
+        Some(Stand { goal, slot: _ }) => read_as(goal.purpose),
     }
 }
 
@@ -70,29 +61,11 @@ pub fn read_next(before: Doing, after: Doing, old: u8) -> u8
     now
 }
 
-// How many entries there are where p count.
-fn counted(reading: &[u8], p: usize) -> usize
-    ensures { (result ≡ length (take p reading.now)) × (result ≤ length reading.now) }
+// Whether a worker reads mark m.
+fn is_read(reading: &[u8], m: u16) -> bool
+    ensures { result ≡ read_in reading.now m }
 {
-    if p < reading.len() {
-        return p;
-    }
-    reading.len()
-}
-
-// Whether one of the first p workers reads mark m.
-fn is_read(reading: &[u8; 16], p: usize, m: u16) -> bool
-    ensures { result ≡ read_in (take p reading.now) m }
-{
-    let list: &[u8] = reading;
-    let shown = shown_as(m);
-    let most = counted(list, p);
-    for w in 0..most {
-        if list[w] == shown {
-            return true;
-        }
-    }
-    false
+    reading.contains(&shown_as(m))
 }
 
 // ---- what is asked of a mark
@@ -101,10 +74,9 @@ fn is_read(reading: &[u8; 16], p: usize, m: u16) -> bool
 fn mark_at(marks: &[u64; 12], m: u16) -> u64
     ensures { result ≡ mark_in marks.now m }
 {
-    let list: &[u64] = marks;
-    let i = m as usize;
-    if i < list.len() {
-        return list[i];
+    let i = usize::from(m);
+    if i < marks.len() {
+        return marks[i];
     }
     4294967296
 }
@@ -116,32 +88,33 @@ fn held(marks: &[u64; 12], m: u16) -> bool
     mark_at(marks, m) < 4294967296
 }
 
-// The refusal that a need meets, of the first p workers: 19, 20 or 21, and 0 where there is none.
-pub fn refusal<'a>(need: MarkNeed, marks: &'a [u64; 12], reading: &'a [u8; 16], p: usize) -> u8
-    ensures { result ≡ refusal_in need marks.now (take p reading.now) }
+// Whether a need is met: 19, 20 or 21 where it is not.
+#[tactic(auto, unfolding(crate::specs::Marks::refusal_in))]
+pub fn check<'a>(need: MarkNeed, marks: &'a [u64; 12], reading: &'a [u8]) -> Result<(), Refusal>
+    ensures { number_or_0 result ≡ refusal_in need marks.now reading.now }
 {
     match need {
-        MarkNeed::Nothing => 0,
+        MarkNeed::Nothing => Ok(()),
         MarkNeed::Empty(m) => {
             if held(marks, m) {
-                return 19;
+                return Err(Refusal::MarkInUse);
             }
-            0
+            Ok(())
         }
         MarkNeed::Held(m) => {
             if held(marks, m) {
-                return 0;
+                return Ok(());
             }
-            20
+            Err(Refusal::MarkEmpty)
         }
         MarkNeed::Unread(m) => {
-            if held(marks, m) {
-                if is_read(reading, p, m) {
-                    return 21;
-                }
-                return 0;
+            if !held(marks, m) {
+                return Err(Refusal::MarkEmpty);
             }
-            20
+            if is_read(reading, m) {
+                return Err(Refusal::MarkBeingRead);
+            }
+            Ok(())
         }
     }
 }
@@ -153,12 +126,6 @@ pub fn time_for(x: Purpose, t: Announced, marks: &[u64; 12]) -> u64
     match x {
         Purpose::Single => worker::time_of(t),
         Purpose::Marked(m) => mark_at(marks, m),
-        Purpose::Totaling {
-            group: _,
-            row: _,
-            status: _,
-            plus: _,
-            minus: _,
-        } => worker::time_of(t),
+        Purpose::Totaling { .. } => worker::time_of(t),
     }
 }

@@ -2,7 +2,7 @@
 // records itself, applies them as one buffer and prints their log lines.
 #![tactic(auto)]
 
-use state::Hub;
+use state::{Hub, Lent};
 
 // Writes record k: the operation, the worker, the register and the value (H3.3 of docs/HUB.md). Past the end nothing is written.
 fn write_record(out: &mut [u8], k: usize, operation: u8, worker: u8, register: u8, value: u8) {
@@ -70,29 +70,13 @@ fn main(rt: HostRuntime) {
     // The slots, six words each: none of them is filled yet.
     let mut row_space = [[0u64; 6]; 2048];
     let row: &mut [[u64; 6]] = &mut row_space;
-    let mut newest = [0u16; 256];
-    let mut free = [0u16; 2048];
-    let mut queue = [0u32; 12288];
-    let mut lens = [0u32; 4096];
-    let mut merged = [0u32; 12288];
+    let mut lent = Lent::blank();
     let hub = Hub::empty();
     let mut kind_space = [0u16; 22];
     let kinds: &mut [u16] = &mut kind_space;
     let mut number_space = [0u64; 22];
     let numbers: &mut [u64] = &mut number_space;
-    let done = records::apply_all(
-        row,
-        hub,
-        &[],
-        bytes,
-        kinds,
-        numbers,
-        &mut newest,
-        &mut free,
-        &mut queue,
-        &mut lens,
-        &mut merged,
-    );
+    let done = records::apply_all(row, hub, &[], bytes, kinds, numbers, &mut lent);
 
     // 22 lines of at most 70 bytes.
     let mut text_space = [0u8; 1540];

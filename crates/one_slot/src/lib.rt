@@ -20,7 +20,7 @@ pub fn made(i: usize, v: usize, s: Slot) -> Slot
 {
     if i < v {
         return Slot {
-            value: Content::NoReading,
+            value: None,
             low: 0,
             high: 4294967296,
             older: 4294967296,

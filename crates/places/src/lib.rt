@@ -6,39 +6,38 @@ ghost use Rattle.places.specs.About.{naming, mark_moved, moving, mark_read, read
 
 use worker::{Doing, Goal, Purpose, TimeStep};
 
-// A register, a slot, a count or a mark that a place names, or none.
-#[derive(Clone, Copy)]
-pub enum Named {
-    Nothing,
-    Is(u16),
-}
-
 // The slot on which a read stands, and what it reads for.
 #[derive(Clone, Copy)]
-pub enum Stance {
-    Nowhere,
-    StandsOn { goal: Goal, slot: u16 },
+pub struct Stand {
+    pub goal: Goal,
+    pub slot: u16,
 }
 
-// What is asked of a place besides its step.
+// What is asked of a place besides its step: the register, the slot, the count and the mark that it names, if any.
 #[derive(Clone, Copy)]
 pub struct Facts {
     pub idle: bool,
-    pub register: Named,
-    pub slot: Named,
+    pub register: Option<u16>,
+    pub slot: Option<u16>,
     // how many ranges its list has
-    pub ranges: Named,
+    pub ranges: Option<u16>,
     // how many times were read
     pub read: u8,
-    pub stance: Stance,
+    pub stance: Option<Stand>,
     // what it reads for
     pub purpose: Purpose,
     // the mark that it moves or reads
-    pub mark: Named,
+    pub mark: Option<u16>,
 }
 
 // A place that names this much, reads nothing and names no mark.
-fn names(idle: bool, register: Named, slot: Named, ranges: Named, read: u8) -> Facts
+fn names(
+    idle: bool,
+    register: Option<u16>,
+    slot: Option<u16>,
+    ranges: Option<u16>,
+    read: u8,
+) -> Facts
     ensures { result ≡ naming idle register slot ranges read }
 {
     Facts {
@@ -47,22 +46,22 @@ fn names(idle: bool, register: Named, slot: Named, ranges: Named, read: u8) -> F
         slot,
         ranges,
         read,
-        stance: Stance::Nowhere,
+        stance: None,
         purpose: Purpose::Single,
-        mark: Named::Nothing,
+        mark: None,
     }
 }
 
 // The mark that a step moves, if any.
-fn mark_moved(y: TimeStep) -> Named
+fn mark_moved(y: TimeStep) -> Option<u16>
     ensures { result ≡ mark_moved y }
 {
     match y {
-        TimeStep::OpenAnnounce => Named::Nothing,
-        TimeStep::OpenPass => Named::Nothing,
-        TimeStep::CloseWithdraw => Named::Nothing,
-        TimeStep::MarkKeep(m) => Named::Is(m),
-        TimeStep::MarkRelease(m) => Named::Is(m),
+        TimeStep::OpenAnnounce => None,
+        TimeStep::OpenPass => None,
+        TimeStep::CloseWithdraw => None,
+        TimeStep::MarkKeep(m) => Some(m),
+        TimeStep::MarkRelease(m) => Some(m),
     }
 }
 
@@ -73,44 +72,44 @@ fn moves(y: TimeStep) -> Facts
     let mark = mark_moved(y);
     Facts {
         idle: false,
-        register: Named::Nothing,
-        slot: Named::Nothing,
-        ranges: Named::Nothing,
+        register: None,
+        slot: None,
+        ranges: None,
         read: 0,
-        stance: Stance::Nowhere,
+        stance: None,
         purpose: Purpose::Single,
         mark,
     }
 }
 
 // The mark as of which a value is read, if any.
-fn mark_read(x: Purpose) -> Named
+fn mark_read(x: Purpose) -> Option<u16>
     ensures { result ≡ mark_read x }
 {
     match x {
-        Purpose::Single => Named::Nothing,
-        Purpose::Marked(m) => Named::Is(m),
+        Purpose::Single => None,
+        Purpose::Marked(m) => Some(m),
         Purpose::Totaling {
             group: _,
             row: _,
             status: _,
             plus: _,
             minus: _,
-        } => Named::Nothing,
+        } => None,
     }
 }
 
 // The place of a read: its slot, if it has one, and where it stands.
-fn reads(goal: Goal, slot: Named, stance: Stance) -> Facts
+fn reads(goal: Goal, slot: Option<u16>, stance: Option<Stand>) -> Facts
     ensures { result ≡ reading goal slot stance }
 {
     let purpose = goal.purpose;
     let mark = mark_read(purpose);
     Facts {
         idle: false,
-        register: Named::Is(goal.register),
+        register: Some(goal.register),
         slot,
-        ranges: Named::Nothing,
+        ranges: None,
         read: 0,
         stance,
         purpose,
@@ -122,27 +121,24 @@ fn reads(goal: Goal, slot: Named, stance: Stance) -> Facts
 pub fn about(d: Doing) -> Facts
     ensures { result ≡ about_of d }
 {
-    let none = Named::Nothing;
     match d {
-        Doing::Idle => names(true, none, none, none, 0),
+        Doing::Idle => names(true, None, None, None, 0),
         Doing::PutPublish {
             register,
             reading: _,
-        } => names(false, Named::Is(register), none, none, 0),
+        } => names(false, Some(register), None, None, 0),
         Doing::PutStamp { register, covered } => {
-            names(false, Named::Is(register), Named::Is(covered), none, 0)
+            names(false, Some(register), Some(covered), None, 0)
         }
         Doing::PutHandIn { register, covered } => {
-            names(false, Named::Is(register), Named::Is(covered), none, 0)
+            names(false, Some(register), Some(covered), None, 0)
         }
-        Doing::FlushTake => names(false, none, none, none, 0),
-        Doing::FlushRead { merged, read } => names(false, none, none, Named::Is(merged), read),
-        Doing::FlushFree { left } => names(false, none, none, Named::Is(left), 0),
+        Doing::FlushTake => names(false, None, None, None, 0),
+        Doing::FlushRead { merged, read } => names(false, None, None, Some(merged), read),
+        Doing::FlushFree { left } => names(false, None, None, Some(left), 0),
         Doing::OnTime(y) => moves(y),
-        Doing::ReadEnter { goal } => reads(goal, none, Stance::Nowhere),
-        Doing::ReadStand { goal, slot } => {
-            reads(goal, Named::Is(slot), Stance::StandsOn { goal, slot })
-        }
-        Doing::GetShow { register } => names(false, Named::Is(register), none, none, 0),
+        Doing::ReadEnter { goal } => reads(goal, None, None),
+        Doing::ReadStand { goal, slot } => reads(goal, Some(slot), Some(Stand { goal, slot })),
+        Doing::GetShow { register } => names(false, Some(register), None, None, 0),
     }
 }

@@ -2,31 +2,20 @@
 #![tactic(auto)]
 
 ghost use Rattle.std.specs.Prelude.{◌≡◌};
-ghost use Rattle.pools.specs.Placed.{placed, one_more};
+ghost use Rattle.pools.specs.Placed.{placed, one_more_to};
 
-// How many ranges there are then. A pool takes 64.
-pub fn one_more(n: usize) -> usize
-    ensures { result ≡ one_more n }
+// How many there are with one more, where there are MOST at the most.
+pub fn one_more<const MOST: usize>(n: usize) -> usize
+    ensures { result ≡ one_more_to MOST n }
 {
-    if 64 <= n {
-        return n;
-    }
-    n + 1
+    if n < MOST { n + 1 } else { n }
 }
 
-// A full pool stays as it is.
-pub fn put_slot(slots: &mut [u16; 64], n: usize, slot: u16)
-    ensures { slots.new ≡ placed slots.old n slot }
+// Puts x at the index n of one of the pool's arrays. A full pool stays as it is.
+pub fn put<T: Copy>(entries: &mut [T; 64], n: usize, x: T)
+    ensures { entries.new ≡ placed entries.old n x }
 {
     if n < 64 {
-        slots[n] = slot;
-    }
-}
-
-pub fn put_time(times: &mut [u32; 64], n: usize, time: u32)
-    ensures { times.new ≡ placed times.old n time }
-{
-    if n < 64 {
-        times[n] = time;
+        entries[n] = x;
     }
 }

@@ -1,13 +1,13 @@
 -- Laws of entries that are copied to a place and of entries that are moved down.
 use mathlib.Core.Path.{◌≡◌, sym, ap, ◌∙◌}
 use mathlib.Core.List.{List, [], ◌∷◌, ◌++◌, append_assoc}
-use Prim.Native.Nat.{ℕ, suc, ◌+◌, ◌-◌, ◌≤◌, ◌<◌}
-use native.Mathlib.Numerals.{add-one}
+use Prim.Native.Nat.{ℕ, ◌+◌, ◌-◌, ◌≤◌, ◌<◌}
 use native.Mathlib.Omega.{arith}
-use lib.ListN.{length, take, drop, get_or, set, length-append, length-drop}
-use lib.Seq.{paste, paste-zero, paste-suc, length-take-le, take_all, take_at, take-append_seam, drop-append_seam, drop-append-add}
+use lib.ListN.{length, take, drop, set, length-append, length-drop}
+use lib.Seq.{paste, paste-zero, length-take-le, take_all, take_at, take-append_seam, drop-append_seam}
 use lib.Seq.{drop-drop, drop_at}
 use Rattle.lists.specs.Over.{over, over_at, shifted}
+use Rattle.lists.proofs.Parts.{over_at-over}
 use Rattle.lists.proofs.Over.{over-push, length_over}
 
 module _ {A : Type 0} where
@@ -18,24 +18,6 @@ module _ {A : Type 0} where
 
   pub over_at-none : (d : List A) (i : ℕ) (s : List A) → d ≡ over_at i (take 0 s) d
   over_at-none d i s = paste-zero d i s ∙ sym (over_at-paste d i s 0 (omega arith))
-
-  -- a turn of a loop that copies
-  pub over_at-push : (d : List A) (i : ℕ) (s : List A) (j : ℕ) (z : A) → i + j < length d → j < length s
-      → set (over_at i (take j s) d) (i + j) (get_or s j z) ≡ over_at i (take (j + 1) s) d
-  over_at-push d i s j z hd hs =
-      rw (over_at-paste d i s j (omega arith), add-one j, over_at-paste d i s (suc j) (omega arith)) (paste-suc d i s j z hd hs)
-
-  -- entries copied behind those that were replaced
-  pub over_at-over : (p w d : List A) (i : ℕ) → length p ≡ i → over_at i w (over p d) ≡ over (p ++ w) d
-  unfolding over over_at
-  over_at-over p w d i e =
-      rw (
-        ← e,
-        take-append_seam p (drop (length p) d),
-        drop-append-add p (drop (length p) d) (length w),
-        drop-drop (length w) (length p) d,
-        length-append p w,
-      )
 
   -- of the replaced entries a ++ b those of b move to the front
   pub shifted-over : (s p a b : List A) (n k : ℕ) → s ≡ over p s → p ≡ a ++ b → length a ≡ n → n + length b ≡ k → shifted s n k ≡ over b s
@@ -108,6 +90,12 @@ module _ {A : Type 0} where
   pub over_at-zero : (p d : List A) → over_at 0 p d ≡ over p d
   unfolding over over_at
   over_at-zero p d = let e : 0 + length p ≡ length p = omega arith in rw e
+
+  -- entries copied to the front, in the library's words
+  pub shift_copied : (s : List A) (n k : ℕ) → n ≤ k → k ≤ length s → paste s 0 (drop n s) (k - n) ≡ shifted s n k
+  unfolding shifted
+  shift_copied s n k a b =
+      sym (over_at-paste s 0 (drop n s) (k - n) (rw (length-drop n s) (omega arith))) ∙ over_at-zero (take (k - n) (drop n s)) s
 
   ----------------------------------------------------------------------
   -- Memory that holds the entries a ++ b from place i on

@@ -17,33 +17,12 @@ pub struct Taking {
     pub count: usize,
 }
 
-// Moves the entries from n to k to the front.
-fn shift(s: &mut [u32], n: usize, k: usize)
-    requires { (n ≤ k) × (k ≤ length s.old) }
-    ensures { s.new ≡ shifted s.old n k }
-{
-    let m = k - n;
-    for i in 0..m {
-        s[i] = s[i + n];
-    }
-}
-
-// Copies src's first n entries to dst from index `to` on.
-fn copy(src: &[u32], n: usize, dst: &mut [u32], to: usize)
-    requires { (n ≤ length src.now) × (to + n ≤ length dst.old) }
-    ensures { dst.new ≡ over_at to (take n src.now) dst.old }
-{
-    for i in 0..n {
-        dst[to + i] = src[i];
-    }
-}
-
 // Whether the window lies in the memory, whatever that holds.
 #[tactic(auto, unfolding(crate::specs::State::lies))]
 fn lies_in(w: Window) -> bool
     ensures { result ≡ lies w }
 {
-    ((w.first <= 2048) & (w.pools <= 2048)) & ((w.from <= 2048) & (w.queued <= 2048))
+    w.first <= 2048 && w.pools <= 2048 && w.from <= 2048 && w.queued <= 2048
 }
 
 // Whether there is room for a pool of n ranges, which is not empty.
@@ -51,13 +30,11 @@ fn lies_in(w: Window) -> bool
 fn has_room(w: Window, n: usize) -> bool
     ensures { result ≡ room w n }
 {
-    if 2048 < n {
-        return false;
-    }
-    (lies_in(w) & (0 < n)) & ((w.pools < 2048) & (w.queued <= 2048 - n))
+    lies_in(w) && 0 < n && w.pools < 2048 && n <= 2048 - w.queued
 }
 
-// Queues src's first n ranges as a pool; an empty pool is not queued, nor one without room.
+// Queues src's first n ranges as a pool; an empty pool is not queued, nor one without room. The queue comes in three parameters: two are pieces
+// of the caller's fixed lent memory, and the window is kept among its counts.
 #[tactic(auto, unfolding(crate::specs::State::lies, crate::specs::State::room, crate::specs::State::pushed))]
 pub fn push(
     queue: &mut [u32; 12288],
@@ -71,22 +48,15 @@ pub fn push(
 {
     if has_room(w, n) {
         let at = 3 * (w.from + w.queued);
-        copy(src, 3 * n, queue, at);
+        queue[at..at + 3 * n].copy_from_slice(&src[..3 * n]);
         lens[w.first + w.pools] = n as u32;
         return Window {
-            first: w.first,
             pools: w.pools + 1,
-            from: w.from,
             queued: w.queued + n,
+            ..w
         };
     }
     w
-}
-
-fn wide(x: u32) -> usize
-    ensures { (result ≡ x) × (result < 4294967296) }
-{
-    x as usize
 }
 
 // The length of the queue's pool i; a pool that is not there has none.
@@ -96,16 +66,10 @@ fn length_at(lens: &[u32; 4096], w: Window, i: usize) -> usize
     ensures { (result ≡ length_at lens.now w i) × (result < 4294967296) }
 {
     if i < w.pools {
-        wide(lens[w.first + i])
+        lens[w.first + i] as usize
     } else {
         0
     }
-}
-
-fn at_most_two(pools: usize) -> usize
-    ensures { result ≡ min 2 pools }
-{
-    if pools < 2 { pools } else { 2 }
 }
 
 // Merges two pools, of la and lb ranges, that stand from range `from` on one after the other, into merged.
@@ -113,9 +77,13 @@ fn merge_two(queue: &[u32], from: usize, la: usize, lb: usize, merged: &mut [u32
     requires { (3 * (from + (la + lb)) ≤ length queue.now) × (3 * (la + lb) ≤ length merged.old) }
     ensures { merged.new ≡ over (flat (merge (ranges_at queue.now from la) (ranges_at queue.now (from + la) lb))) merged.old }
 {
-    let a = 3 * from;
-    let b = 3 * (from + la);
-    ranges::merge(&queue[a..], la, &queue[b..], lb, merged);
+    ranges::merge(
+        &queue[3 * from..],
+        la,
+        &queue[3 * (from + la)..],
+        lb,
+        merged,
+    );
 }
 
 // Whether the window lies in the memory, and its first two lengths are those of a queue whose first two pools have at most 256 ranges.
@@ -125,15 +93,9 @@ fn may_take(lens: &[u32; 4096], w: Window) -> bool
 {
     if lies_in(w) {
         let r = length_at(lens, w, 0) + length_at(lens, w, 1);
-        return (r <= w.queued) & (r <= 256);
+        return r <= w.queued && r <= 256;
     }
     false
-}
-
-fn less_two(pools: usize) -> usize
-    ensures { result ≡ pools - 2 }
-{
-    if pools < 2 { 0 } else { pools - 2 }
 }
 
 // The window without its first two pools, of r ranges: it begins behind them, or, where that is past range 2048, what is left moves to the
@@ -143,11 +105,10 @@ fn move_on(queue: &mut [u32; 12288], lens: &mut [u32; 4096], w: Window, r: usize
     requires { (lies w ≡ true) × (r ≤ w.queued) }
     ensures { pools_in queue.new lens.new result ≡ moved_on (pools_in queue.old lens.old w) r }
 {
-    let k = at_most_two(w.pools);
-    let pools = less_two(w.pools);
+    let pools = w.pools.saturating_sub(2);
     let queued = w.queued - r;
     let from = w.from + r;
-    let first = w.first + k;
+    let first = w.first + w.pools.min(2);
     if from <= 2048 {
         return Window {
             first,
@@ -156,8 +117,8 @@ fn move_on(queue: &mut [u32; 12288], lens: &mut [u32; 4096], w: Window, r: usize
             queued,
         };
     }
-    shift(queue, 3 * from, 3 * (w.from + w.queued));
-    shift(lens, first, w.first + w.pools);
+    queue.copy_within(3 * from..3 * (w.from + w.queued), 0);
+    lens.copy_within(first..w.first + w.pools, 0);
     Window {
         first: 0,
         pools,
@@ -166,26 +127,8 @@ fn move_on(queue: &mut [u32; 12288], lens: &mut [u32; 4096], w: Window, r: usize
     }
 }
 
-// Takes up to two pools from the front of the queue, merged into `merged`. A pool that is not there is an empty one, so that one merge
-// serves no, one and two pools.
-fn take_pools(
-    queue: &mut [u32; 12288],
-    lens: &mut [u32; 4096],
-    w: Window,
-    merged: &mut [u32],
-) -> Taking
-    requires { (may_take (pools_in queue.old lens.old w) ≡ true) × (768 ≤ length merged.old) }
-    ensures { Took (pools_in queue.old lens.old w) (pools_in queue.new lens.new result.window) merged.old merged.new result.count }
-{
-    let la = length_at(lens, w, 0);
-    let lb = length_at(lens, w, 1);
-    let r = la + lb;
-    merge_two(queue, w.from, la, lb, merged);
-    let window = move_on(queue, lens, w, r);
-    Taking { window, count: r }
-}
-
-// Takes up to two pools from the front of the queue, merged into `merged`; nothing where the window and its lengths are not a queue's.
+// Takes up to two pools from the front of the queue, merged into `merged`; nothing where the window and its lengths are not a queue's. A pool
+// that is not there is an empty one, so that one merge serves no, one and two pools.
 pub fn take(
     queue: &mut [u32; 12288],
     lens: &mut [u32; 4096],
@@ -195,11 +138,16 @@ pub fn take(
     requires { 768 ≤ length merged.old }
     ensures { Took (pools_in queue.old lens.old w) (pools_in queue.new lens.new result.window) merged.old merged.new result.count }
 {
-    if may_take(lens, w) {
-        return take_pools(queue, lens, w, merged);
+    if !may_take(lens, w) {
+        return Taking {
+            window: w,
+            count: 0,
+        };
     }
-    Taking {
-        window: w,
-        count: 0,
-    }
+    let la = length_at(lens, w, 0);
+    let lb = length_at(lens, w, 1);
+    let r = la + lb;
+    merge_two(queue, w.from, la, lb, merged);
+    let window = move_on(queue, lens, w, r);
+    Taking { window, count: r }
 }

@@ -6,13 +6,12 @@ use Rattle.model.specs.Ranges.{needed_of, needless_of}
 use Rattle.ranges.specs.Words.{range_at, flat, put_at}
 use Rattle.range_split.specs.declared.Finger.{Finger}
 
--- What a finger in the first t times says of those beside it: `behind` is one more than the last one behind it, or 0, and `next` is at most the
--- one at it.
-pub record Beside (ts : List ℕ) (t : ℕ) (f : Finger) : Type 0 where
-  pub within : f.at ≤ t
+-- What a finger in times says of those beside it: `behind` is one more than the last one behind it, or 0, and `next` is at most the one at it.
+pub record Beside (ts : List ℕ) (f : Finger) : Type 0 where
+  pub within : f.at ≤ length ts
   pub none : f.at ≡ 0 → f.behind ≡ 0
   pub last : 0 < f.at → f.behind ≡ get_or ts (f.at - 1) 0 + 1
-  pub next : f.at < t → f.next ≤ get_or ts f.at 0
+  pub next : f.at < length ts → f.next ≤ get_or ts f.at 0
 
 -- the ranges at places i and k exchanged
 abbrev pub swap_at : List ℕ → ℕ → ℕ → List ℕ

@@ -5,19 +5,8 @@ ghost use Rattle.std.specs.Prelude.{◌≡◌, reverse, ◌+◌, ◌-◌, ◌*�
 ghost use Rattle.lists.specs.Over.{over};
 ghost use Rattle.model.specs.Ranges.{needed_of, needless_of};
 ghost use Rattle.model.specs.Figure.{Rising, move_on};
-ghost use Rattle.ranges.specs.Words.{ranges_at, flat, put_at};
+ghost use Rattle.ranges.specs.Words.{ranges_at, flat};
 ghost use Rattle.range_split.specs.Split.{Beside, swap_at, Parted};
-
-// Puts a range at place k.
-fn put_range(s: &mut [u32], k: usize, slot: u32, low: u32, high: u32)
-    requires { 3 * k + 2 < length s.old }
-    ensures { s.new ≡ put_at s.old k (record { slot = slot; low = low; high = high }) }
-{
-    let at = 3 * k;
-    s[at] = slot;
-    s[at + 1] = low;
-    s[at + 2] = high;
-}
 
 // A finger in sorted times: where it stands, one more than the last time behind it, and no more than the time at it. A high from `behind`
 // to `next` does not move it.
@@ -41,80 +30,63 @@ fn behind(times: &[u64], at: usize) -> u32
 }
 
 // The time at the finger; the greatest high where there is none, or where it is above every high.
-fn next(times: &[u64], t: usize, at: usize) -> u32
-    requires { t ≤ length times.now }
-    ensures { at < t → result ≤ get_or times.now at 0 }
+fn next(times: &[u64], at: usize) -> u32
+    ensures { at < length times.now → result ≤ get_or times.now at 0 }
 {
-    if at < t {
-        let time = times[at];
-        if time < 4294967296 {
-            return time as u32;
-        }
+    if at < times.len() {
+        times[at].min(4294967295) as u32
+    } else {
+        4294967295
     }
-    4294967295
 }
 
 // The finger behind the sorted times that are below high; it moves only where high is not between the times beside it.
-fn follow(times: &[u64], t: usize, finger: Finger, high: u32) -> Finger
-    requires { (t ≤ length times.now) × Rising (take t times.now) × Beside times.now t finger }
-    ensures { Beside times.now t result × (result.at ≡ move_on high (take t times.now) 0) }
+fn follow(times: &[u64], finger: Finger, high: u32) -> Finger
+    requires { Rising times.now × Beside times.now finger }
+    ensures { Beside times.now result × (result.at ≡ move_on high times.now 0) }
 {
-    if (finger.behind <= high) & (high <= finger.next) {
+    if finger.behind <= high && high <= finger.next {
         return finger;
     }
-    let at = times::move_finger(times, t, finger.at, high);
+    let at = times::move_finger(times, times.len(), finger.at, high);
     Finger {
         at,
         behind: behind(times, at),
-        next: next(times, t, at),
+        next: next(times, at),
     }
 }
 
-// Splits the first n ranges of m by the first t times, which are sorted: the needless move to the front of m, the needed go to out, both in
-// their order. Answers how many are needless. Where the highs rise it passes over the times once (Figure 1, lines 15 to 26); where they do
-// not, the finger goes back.
-fn pass_in_place(m: &mut [u32], n: usize, times: &[u64], t: usize, out: &mut [u32]) -> usize
-    requires { (3 * n ≤ length m.old) × (t ≤ length times.now) × (3 * n ≤ length out.old) × Rising (take t times.now) }
-    ensures value { result ≡ length (needless_of (take t times.now) (ranges_at m.old 0 n)) }
-    ensures m_after { m.new ≡ over (flat (needless_of (take t times.now) (ranges_at m.old 0 n))) m.old }
-    ensures out_after { out.new ≡ over (flat (needed_of (take t times.now) (ranges_at m.old 0 n))) out.old }
+// Splits the first n ranges of m by sorted times: the needless move to the front of m, the needed go to out, both in their order. Answers how
+// many are needless. Where the highs rise it passes over the times once (Figure 1, lines 15 to 26); where they do not, the finger goes back.
+// Without any time all are needless, and nothing is compared.
+fn pass_in_place(m: &mut [u32], n: usize, times: &[u64], out: &mut [u32]) -> usize
+    requires { (3 * n ≤ length m.old) × (3 * n ≤ length out.old) × Rising times.now }
+    ensures value { result ≡ length (needless_of times.now (ranges_at m.old 0 n)) }
+    ensures m_after { m.new ≡ over (flat (needless_of times.now (ranges_at m.old 0 n))) m.old }
+    ensures out_after { out.new ≡ over (flat (needed_of times.now (ranges_at m.old 0 n))) out.old }
 {
-    let mut i = 0;
+    if times.is_empty() {
+        return n;
+    }
     let mut j = 0;
     let mut finger = Finger {
         at: 0,
         behind: 0,
         next: 0,
     };
-    while i < n {
-        let slot = m[3 * i];
-        let low = m[3 * i + 1];
-        let high = m[3 * i + 2];
-        finger = follow(times, t, finger, high);
+    // By index: ranges are read and written in the same words, and those are lent as words.
+    for i in 0..n {
+        let range = ranges::range_at(m, i);
+        finger = follow(times, finger, range.high);
         // the last time behind the finger, if there is one, is not below low (Figure 1, line 23)
-        if low < finger.behind {
-            put_range(out, i - j, slot, low, high);
-            i += 1;
+        if range.low < finger.behind {
+            ranges::put_range(out, i - j, range);
         } else {
-            put_range(m, j, slot, low, high);
-            i += 1;
+            ranges::put_range(m, j, range);
             j += 1;
         }
     }
     j
-}
-
-// The same; without any time all are needless, and nothing is compared.
-fn pass_or_none(m: &mut [u32], n: usize, times: &[u64], t: usize, out: &mut [u32]) -> usize
-    requires { (3 * n ≤ length m.old) × (t ≤ length times.now) × (3 * n ≤ length out.old) × Rising (take t times.now) }
-    ensures value { result ≡ length (needless_of (take t times.now) (ranges_at m.old 0 n)) }
-    ensures m_after { m.new ≡ over (flat (needless_of (take t times.now) (ranges_at m.old 0 n))) m.old }
-    ensures out_after { out.new ≡ over (flat (needed_of (take t times.now) (ranges_at m.old 0 n))) out.old }
-{
-    if t == 0 {
-        return n;
-    }
-    pass_in_place(m, n, times, t, out)
 }
 
 // Exchanges the ranges at places i and k.
@@ -122,16 +94,10 @@ fn swap_ranges(m: &mut [u32], i: usize, k: usize)
     requires { (3 * i + 2 < length m.old) × (3 * k + 2 < length m.old) }
     ensures { m.new ≡ swap_at m.old i k }
 {
-    let a = 3 * i;
-    let b = 3 * k;
-    let slot = m[a];
-    let low = m[a + 1];
-    let high = m[a + 2];
-    let slot2 = m[b];
-    let low2 = m[b + 1];
-    let high2 = m[b + 2];
-    put_range(m, i, slot2, low2, high2);
-    put_range(m, k, slot, low, high);
+    let a = ranges::range_at(m, i);
+    let b = ranges::range_at(m, k);
+    ranges::put_range(m, i, b);
+    ranges::put_range(m, k, a);
 }
 
 // Reverses the first n ranges of m.
@@ -139,21 +105,22 @@ fn reverse_ranges(m: &mut [u32], n: usize)
     requires { 3 * n ≤ length m.old }
     ensures { m.new ≡ over (flat (reverse (ranges_at m.old 0 n))) m.old }
 {
-    let half = n / 2;
-    for i in 0..half {
+    // By index: three words are a range, and the words are no array of ranges that `reverse` could turn.
+    for i in 0..n / 2 {
         swap_ranges(m, i, n - 1 - i);
     }
 }
 
 // Splits the first n ranges of m by the first t times. The needless stay in m, the one to be freed first last, so that each is taken
 // from the end; the needed go to out. Answers how many are needless. The announced times are sorted once, for one pass with a finger.
+// The counts n and t come beside the memory, since that is lent and longer than what it holds.
 pub fn split(m: &mut [u32], n: usize, times: &[u64], t: usize, out: &mut [u32]) -> usize
     requires { (3 * n ≤ length m.old) × (t ≤ length times.now) × (3 * n ≤ length out.old) × (t ≤ 28) }
     ensures { Parted (take t times.now) (ranges_at m.old 0 n) m.old m.new out.old out.new result }
 {
     let mut sorted = [0u64; 28];
     let k = times::sort_announcements(times, t, &mut sorted);
-    let needless = pass_or_none(m, n, &sorted, k, out);
+    let needless = pass_in_place(m, n, &sorted[..k], out);
     reverse_ranges(m, needless);
     needless
 }

@@ -1,6 +1,11 @@
 -- Ranges in lent memory: three words each, the slot, the low and the high, one range after the other.
 use Rattle.std.specs.Prelude.{List, [], ◌∷◌, ℕ, zero, suc, ◌+◌, ◌*◌, get_or, set}
 use Rattle.model.specs.Store.{Range}
+use Rattle.ranges.specs.declared.Range as Code
+
+-- a range as the code has it
+abbrev pub range_of : Code.Range → Range
+range_of ρ = record { slot = ρ.slot; low = ρ.low; high = ρ.high }
 
 -- the range at place i
 abbrev pub range_at : List ℕ → ℕ → Range

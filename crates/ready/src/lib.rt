@@ -4,13 +4,7 @@
 ghost use Rattle.std.specs.Prelude.{◌≡◌, ◌≤◌};
 ghost use Rattle.ready.specs.Ready.{workers_fit, ready_of, scans_fit};
 
-use state::Hub;
-
-fn wide8(x: u8) -> usize
-    ensures { (result ≡ x) × (result ≤ 255) }
-{
-    x as usize
-}
+use state::{Hub, Lent};
 
 // Whether the first p workers' records are in range.
 fn workers_fit(hub: Hub, merged: &[u32; 12288], local: usize, list: usize) -> bool
@@ -23,41 +17,26 @@ fn workers_fit(hub: Hub, merged: &[u32; 12288], local: usize, list: usize) -> bo
     let n = hub.site.n as u16;
     let k = hub.site.listed as u16;
     let mut ok = true;
-    for w in 0..all {
-        let x = hub.workers[w];
-        ok = ok & ready_worker::worker_fits(x, w, merged, local, list, p, v, n, k);
+    for (w, &x) in hub.workers[..all].iter().enumerate() {
+        ok &= ready_worker::worker_fits(x, w, merged, local, list, p, v, n, k);
     }
     ok
 }
 
 // Whether all but the table of rights is in range. `linked` says it of the neighbours in the row of slots, which has so many.
-fn scans_fit<'a>(
-    hub: Hub,
-    newest: &'a [u16; 256],
-    free: &'a [u16; 2048],
-    queue: &'a [u32; 12288],
-    lens: &'a [u32; 4096],
-    merged: &'a [u32; 12288],
-    linked: bool,
-    long: usize,
-) -> bool
+fn scans_fit<'a>(hub: Hub, lent: &'a Lent, linked: bool, long: usize) -> bool
     ensures { result
-        ≡ scans_fit hub newest.now free.now queue.now lens.now merged.now linked long }
+        ≡ scans_fit hub lent.now.newest lent.now.free lent.now.queue lent.now.lens lent.now.merged linked long }
 {
     if ready_sizes::sizes_fit(hub, long) {
         let n = hub.site.n as u16;
-        let size = wide8(hub.site.batch);
+        let size = usize::from(hub.site.batch);
         let most = hub.site.n - hub.site.v;
-        let a = scans::all_below(newest, hub.site.v, n);
-        let b = scans::all_below(free, hub.free, n);
+        let a = scans::all_below(&lent.newest, hub.site.v, n);
+        let b = scans::all_below(&lent.free, hub.free, n);
         let w = hub.window;
-        let c = ready_queue::pools_fit(w, queue, lens, hub.site.batch, n);
-        let d = workers_fit(
-            hub,
-            merged,
-            bounds::at_most(size, most),
-            bounds::at_most(4 * size, most),
-        );
+        let c = ready_queue::pools_fit(w, &lent.queue, &lent.lens, hub.site.batch, n);
+        let d = workers_fit(hub, &lent.merged, size.min(most), (4 * size).min(most));
         let e = scans::rows_below(&hub.site.rows, hub.site.listed, hub.site.v as u32);
         return (((a & b) & c) & d) & (e & linked);
     }
@@ -65,19 +44,10 @@ fn scans_fit<'a>(
 }
 
 // Whether lent memory counts as set up. `linked` says that the neighbours in the row of slots, which has so many, are in range.
-pub fn ready<'a>(
-    hub: Hub,
-    newest: &'a [u16; 256],
-    free: &'a [u16; 2048],
-    queue: &'a [u32; 12288],
-    lens: &'a [u32; 4096],
-    merged: &'a [u32; 12288],
-    linked: bool,
-    long: usize,
-) -> bool
+pub fn ready<'a>(hub: Hub, lent: &'a Lent, linked: bool, long: usize) -> bool
     ensures { result
-        ≡ ready_of hub newest.now free.now queue.now lens.now merged.now linked long }
+        ≡ ready_of hub lent.now.newest lent.now.free lent.now.queue lent.now.lens lent.now.merged linked long }
 {
-    let fit = scans_fit(hub, newest, free, queue, lens, merged, linked, long);
+    let fit = scans_fit(hub, lent, linked, long);
     fit & rights_table::stands(&hub.site.rights, hub.site.granted)
 }

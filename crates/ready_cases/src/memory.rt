@@ -1,5 +1,5 @@
 // Lent memory that is made of thirty-three numbers, one of each kind that has a range. What is not among them is 0, absent, or a worker's start.
-use state::{Hub, Site};
+use state::{Hub, Lent, Site};
 use values::Window;
 use worker::{Doing, Goal, Purpose, TimeStep, Worker};
 
@@ -162,37 +162,15 @@ fn row_of(e: [u64; 11]) -> [[u64; 6]; 2048] {
     row
 }
 
-fn newest_of(e: [u64; 11]) -> [u16; 256] {
-    let mut newest = [0u16; 256];
-    newest[1] = short(e[0]);
-    newest
-}
-
-fn free_of(e: [u64; 11]) -> [u16; 2048] {
-    let mut free = [0u16; 2048];
-    free[0] = short(e[1]);
-    free
-}
-
-// The first queued range.
-fn queue_of(z: [u64; 11], e: [u64; 11]) -> [u32; 12288] {
-    let mut queue = [0u32; 12288];
-    queue[3 * (z[7] % 4096) as usize] = (e[4] % 65536) as u32;
-    queue
-}
-
-// The one pool.
-fn lens_of(z: [u64; 11], e: [u64; 11]) -> [u32; 4096] {
-    let mut lens = [0u32; 4096];
-    lens[(z[6] % 4096) as usize] = (z[5] % 65536 + e[5] % 65536) as u32;
-    lens
-}
-
-// The first range of worker 1's list.
-fn merged_of(e: [u64; 11]) -> [u32; 12288] {
-    let mut merged = [0u32; 12288];
-    merged[768] = (e[6] % 65536) as u32;
-    merged
+// All zeros but for one entry of each array: a newest slot, a free one, the first queued range, the one pool, the first range of worker 1's list.
+fn lent_of(z: [u64; 11], e: [u64; 11]) -> Lent {
+    let mut lent = Lent::blank();
+    lent.newest[1] = short(e[0]);
+    lent.free[0] = short(e[1]);
+    lent.queue[3 * (z[7] % 4096) as usize] = (e[4] % 65536) as u32;
+    lent.lens[(z[6] % 4096) as usize] = (z[5] % 65536 + e[5] % 65536) as u32;
+    lent.merged[768] = (e[6] % 65536) as u32;
+    lent
 }
 
 // Whether this memory counts as set up, as the loop over the records asks it before the first.
@@ -203,10 +181,6 @@ pub fn is_ready(x: [[u64; 11]; 3]) -> bool {
     let row = row_of(e);
     let long = (e[9] % 2049) as usize;
     let linked = all_versions::all_linked(&row[0..long], hub.site.n);
-    let newest = newest_of(e);
-    let free = free_of(e);
-    let queue = queue_of(z, e);
-    let lens = lens_of(z, e);
-    let merged = merged_of(e);
-    ready::ready(hub, &newest, &free, &queue, &lens, &merged, linked, long)
+    let lent = lent_of(z, e);
+    ready::ready(hub, &lent, linked, long)
 }

@@ -1,17 +1,15 @@
 -- Whether the numbers that a worker's place names are in range (H8.3).
-use Rattle.std.specs.Prelude.{Bool, true, ◌&&◌, ◌||◌, ℕ, ◌+◌, ◌*◌, ltb, leb, eqb}
+use Rattle.std.specs.Prelude.{Option, Some, None, Bool, true, ◌&&◌, ◌||◌, ℕ, ◌+◌, ◌*◌, ltb, leb, eqb}
 use Rattle.model.specs.Store.{mark_count}
 use Rattle.model.specs.Rules.{twelve_digits}
 use Rattle.worker.specs.declared.Purpose.{Purpose}
 use Rattle.worker.specs.declared.Purpose.TheVariants.{Single, Marked, Totaling}
-use Rattle.places.specs.declared.Named.{Named}
-use Rattle.places.specs.declared.Named.TheVariants.{Nothing, Is}
 use Rattle.places.specs.declared.Facts.{Facts}
 
 -- a register, a slot or a mark, if there is one, is below n
-abbrev pub named_below : Named → ℕ → Bool
-named_below Nothing n = true
-named_below (Is i) n = ltb i n
+abbrev pub named_below : Option ℕ → ℕ → Bool
+named_below None n = true
+named_below (Some i) n = ltb i n
 
 -- a sum has at most 31 values of twelve digits: a group has at most 32 rows, and the sums are of those before the row
 abbrev pub sum_fits : ℕ → Bool

@@ -6,12 +6,6 @@ ghost use Rattle.ready_queue.specs.Queue.{lens_fit, lens_sum, pools_fit};
 
 use values::Window;
 
-fn wide32(x: u32) -> usize
-    ensures { (result ≡ x) × (result < 4294967296) }
-{
-    x as usize
-}
-
 // Whether the k pools whose lengths stand from place i on have 1 to so many ranges each.
 #[tactic(auto, unfolding(crate::specs::Queue::lens_fit))]
 fn lens_fit(lens: &[u32; 4096], i: usize, k: usize, most: u32) -> bool
@@ -19,9 +13,8 @@ fn lens_fit(lens: &[u32; 4096], i: usize, k: usize, most: u32) -> bool
     ensures { result ≡ lens_fit lens.now i most k }
 {
     let mut ok = true;
-    for j in 0..k {
-        let x = lens[i + j];
-        ok = ok & ((1 <= x) & (x <= most));
+    for &x in &lens[i..i + k] {
+        ok &= (1 <= x) & (x <= most);
     }
     ok
 }
@@ -33,8 +26,8 @@ fn lens_sum(lens: &[u32; 4096], i: usize, k: usize) -> usize
     ensures { result ≡ lens_sum lens.now i k }
 {
     let mut sum = 0;
-    for j in 0..k {
-        sum = sum + wide32(lens[i + j]);
+    for &x in &lens[i..i + k] {
+        sum += x as usize;
     }
     sum
 }
@@ -59,7 +52,7 @@ pub fn pools_fit<'a>(
     if 4096 - first < pools {
         return false;
     }
-    let most = 2 * (b as u32);
-    let slots = scans::slots_below(queue, w.from, queued, n as u32);
+    let most = 2 * u32::from(b);
+    let slots = scans::slots_below(queue, w.from, queued, u32::from(n));
     (slots & lens_fit(lens, first, pools, most)) & (lens_sum(lens, first, pools) == queued)
 }

@@ -7,16 +7,6 @@ ghost use Rattle.ready_sizes.specs.Sizes.{window_fits, sizes_fit};
 use state::Hub;
 use values::Window;
 
-// N - V, and 0 where V is larger.
-fn besides(v: usize, n: usize) -> usize
-    ensures { result ≡ n - v }
-{
-    if v <= n {
-        return n - v;
-    }
-    0
-}
-
 // Whether the queue's window is in range, with at most so many ranges.
 fn window_fits(w: Window, most: usize) -> bool
     ensures { result ≡ window_fits w most }
@@ -32,10 +22,9 @@ pub fn sizes_fit(hub: Hub, long: usize) -> bool
     let v = hub.site.v;
     let n = hub.site.n;
     let size = hub.site.batch;
-    let window = hub.window;
-    let most = besides(v, n);
+    let most = n.saturating_sub(v);
     (((1 <= p) & (p <= 16)) & ((1 <= v) & (v <= 256)))
         & (((v <= n) & (n <= 2048)) & (n <= long))
-        & ((hub.free <= most) & window_fits(window, most))
+        & ((hub.free <= most) & window_fits(hub.window, most))
         & ((hub.site.listed <= 1024) & ((1 <= size) & (size <= 64)))
 }

@@ -1,7 +1,5 @@
 -- Whether a worker's record is in range (H8.3): its place, its local pool and the list that it has in hand.
-use Rattle.std.specs.Prelude.{Bool, true, false, cond, ◌&&◌, List, ℕ, ◌*◌, ltb, leb}
-use Rattle.places.specs.declared.Named.{Named}
-use Rattle.places.specs.declared.Named.TheVariants.{Nothing, Is}
+use Rattle.std.specs.Prelude.{Option, Some, None, Bool, true, false, cond, ◌&&◌, List, ℕ, ◌*◌, ltb, leb}
 use Rattle.places.specs.About.{about_of}
 use Rattle.worker.specs.declared.Pool.{Pool}
 use Rattle.worker.specs.declared.Worker.{Worker}
@@ -16,11 +14,11 @@ pool_fits q most n = cond (ltb most q.len) false (below_to q.slots n q.len)
 abbrev pub list_fits : ℕ → ℕ → List ℕ → ℕ → ℕ → Bool
 list_fits m w merged most n = cond (ltb most m) false (slots_below merged (256 * w) n m)
 
-abbrev pub ranges_fit : Named → ℕ → List ℕ → ℕ → ℕ → Bool
-ranges_fit Nothing w merged most n = true
-ranges_fit (Is m) w merged most n = list_fits m w merged most n
+abbrev pub ranges_fit : Option ℕ → ℕ → List ℕ → ℕ → ℕ → Bool
+ranges_fit None w merged most n = true
+ranges_fit (Some m) w merged most n = list_fits m w merged most n
 
-unfoldable pub hand_fits : Named → ℕ → List ℕ → ℕ → ℕ → Bool
+unfoldable pub hand_fits : Option ℕ → ℕ → List ℕ → ℕ → ℕ → Bool
 hand_fits x w merged most n = cond (leb 16 w) false (ranges_fit x w merged most n)
 
 -- a worker's record, with at most so many ranges in its local pool and in its list in hand

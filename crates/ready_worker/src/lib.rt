@@ -4,26 +4,17 @@
 ghost use Rattle.std.specs.Prelude.{◌≡◌, ◌&&◌, ◌<◌, ◌≤◌, leb};
 ghost use Rattle.ready_worker.specs.Worker.{pool_fits, list_fits, hand_fits, worker_fits};
 
-use places::Named;
 use worker::{Pool, Worker};
-
-fn wide16(x: u16) -> usize
-    ensures { result ≡ x }
-{
-    x as usize
-}
 
 // Whether a local pool's count and slots are in range.
 fn pool_fits(q: Pool, most: usize, n: u16) -> bool
     requires { most ≤ 64 }
     ensures { result ≡ pool_fits q most n }
 {
-    let len = q.len;
-    if most < len {
+    if most < q.len {
         return false;
     }
-    let slots = q.slots;
-    scans::all_below(&slots, len, n)
+    scans::all_below(&q.slots, q.len, n)
 }
 
 // Whether the list in hand of worker w, which has m ranges, has at most so many, and its slots are in range.
@@ -31,7 +22,7 @@ fn list_fits(m: u16, w: usize, merged: &[u32; 12288], most: usize, n: u32) -> bo
     requires { (w < 16) × (most ≤ 256) }
     ensures { result ≡ list_fits m w merged.now most n }
 {
-    let k = wide16(m);
+    let k = usize::from(m);
     if most < k {
         return false;
     }
@@ -39,7 +30,7 @@ fn list_fits(m: u16, w: usize, merged: &[u32; 12288], most: usize, n: u32) -> bo
 }
 
 // The same of the list that worker w's place has, if there is one.
-fn hand_fits(ranges: Named, w: usize, merged: &[u32; 12288], most: usize, n: u32) -> bool
+fn hand_fits(ranges: Option<u16>, w: usize, merged: &[u32; 12288], most: usize, n: u32) -> bool
     requires { most ≤ 256 }
     ensures { result ≡ hand_fits ranges w merged.now most n }
 {
@@ -47,8 +38,8 @@ fn hand_fits(ranges: Named, w: usize, merged: &[u32; 12288], most: usize, n: u32
         return false;
     }
     match ranges {
-        Named::Nothing => true,
-        Named::Is(m) => list_fits(m, w, merged, most, n),
+        None => true,
+        Some(m) => list_fits(m, w, merged, most, n),
     }
 }
 
@@ -72,10 +63,7 @@ pub fn worker_fits(
     if 256 < list {
         return false;
     }
-    let d = x.doing;
-    let y = places::about(d);
-    let ranges = y.ranges;
-    let q = x.pool;
-    (ready_place::place_fits(y, p, v, n, k) & pool_fits(q, local, n))
-        & hand_fits(ranges, w, merged, list, n as u32)
+    let y = places::about(x.doing);
+    (ready_place::place_fits(y, p, v, n, k) & pool_fits(x.pool, local, n))
+        & hand_fits(y.ranges, w, merged, list, u32::from(n))
 }

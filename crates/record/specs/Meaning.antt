@@ -1,12 +1,12 @@
 -- What a decoded record means: for each case of an enum, the command of H3.3 with its numbers, or the number of the refusal, as the model has it.
+use Rattle.std.specs.Prelude.{Result, Ok, Err}
 use Rattle.model.specs.Record as Model
-use Rattle.values.specs.Meaning.{reading_of}
+use Rattle.values.specs.Meaning.{reading_of, refusal_number}
 use Rattle.record.specs.declared.Operation.{Operation}
 use Rattle.record.specs.declared.Operation.TheVariants.{Put, Open, Read, Close, Get, Collect, Total, Mark, Release, MarkedRead}
 use Rattle.record.specs.declared.Command.{Command}
 use Rattle.record.specs.declared.Command.TheVariants.{SetUp, Begin, Step}
-use Rattle.record.specs.declared.Decoded.{Decoded}
-use Rattle.record.specs.declared.Decoded.TheVariants.{Asks, Refuses}
+use Rattle.values.specs.declared.Refusal.{Refusal}
 
 abbrev pub operation_of : Operation → Model.Operation
 operation_of (Put r x) = Model.Put r (reading_of x)
@@ -26,6 +26,6 @@ command_meaning (SetUp p v n t) = Model.SetUp (record { P = p; V' = v; N = n; cl
 command_meaning (Begin w o) = Model.Begin w (operation_of o)
 command_meaning (Step w) = Model.Step w
 
-abbrev pub decoded_of : Decoded → Model.Decoded
-decoded_of (Asks c) = Model.Asks (command_meaning c)
-decoded_of (Refuses k) = Model.Refuses k
+abbrev pub decoded_of : Result Command Refusal → Model.Decoded
+decoded_of (Ok c) = Model.Asks (command_meaning c)
+decoded_of (Err k) = Model.Refuses (refusal_number k)

@@ -1,13 +1,13 @@
 // The record decoder.
 #![tactic(auto)]
 
-ghost use Rattle.std.specs.Prelude.{◌≡◌, cond, ◌+◌, ◌≤◌, ◌<◌, ltb, length, get_or};
+ghost use Rattle.std.specs.Prelude.{◌≡◌, cond, ◌+◌, ◌≤◌, ltb, length, get_or};
 ghost use Rattle.model.specs.Record.{number, zeros};
 ghost use Rattle.model.specs.Record as Model;
 ghost use Rattle.record.specs.Meaning.{operation_of, decoded_of};
 ghost use Rattle.record.specs.Parts.{checked_of};
 
-use values::Reading;
+use values::{Reading, Refusal};
 
 // An operation that a record begins, 1 to 6 and 8 to 11.
 #[derive(Clone, Copy)]
@@ -31,31 +31,6 @@ pub enum Command {
     Step { worker: u8 },
 }
 
-// A record read: a command, or the number of the refusal.
-#[derive(Clone, Copy)]
-pub enum Decoded {
-    Asks(Command),
-    Refuses(u8),
-}
-
-fn wide16(x: u8) -> u16
-    ensures { (result ≡ x) × (result < 256) }
-{
-    x as u16
-}
-
-fn wide32(x: u16) -> u32
-    ensures { (result ≡ x) × (result < 65536) }
-{
-    x as u32
-}
-
-fn wide64(x: u32) -> u64
-    ensures { (result ≡ x) × (result < 4294967296) }
-{
-    x as u64
-}
-
 // The numbers in one, two, four and eight bytes from place i on. They are read here and not by `le`, whose tests of the length shape the loop
 // otherwise: a record would take ten instructions more.
 fn one(b: &[u8], i: usize) -> u8
@@ -69,25 +44,25 @@ fn two(b: &[u8], i: usize) -> u16
     requires { i + 2 ≤ length b.now }
     ensures { result ≡ number b.now i 2 }
 {
-    wide16(one(b, i)) + 256 * wide16(one(b, i + 1))
+    u16::from(one(b, i)) + 256 * u16::from(one(b, i + 1))
 }
 
 fn four(b: &[u8], i: usize) -> u32
     requires { i + 4 ≤ length b.now }
     ensures { result ≡ number b.now i 4 }
 {
-    wide32(two(b, i)) + 65536 * wide32(two(b, i + 2))
+    u32::from(two(b, i)) + 65536 * u32::from(two(b, i + 2))
 }
 
 fn eight(b: &[u8], i: usize) -> u64
     requires { i + 8 ≤ length b.now }
     ensures { result ≡ number b.now i 8 }
 {
-    wide64(four(b, i)) + 4294967296 * wide64(four(b, i + 4))
+    u64::from(four(b, i)) + 4294967296 * u64::from(four(b, i + 4))
 }
 
 // Whether the bytes 5 to 7 are zero, whether the bytes 5 to 15 are, whether the bytes 4 to 15 are, and whether the bytes 2 to 15 are: they
-// are where their number is.
+// are where their number is. As one function of the place from which on they are, over the bytes one by one, they got no proof.
 fn none_5_to_7(b: &[u8]) -> bool
     requires { 16 ≤ length b.now }
     ensures { result ≡ zeros b.now 5 3 }
@@ -117,50 +92,50 @@ fn none_from_2(b: &[u8]) -> bool
 }
 
 // Operation 0.
-fn set_up(rec: &[u8]) -> Decoded
+fn set_up(rec: &[u8]) -> Result<Command, Refusal>
     requires { 16 ≤ length rec.now }
     ensures { decoded_of result ≡ checked_of rec.now 0 }
 {
     if (two(rec, 6) == 0) & (four(rec, 12) == 0) {
-        return Decoded::Asks(Command::SetUp {
+        return Ok(Command::SetUp {
             p: one(rec, 1),
             v: two(rec, 2),
             n: two(rec, 4),
             clock: four(rec, 8),
         });
     }
-    Decoded::Refuses(2)
+    Err(Refusal::UnusedByte)
 }
 
 // The begin of an operation; `zero` says that the bytes which it does not use are zero.
-fn begin(rec: &[u8], zero: bool, operation: Operation) -> Decoded
+fn begin(rec: &[u8], zero: bool, operation: Operation) -> Result<Command, Refusal>
     requires { 2 ≤ length rec.now }
     ensures { decoded_of result
         ≡ cond zero (Model.Asks (Model.Begin (number rec.now 1 1) (operation_of operation))) (Model.Refuses 2) }
 {
     let worker = one(rec, 1);
     if zero {
-        return Decoded::Asks(Command::Begin { worker, operation });
+        return Ok(Command::Begin { worker, operation });
     }
-    Decoded::Refuses(2)
+    Err(Refusal::UnusedByte)
 }
 
 // Operation 7.
 #[tactic(auto, unfolding(model::specs::Record::command_of, model::specs::Record::unused_zero))]
-fn step(rec: &[u8]) -> Decoded
+fn step(rec: &[u8]) -> Result<Command, Refusal>
     requires { 16 ≤ length rec.now }
     ensures { decoded_of result ≡ checked_of rec.now 7 }
 {
     let worker = one(rec, 1);
     if none_from_2(rec) {
-        return Decoded::Asks(Command::Step { worker });
+        return Ok(Command::Step { worker });
     }
-    Decoded::Refuses(2)
+    Err(Refusal::UnusedByte)
 }
 
 // A record of sixteen bytes, by its byte 0.
 #[tactic(auto, unfolding(model::specs::Record::command_of, model::specs::Record::unused_zero))]
-fn asked(rec: &[u8]) -> Decoded
+fn asked(rec: &[u8]) -> Result<Command, Refusal>
     requires { 16 ≤ length rec.now }
     ensures { decoded_of result
         ≡ cond (ltb 11 (get_or rec.now 0 0))
@@ -204,25 +179,25 @@ fn asked(rec: &[u8]) -> Decoded
         }
         11 => {
             let register = two(rec, 2);
-            let mark = wide16(one(rec, 4));
+            let mark = u16::from(one(rec, 4));
             begin(
                 rec,
                 none_from_5(rec),
                 Operation::MarkedRead { register, mark },
             )
         }
-        _ => Decoded::Refuses(1),
+        _ => Err(Refusal::UnknownOperation),
     }
 }
 
 // The command of a record, any bytes, any length. Refusals: 6 fewer than 16 bytes, 1 operation above 11, 2 an unused byte is not zero,
 // in this order. Bytes after the sixteenth are not looked at.
 #[tactic(auto, unfolding(model::specs::Record::decode))]
-pub fn decode(rec: &[u8]) -> Decoded
+pub fn decode(rec: &[u8]) -> Result<Command, Refusal>
     ensures { decoded_of result ≡ Model.decode rec.now }
 {
     if rec.len() < 16 {
-        return Decoded::Refuses(6);
+        return Err(Refusal::CutOff);
     }
     asked(rec)
 }

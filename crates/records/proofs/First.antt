@@ -12,7 +12,7 @@ use Rattle.model.specs.Record.{Decoded, Asks, Refuses, command_of, unused_zero, 
 use Rattle.values.specs.declared.Answer.{Answer}
 use Rattle.places.specs.About.{about_of}
 use Rattle.state.specs.State.{worker_in, table_kept}
-use Rattle.gate.specs.declared.Gate.{Gate}
+use Rattle.gate.specs.Gate.{Decided}
 use Rattle.gate.specs.Gate.{has_time}
 use Rattle.decision.specs.Decision.{gate_of}
 use Rattle.simulation.specs.Memory.{Memory, Result}
@@ -91,7 +91,7 @@ pub decode-first : (b : List ℕ) → decode (take 16 b) ≡ decode b
 decode-first b = by_length b (ltb (length b) 16) refl
 
 -- ---- what a record does, and what the first record of a buffer does
-abbrev gate_by : Bool → Memory → Given → Decoded → ℕ → Gate
+abbrev gate_by : Bool → Memory → Given → Decoded → ℕ → Decided
 gate_by up m given d u =
     let x = worker_in m.hub (u % 16) in
     gate_of d up m.hub.site.p m.hub.site.v (length m.slots) (about_of x.doing).idle (has_time x.announced) given.totals

@@ -4,11 +4,11 @@
 
 ghost use Rattle.model.specs.Rules.{of_totals};
 ghost use Rattle.versions.specs.Versions.{row_of};
-ghost use Rattle.simulation.specs.Memory.{memory};
+ghost use Rattle.simulation.specs.Lent.{lent_memory};
 ghost use Rattle.records.specs.Records.{OneApplied, AllApplied};
 
 use called::Called;
-use state::Hub;
+use state::{Hub, Lent};
 use values::Answer;
 
 // ---- one record
@@ -19,35 +19,16 @@ pub fn apply_one(
     hub: Hub,
     given: &[u8],
     rec: &[u8],
-    newest: &mut [u16; 256],
-    free: &mut [u16; 2048],
-    queue: &mut [u32; 12288],
-    lens: &mut [u32; 4096],
-    merged: &mut [u32; 12288],
+    lent: &mut Lent,
 ) -> Called
     ensures { OneApplied
-        (memory hub (row_of row.old)
-        newest.old free.old queue.old lens.old merged.old)
+        (lent_memory hub (row_of row.old) lent.old)
         (of_totals given.now) rec.now result
-        (memory result.hub (row_of row.new)
-        newest.new free.new queue.new lens.new merged.new) }
+        (lent_memory result.hub (row_of row.new) lent.new) }
 {
     let mut kinds = [0u16; 1];
     let mut numbers = [0u64; 1];
-    let done = hub_core::run(
-        row,
-        hub,
-        given,
-        rec,
-        1,
-        &mut kinds,
-        &mut numbers,
-        newest,
-        free,
-        queue,
-        lens,
-        merged,
-    );
+    let done = hub_core::run(row, hub, given, rec, 1, &mut kinds, &mut numbers, lent);
     let left = done.hub;
     let answer = done.last;
     Called {
@@ -67,24 +48,16 @@ pub fn apply_all(
     bytes: &[u8],
     kinds: &mut [u16],
     numbers: &mut [u64],
-    newest: &mut [u16; 256],
-    free: &mut [u16; 2048],
-    queue: &mut [u32; 12288],
-    lens: &mut [u32; 4096],
-    merged: &mut [u32; 12288],
+    lent: &mut Lent,
 ) -> Called
     ensures { AllApplied
-        (memory hub (row_of row.old)
-        newest.old free.old queue.old lens.old merged.old)
+        (lent_memory hub (row_of row.old) lent.old)
         (of_totals given.now) bytes.now kinds.old numbers.old result
-        (memory result.hub (row_of row.new)
-        newest.new free.new queue.new lens.new merged.new)
+        (lent_memory result.hub (row_of row.new) lent.new)
         kinds.new numbers.new }
 {
     let count = record_count::answerable(bytes.len(), kinds.len(), numbers.len());
-    let done = hub_core::run(
-        row, hub, given, bytes, count, kinds, numbers, newest, free, queue, lens, merged,
-    );
+    let done = hub_core::run(row, hub, given, bytes, count, kinds, numbers, lent);
     let left = done.hub;
     Called {
         hub: left,

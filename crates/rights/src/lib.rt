@@ -1,7 +1,7 @@
-// What the table of rights permits (H15): of the rows that a hub keeps the first n count.
+// What the table of rights permits (H15).
 #![tactic(auto)]
 
-ghost use Rattle.std.specs.Prelude.{◌≡◌, map, take};
+ghost use Rattle.std.specs.Prelude.{◌≡◌, ◌≤◌, map, length};
 ghost use Rattle.model.specs.Store.{up_from};
 ghost use Rattle.model.specs.Totals.{register_of, of_group};
 ghost use Rattle.model.specs.Rights.{any_of, among, may_on_each, allowed};
@@ -18,7 +18,7 @@ pub enum Permission {
 }
 
 // H15.5: what an operation needs: nothing; a right on a register; the right to read each register of a group; a right in any row; a right on
-// every register of the hub.
+// every register of the hub. Nothing is a case among the others, so that one match says what is needed.
 #[derive(Clone, Copy)]
 pub enum Needed {
     Nothing,
@@ -31,11 +31,14 @@ pub enum Needed {
     OnAll(Permission),
 }
 
-// The registers that a row is asked about: it may be for any, or is to be for this one.
+// What a setup fixed, as far as records are decided by it: how many registers there are, the rows of totals, of which a hub has room for 1,024,
+// and the rows of rights.
 #[derive(Clone, Copy)]
-enum Place {
-    Anywhere,
-    At(u64),
+pub struct Tables<'a> {
+    pub v: usize,
+    pub rows: &'a [u32],
+    pub rights: &'a [u64],
+    ghost few: { length rows.now ≤ 1024 },
 }
 
 // ---- a row
@@ -52,65 +55,47 @@ fn is_among(p: Permission, x: u64) -> bool
     }
 }
 
-// Whether the row gives worker w the right there.
-fn gives(row: u64, w: u8, p: Permission, place: Place) -> bool
-    ensures { result ≡ gives_in w (permission_of p) place row }
+// Whether the row gives worker w the right: for this register, or whatever its registers are.
+fn gives(row: u64, w: u8, p: Permission, register: Option<u64>) -> bool
+    ensures { result ≡ gives_in w (permission_of p) register row }
 {
-    let own = (row % 256 == (w as u64)) & is_among(p, row / 256 % 256);
-    match place {
-        Place::Anywhere => own,
-        Place::At(r) => own & (row / 65536 % 65536 <= r) & (r <= row / 4294967296 % 65536),
+    let own = (row % 256 == u64::from(w)) & is_among(p, row / 256 % 256);
+    match register {
+        None => own,
+        Some(r) => own & (row / 65536 % 65536 <= r) & (r <= row / 4294967296 % 65536),
     }
 }
 
 // ---- what is permitted
 
-// H15.3: whether one of the first n rows gives worker w the right there.
-fn may(rights: &[u64; 64], n: usize, w: u8, p: Permission, place: Place) -> bool
-    ensures { result ≡ any_of (gives_in w (permission_of p) place) (take n rights.now) }
+// H15.3: whether one of the rows gives worker w the right there.
+fn may(rights: &[u64], w: u8, p: Permission, register: Option<u64>) -> bool
+    ensures { result ≡ any_of (gives_in w (permission_of p) register) rights.now }
 {
-    let rows: &[u64] = rights;
-    let most = bounds::at_most(n, rows.len());
-    for i in 0..most {
-        if gives(rows[i], w, p, place) {
-            return true;
-        }
-    }
-    false
+    rights.iter().any(|row| gives(*row, w, p, register))
 }
 
 // On every register below v.
-fn may_on_all(rights: &[u64; 64], n: usize, w: u8, p: Permission, v: usize) -> bool
-    ensures { result ≡ may_on_each (take n rights.now) w (permission_of p) (up_from 0 v) }
+fn may_on_all(rights: &[u64], w: u8, p: Permission, v: usize) -> bool
+    ensures { result ≡ may_on_each rights.now w (permission_of p) (up_from 0 v) }
 {
     for r in 0..v {
-        if !may(rights, n, w, p, Place::At(r as u64)) {
+        if !may(rights, w, p, Some(r as u64)) {
             return false;
         }
     }
     true
 }
 
-// On each register of the group, of those of the rows of totals that count.
-fn may_on_group<'a>(
-    rights: &'a [u64; 64],
-    n: usize,
-    w: u8,
-    p: Permission,
-    rows: &'a [u32; 1024],
-    listed: usize,
-    group: u16,
-) -> bool
+// On each register of the group.
+fn may_on_group<'a>(rights: &'a [u64], w: u8, p: Permission, rows: &'a [u32], group: u16) -> bool
     ensures { result
-        ≡ may_on_each (take n rights.now) w (permission_of p) (map register_of (of_group group (take listed rows.now))) }
+        ≡ may_on_each rights.now w (permission_of p) (map register_of (of_group group rows.now)) }
 {
-    let list: &[u32] = rows;
-    let most = total_row::counted(list, listed);
-    for i in 0..most {
-        let row = list[i];
+    for &row in rows {
         if total_row::group_of(row) == group {
-            let register = total_row::register_of(row) as u64;
-            if !may(rights, n, w, p, Place::At(register)) {
+            let register = u64::from(total_row::register_of(row));
+            if !may(rights, w, p, Some(register)) {
                 return false;
             }
         }
@@ -118,20 +103,13 @@ fn may_on_group<'a>(
     true
 }
 
-// H15.4, H15.5: whether worker w of a hub with v registers has what an operation needs. Without rows all is allowed.
-pub fn is_allowed<'a>(
-    need: Needed,
-    rights: &'a [u64; 64],
-    n: usize,
-    rows: &'a [u32; 1024],
-    listed: usize,
-    v: usize,
-    w: u8,
-) -> bool
-    ensures { result ≡ allowed (take n rights.now) v w (needed_in need (take listed rows.now)) }
+// H15.4, H15.5: whether worker w has what an operation needs. Without rows all is allowed.
+pub fn is_allowed(need: Needed, tables: Tables, w: u8) -> bool
+    ensures { result
+        ≡ allowed tables.entry.rights.now tables.entry.v w (needed_in need tables.entry.rows.now) }
 {
-    let list: &[u64] = rights;
-    if bounds::at_most(n, list.len()) == 0 {
+    let rights = tables.rights;
+    if rights.is_empty() {
         return true;
     }
     match need {
@@ -139,11 +117,9 @@ pub fn is_allowed<'a>(
         Needed::On {
             permission,
             register,
-        } => may(rights, n, w, permission, Place::At(register as u64)),
-        Needed::OnGroup(group) => {
-            may_on_group(rights, n, w, Permission::Read, rows, listed, group)
-        }
-        Needed::InAny(permission) => may(rights, n, w, permission, Place::Anywhere),
-        Needed::OnAll(permission) => may_on_all(rights, n, w, permission, v),
+        } => may(rights, w, permission, Some(u64::from(register))),
+        Needed::OnGroup(group) => may_on_group(rights, w, Permission::Read, tables.rows, group),
+        Needed::InAny(permission) => may(rights, w, permission, None),
+        Needed::OnAll(permission) => may_on_all(rights, w, permission, tables.v),
     }
 }

@@ -3,7 +3,8 @@
 use mathlib.Core.Path.{◌≡◌, refl, ap, ◌∙◌}
 use mathlib.Core.Logic.{◌≢◌}
 use mathlib.Core.Bool.{Bool, true, false, ◌&&◌}
-use mathlib.Core.List.{List}
+use mathlib.Core.List.{List, [], ◌∷◌}
+use Rattle.std.specs.List.{list_all}
 use Prim.Native.Nat.{ℕ, zero, suc, ◌+◌, ◌*◌, ◌/◌, ◌%◌, ◌≤◌, ◌<◌}
 use native.Mathlib.Nat.{le_of_suc-le-suc, not-suc-le-zero, zero-add}
 use native.Mathlib.Numerals.{add-one}
@@ -18,6 +19,12 @@ use Rattle.model.specs.Store.{up_from}
 use Rattle.model.specs.Record.{number}
 use Rattle.model.specs.Rights.{each_of, right_fits, table_stands, table_of, table_fits}
 use Rattle.model.proofs.Basic.{get_d_map}
+
+-- each entry passes a test
+pub each-all : (f : ℕ → Bool) (l : List ℕ) → each_of f l ≡ list_all f l
+unfolding each_of
+each-all f [] = refl
+each-all f (x ∷ l) = ap (λ (t : Bool). f x && t) (each-all f l)
 
 pub length_up : (a n : ℕ) → length (up_from a n) ≡ n
 unfolding up_from

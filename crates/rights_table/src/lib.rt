@@ -19,10 +19,9 @@ fn row_ok(row: u64) -> bool
 fn fill_table(rights: &mut [u64; 64], table: &[u8])
     ensures { rights.new ≡ over (take 64 (table_of table.now)) rights.old }
 {
-    let to: &mut [u64] = rights;
-    let room = bounds::at_most(table.len() / 8, to.len());
-    for i in 0..room {
-        to[i] = le::eight(table, 8 * i);
+    // By index: row i is made of the bytes from 8 i on.
+    for i in 0..rights.len().min(table.len() / 8) {
+        rights[i] = le::eight(table, 8 * i);
     }
 }
 
@@ -33,13 +32,7 @@ pub fn stands(rights: &[u64; 64], n: usize) -> bool
     if 64 < n {
         return false;
     }
-    let rows: &[u64] = rights;
-    for i in 0..n {
-        if !row_ok(rows[i]) {
-            return false;
-        }
-    }
-    true
+    rights[..n].iter().all(|&row| row_ok(row))
 }
 
 // H15.8: takes the rows of a table of any bytes, and says so; where the table is not accepted, the rows that stood stay.

@@ -2,22 +2,21 @@
 // written and 255 where there is no reading, and then every byte of the lent buffer, as bytes on standard output.
 #![tactic(auto)]
 
-use row::RowAnswer;
-use values::{Content, Reading};
+use row::Outcome;
+use values::{Content, Reading, Refusal};
 
-fn number_of(answer: RowAnswer) -> u8 {
+fn number_of(answer: Result<Outcome, Refusal>) -> u8 {
     match answer {
-        RowAnswer::Written => 0,
-        RowAnswer::None => 255,
-        RowAnswer::No(refusal) => refusal,
+        Ok(Outcome::Written) => 0,
+        Ok(Outcome::NoReading) => 255,
+        Err(refusal) => refusal.number(),
     }
 }
 
 // Hands what a version holds to the row writer, and shows the outcome on standard output.
 fn outcome(rt: &impl Print, out: &mut [u8], register: u16, content: Content) {
     let answer = row::write_row(out, register, 16909060, content);
-    let number = [number_of(answer)];
-    let _ = rt.write_all(&number);
+    let _ = rt.write_all(&[number_of(answer)]);
     let _ = rt.write_all(out);
 }
 
@@ -27,7 +26,7 @@ fn show_as(rt: &impl Print, out: &mut [u8], register: u16, status: u8) {
         count: 72623859790382856,
         status,
     };
-    outcome(rt, out, register, Content::Of(reading));
+    outcome(rt, out, register, Some(reading));
 }
 
 // With a reading that was read.
@@ -37,20 +36,15 @@ fn show(rt: &impl Print, out: &mut [u8], register: u16) {
 
 // Without one.
 fn show_none(rt: &impl Print, out: &mut [u8], register: u16) {
-    outcome(rt, out, register, Content::NoReading);
+    outcome(rt, out, register, None);
 }
 
 fn main(rt: HostRuntime) {
-    let mut short = [9; 15];
-    show(&rt, &mut short, 0);
-    let mut first = [9; 16];
-    show(&rt, &mut first, 0);
-    let mut cut = [9; 31];
-    show(&rt, &mut cut, 1);
-    let mut second = [9; 32];
-    show(&rt, &mut second, 1);
-    let mut absent = [9; 32];
-    show(&rt, &mut absent, 256);
+    show(&rt, &mut [9; 15], 0);
+    show(&rt, &mut [9; 16], 0);
+    show(&rt, &mut [9; 31], 1);
+    show(&rt, &mut [9; 32], 1);
+    show(&rt, &mut [9; 32], 256);
     show_none(&rt, &mut [9; 15], 0);
     show_none(&rt, &mut [9; 16], 0);
     show_none(&rt, &mut [9; 32], 256);

@@ -2,8 +2,8 @@
 // they are refused nothing is written there, and standard error has the refusal.
 #![tactic(auto)]
 
-use digits::RowsAnswer;
 use std::rt::Env;
+use values::Refusal;
 
 // As many bytes as are converted: 262144 rows.
 const MOST: usize = 4194304;
@@ -17,54 +17,41 @@ fn asked(rt: &impl Env, word: &[u8]) -> bool {
     }
 }
 
-fn convert(rows: &mut [u8], new: bool) -> RowsAnswer {
-    if new {
-        digits::to_new(rows)
-    } else {
-        digits::to_old(rows)
-    }
-}
-
-fn say_refusal(rt: &HostRuntime, number: u8) {
-    match number {
-        6 => input::say(rt, b"no 6\n"),
-        16 => input::say(rt, b"no 16\n"),
-        _ => input::say(rt, b"no 22\n"),
-    }
-}
-
 // Reads, converts and writes. The buffer has one byte more than is converted, which only a longer input fills.
-fn run(rt: &HostRuntime, buffer: &mut [u8], new: bool) {
-    let got = input::fill(rt, buffer);
-    if got.failed {
-        input::say(rt, b"rows: cannot read standard input\n");
+fn run<F: Fn(&mut [u8]) -> Result<(), Refusal>>(rt: &HostRuntime, buffer: &mut [u8], convert: F)
+    requires { F.IsAlwaysCallable convert }
+{
+    let Ok(n) = input::fill(rt, buffer) else {
+        let _ = eprintln!(rt; "rows: cannot read standard input");
         return;
-    }
-    let n = got.n;
+    };
     if n > MOST {
-        input::say(rt, b"rows: more than 4194304 bytes\n");
+        let _ = eprintln!(rt; "rows: more than 4194304 bytes");
         return;
     }
-    match convert(&mut buffer[..n], new) {
-        RowsAnswer::Converted => {
-            if rt.write_all(&buffer[..n]).is_err() {
-                input::say(rt, b"rows: cannot write standard output\n");
-            }
-        }
-        RowsAnswer::No(number) => say_refusal(rt, number),
+    if let Err(refusal) = convert(&mut buffer[..n]) {
+        let _ = eprintln!(rt; "no {}", refusal.number());
+        return;
+    }
+    if rt.write_all(&buffer[..n]).is_err() {
+        let _ = eprintln!(rt; "rows: cannot write standard output");
     }
 }
 
-fn with_buffer(rt: &HostRuntime, new: bool) {
+// The buffer has its own function: in `main` its length is not proved.
+fn with_buffer<F: Fn(&mut [u8]) -> Result<(), Refusal>>(rt: &HostRuntime, convert: F)
+    requires { F.IsAlwaysCallable convert }
+{
     let mut buffer = [0u8; 4194305];
-    run(rt, &mut buffer, new);
+    run(rt, &mut buffer, convert);
 }
 
 fn main(rt: HostRuntime) {
-    let new = asked(&rt, b"to-new");
-    if !new & !asked(&rt, b"to-old") {
-        input::say(&rt, b"usage: rows to-new | to-old\n");
-        return;
+    if asked(&rt, b"to-new") {
+        with_buffer(&rt, digits::to_new);
+    } else if asked(&rt, b"to-old") {
+        with_buffer(&rt, digits::to_old);
+    } else {
+        let _ = eprintln!(rt; "usage: rows to-new | to-old");
     }
-    with_buffer(&rt, new);
 }

@@ -13,8 +13,8 @@ pub fn all_below(l: &[u16], k: usize, n: u16) -> bool
         return false;
     }
     let mut ok = true;
-    for i in 0..k {
-        ok = ok & (l[i] < n);
+    for &x in &l[..k] {
+        ok &= x < n;
     }
     ok
 }
@@ -24,16 +24,16 @@ pub fn all_below(l: &[u16], k: usize, n: u16) -> bool
 pub fn slots_below(words: &[u32], i: usize, k: usize, n: u32) -> bool
     ensures { result ≡ leb (3 * (i + k)) (length words.now) && slots_below words.now i n k }
 {
-    let room = words.len() / 3;
-    if room < k {
+    let (ranges, _) = words.as_chunks::<3>();
+    if ranges.len() < k {
         return false;
     }
-    if room - k < i {
+    if ranges.len() - k < i {
         return false;
     }
     let mut ok = true;
-    for j in 0..k {
-        ok = ok & (words[3 * (i + j)] < n);
+    for range in &ranges[i..i + k] {
+        ok &= range[0] < n;
     }
     ok
 }
@@ -47,8 +47,8 @@ pub fn rows_below(rows: &[u32; 1024], k: usize, v: u32) -> bool
         return false;
     }
     let mut ok = true;
-    for i in 0..k {
-        ok = ok & (rows[i] / 65536 < v);
+    for &row in &rows[..k] {
+        ok &= row / 65536 < v;
     }
     ok
 }

@@ -12,8 +12,8 @@ pub fn answer_for(x: Content) -> Answer
     ensures { result ≡ answer_to x }
 {
     match x {
-        Content::NoReading => Answer::None,
-        Content::Of(reading) => Answer::Value(reading),
+        None => Answer::None,
+        Some(reading) => Answer::Value(reading),
     }
 }
 

@@ -24,7 +24,7 @@ use Rattle.worker.specs.declared.Worker.{Worker}
 use Rattle.places.specs.About.{about_of}
 use Rattle.state.specs.State.{worker_in, table_kept}
 use Rattle.arrays.specs.Arrays.{fill_to}
-use Rattle.gate.specs.declared.Gate.{Gate}
+use Rattle.gate.specs.Gate.{Decided}
 use Rattle.gate.specs.Gate.{has_time}
 use Rattle.gate.proofs.Tests.{begin-gate_by}
 use Rattle.decision.specs.Decision.{setup_ok, gate_of}
@@ -81,7 +81,7 @@ module _ (m : Memory) (given : Given) (bytes kinds numbers : List ℕ) where
 
 -- the decision sets up just where a setup is answered `ok`
 module _ (m : Memory) (given : Given) where
-  abbrev SetsUp : Record.Decoded → Gate → Type 0
+  abbrev SetsUp : Record.Decoded → Decided → Type 0
   SetsUp r g = makes g ≡ sets_up r (said (answer_of (obey_in m given g).answer)).ok
 
   gate_sets_up : (r : Record.Decoded) (up : Bool) (p v long : ℕ) (idle has : Bool) (rows marks reading table : List ℕ)
@@ -89,13 +89,13 @@ module _ (m : Memory) (given : Given) where
   unfolding gate_of sets_up obey_in
   gate_sets_up (Record.Refuses k) up p v long idle has rows marks reading table = refl
   gate_sets_up (Asks (SetUp z)) up p v long idle has rows marks reading table =
-      let N : Gate → Type 0 = SetsUp (Asks (SetUp z)) in
+      let N : Decided → Type 0 = SetsUp (Asks (SetUp z)) in
       cond_both N up _ _ (λ e. refl) (λ e. cond_both N (setup_ok z.P z.V' z.N z.clock long given.totals) _ _ (λ e. refl) (λ e. refl))
   gate_sets_up (Asks (Record.Begin w o)) up p v long idle has rows marks reading table =
-      let N : Gate → Type 0 = SetsUp (Asks (Record.Begin w o)) in
+      let N : Decided → Type 0 = SetsUp (Asks (Record.Begin w o)) in
       cond_both N up _ _ (λ e. begin-gate_by N p v w o idle has rows marks reading table (λ k f. refl) (λ f. refl)) (λ e. refl)
   gate_sets_up (Asks (Record.Step w)) up p v long idle has rows marks reading table =
-      let N : Gate → Type 0 = SetsUp (Asks (Record.Step w)) in
+      let N : Decided → Type 0 = SetsUp (Asks (Record.Step w)) in
       cond_both N up _ _ (λ e. cond_both N (ltb w p) _ _ (λ e. refl) (λ e. refl)) (λ e. refl)
 
 module _ (m : Memory) (given : Given) (bytes : List ℕ) where

@@ -19,8 +19,9 @@ use Rattle.worker.specs.Rep.{doing_rep}
 use Rattle.state.specs.declared.Hub.{Hub}
 use Rattle.state.specs.State.{worker_in}
 use Rattle.queue.specs.State.{Begins}
-use Rattle.gate.specs.declared.Gate.{Gate}
-use Rattle.gate.specs.declared.Gate.TheVariants.{Refuse, Make, Start, Go}
+use Rattle.gate.specs.Gate.{Decided}
+use Rattle.gate.specs.declared.Gate.TheVariants.{Make, Start, Go}
+use Rattle.std.specs.Prelude.{Ok as Grants, Err as Refuse}
 use Rattle.decision.proofs.Named.{decode-names}
 use Rattle.simulation.specs.Memory.{Memory, lent_in, hub_rep, write, write_hub, Result}
 use Rattle.simulation.specs.Left.{LeftByRecords, Left, Sized, ready}
@@ -50,7 +51,7 @@ abbrev pub DoneAs : Model.Hub → Memory → Given → List ℕ → Applied → 
 DoneAs h m given b a = ((done_of m given b).memory ≡ write_hub h a.hub m) × (answer_of (done_of m given b).answer ≡ a.answer)
 
 -- enough: the decision, and that what follows it is the model's
-done_by : (h : Model.Hub) (m : Memory) (given : Given) (b : List ℕ) (a : Applied) (g : Gate) → gate_in (ready m) m given b ≡ g → Follows given h m g a
+done_by : (h : Model.Hub) (m : Memory) (given : Given) (b : List ℕ) (a : Applied) (g : Decided) → gate_in (ready m) m given b ≡ g → Follows given h m g a
     → DoneAs h m given b a
 unfolding done_of done_as
 done_by h m given b a g e F =
@@ -99,13 +100,13 @@ module _ (steps : StepsSimulate) where
         subst Sound same (sound N.2)
 
     -- a step
-    stepped : (w : ℕ) → Stepping s w a → Follows given (up s) m (Go w) a
+    stepped : (w : ℕ) → Stepping s w a → Follows given (up s) m (Grants (Go w)) a
     unfolding obey_in
     stepped w T =
         let d : Model.Doing = (worker_at s w).doing in
         let at : (worker_in m.hub w).doing ≡ doing_rep d =
         ap (λ (h : Hub). (worker_in h w).doing) (hub_is s m laid) ∙ ap (λ (x : Worker). x.doing) (worker_at_lem s S w T.inside d refl) in
-        let does : obey_in m given (Go w) ≡ step_in m w d = ap (go_in m w (worker_in m.hub w)) at in
+        let does : obey_in m given (Grants (Go w)) ≡ step_in m w d = ap (go_in m w (worker_in m.hub w)) at in
         let M : Simulates s m w d =
         steps s m w d L.store S Z L.begins laid T.inside refl (next-sound (step_at s w d).store (ap (λ (x : Applied). x.hub) T.is)) in
         record {
@@ -114,14 +115,14 @@ module _ (steps : StepsSimulate) where
         }
 
     -- by the decision
-    by-gate : (g : Gate) → Means s g a → Follows given (up s) m g a
+    by-gate : (g : Decided) → Means s g a → Follows given (up s) m g a
     by-gate (Refuse k) t = subst (Follows given (up s) m (Refuse k)) (sym t) (refused (up s) m k (laid ∙ write_kept s s m (omega arith)))
-    by-gate (Make p v n k) t = absurd t
-    by-gate (Start w d) t =
+    by-gate (Grants (Make p v n k)) t = absurd t
+    by-gate (Grants (Start w d)) t =
         let B = t.2 in
-        subst (Follows given (up s) m (Start w d)) (sym B.is)
+        subst (Follows given (up s) m (Grants (Start w d))) (sym B.is)
         (rw t.1 (begun s m S Z laid w B.inside B.idle t.0))
-    by-gate (Go w) t = stepped w t
+    by-gate (Grants (Go w)) t = stepped w t
 
     -- on memory that records left the code does what the model does
     pub done-left : DoneAs (up s) m given b (apply (in_force given) (up s) b)

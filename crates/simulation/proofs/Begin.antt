@@ -18,6 +18,7 @@ use Rattle.marks.specs.Marks.{read_by}
 use Rattle.state.specs.declared.Hub.{Hub}
 use Rattle.state.specs.State.{worker_in, with_worker_in, at_place}
 use Rattle.gate.specs.declared.Gate.TheVariants.{Start}
+use Rattle.std.specs.Prelude.{Ok as Grants}
 use Rattle.simulation.specs.Memory.{Memory, hub_rep, hand_words, in_hand_words, write}
 use Rattle.simulation.specs.Left.{Sized}
 use Rattle.simulation.specs.Shell.{obey_in}
@@ -58,7 +59,7 @@ module _ (s : Store) (m : Memory) (S : Sound s) (Z : Sized m) (laid : m ≡ writ
       ∙ worker-put s S w inside m Z laid Model.Idle begun_worker [] idle (first_times s.site.rows o) (first_reads s.site.rows o)
 
   -- the code begins the operation as the model does
-  pub begun : {given : Given} → Follows given (up s) m (Start w (doing_rep (terms s.site.rows o).first)) (record { hub = up (place s w (terms s.site.rows o).first); answer = Answers.Ok })
+  pub begun : {given : Given} → Follows given (up s) m (Grants (Start w (doing_rep (terms s.site.rows o).first))) (record { hub = up (place s w (terms s.site.rows o).first); answer = Answers.Ok })
   unfolding obey_in
   begun =
       record {

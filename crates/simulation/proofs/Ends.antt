@@ -1,5 +1,6 @@
 -- What holds on any memory: a setup on memory that counts as set up gets 9, and a refusal changes nothing or, met at a step, sets one worker
 -- idle. By cases on the decision and on the worker's place.
+use Rattle.std.specs.Prelude.{Some, None}
 use mathlib.Core.Path.{◌≡◌, refl, sym, ap, ◌∙◌}
 use mathlib.Core.Bool.{Bool, true, false, cond, not}
 use mathlib.Core.List.{List}
@@ -21,12 +22,10 @@ use Rattle.values.specs.declared.Answer.TheVariants.{Going, Value, Below, Done, 
 use Rattle.arrays.specs.Arrays.{short}
 use Rattle.versions.specs.Versions.{slot_at_in, stamped_in}
 use Rattle.worker.specs.Rep.{time_of}
-use Rattle.worker.specs.declared.Announced.{Announced}
-use Rattle.worker.specs.declared.Announced.TheVariants.{Nothing, At}
+use Rattle.worker.specs.Rep.{Announced}
 use Rattle.model.specs.Rules.{Given, twelve_digits}
 use Rattle.model.specs.Totals.{row_at, goes_on}
-use Rattle.values.specs.declared.Content.{Content}
-use Rattle.values.specs.declared.Content.TheVariants.{NoReading, Of}
+use Rattle.values.specs.Meaning.{Content}
 use Rattle.worker.specs.declared.Purpose.{Purpose}
 use Rattle.worker.specs.declared.Purpose.TheVariants.{Single, Marked, Totaling}
 use Rattle.worker.specs.declared.Doing.{Doing}
@@ -41,8 +40,9 @@ use Rattle.marks.specs.declared.MarkNeed.TheVariants.{Empty, Unread}
 use Rattle.marks.specs.Marks.{read_as, read_by, refusal_in, time_in}
 use Rattle.marks.proofs.Refused.{refusal-by}
 use Rattle.state.specs.State.{nobody, worker_in, table_kept, with_workers_in, with_worker_in, with_reading_in, at_place}
-use Rattle.gate.specs.declared.Gate.{Gate}
-use Rattle.gate.specs.declared.Gate.TheVariants.{Refuse, Make, Start, Go}
+use Rattle.gate.specs.Gate.{Decided}
+use Rattle.gate.specs.declared.Gate.TheVariants.{Make, Start, Go}
+use Rattle.std.specs.Prelude.{Ok as Grants, Err as Refuse}
 use Rattle.gate.specs.Gate.{has_time}
 use Rattle.gate.proofs.Tests.{begin-gate_by}
 use Rattle.decision.specs.Decision.{setup_ok, gate_of}
@@ -88,11 +88,11 @@ ReadNumbered (Asks c) = Unit {0}
 ReadNumbered (Record.Refuses k) = Numbered k
 
 -- the number with which the gate refuses a record that reads as r, which takes no step then, and the worker that it lets step
-abbrev GateNumbered : Record.Decoded → Bool → Memory → Gate → Type 0
+abbrev GateNumbered : Record.Decoded → Bool → Memory → Decided → Type 0
 GateNumbered r up m (Refuse k) = Numbered k × (takes_step_in up m r ≡ false)
-GateNumbered r up m (Make x v n k) = Unit {0}
-GateNumbered r up m (Start w e) = Unit {0}
-GateNumbered r up m (Go w) = (r ≡ Asks (Record.Step w)) × (up ≡ true) × (ltb w m.hub.site.p ≡ true)
+GateNumbered r up m (Grants (Make x v n k)) = Unit {0}
+GateNumbered r up m (Grants (Start w e)) = Unit {0}
+GateNumbered r up m (Grants (Go w)) = (r ≡ Asks (Record.Step w)) × (up ≡ true) × (ltb w m.hub.site.p ≡ true)
 
 -- 6, 1 and 2
 read_numbered : (b : List ℕ) → ReadNumbered (decode b)
@@ -108,14 +108,14 @@ gate_numbered : (r : Record.Decoded) → ReadNumbered r → (up : Bool) (m : Mem
 unfolding gate_of takes_step_in occurrences
 gate_numbered (Record.Refuses k) n up m v long idle has list rows marks reading table = (n, refl)
 gate_numbered (Asks (SetUp z)) n up m v long idle has list rows marks reading table =
-    let N : Gate → Type 0 = GateNumbered (Asks (SetUp z)) up m in
+    let N : Decided → Type 0 = GateNumbered (Asks (SetUp z)) up m in
     cond_both N up _ _ (λ e. (omega arith, refl))
     (λ e. cond_both N (setup_ok z.P z.V' z.N z.clock long list) _ _ (λ f. tt) (λ f. (omega arith, refl)))
 gate_numbered (Asks (Record.Begin w o)) n up m v long idle has list rows marks reading table =
-    let N : Gate → Type 0 = GateNumbered (Asks (Record.Begin w o)) up m in
+    let N : Decided → Type 0 = GateNumbered (Asks (Record.Begin w o)) up m in
     cond_both N up _ _ (λ e. begin-gate_by N m.hub.site.p v w o idle has rows marks reading table (λ k f. (f, refl)) (λ f. tt)) (λ e. (omega arith, refl))
 gate_numbered (Asks (Record.Step w)) n up m v long idle has list rows marks reading table =
-    let N : Gate → Type 0 = GateNumbered (Asks (Record.Step w)) up m in
+    let N : Decided → Type 0 = GateNumbered (Asks (Record.Step w)) up m in
     cond_both N up _ _
     (λ e. cond_both N (ltb w m.hub.site.p) _ _ (λ f. (refl, e, f)) (λ f. (omega arith, rw (e, f))))
     (λ e. (omega arith, rw e))
@@ -206,8 +206,8 @@ module _ (up : Bool) (m : Memory) (r : Record.Decoded) where
     -- open (2)
     pass-ends : (t : Announced) → StillEnds (open_pass_step t m.hub.clock m.hub.free)
     unfolding next_in taken_in open_pass_step
-    pass-ends Nothing = tt
-    pass-ends (At t) = tt
+    pass-ends None = tt
+    pass-ends (Some t) = tt
 
     -- what a total answers
     signed-ends : (y : Sum) → StillEnds (outcome_of Idle x.announced m.hub.clock m.hub.free (signed_of y))
@@ -219,8 +219,8 @@ module _ (up : Bool) (m : Memory) (r : Record.Decoded) where
 
     -- what a get or a read answers
     shown-ends : (v : Content) (m' : Memory) → EndsWell (answer_to v) m'
-    shown-ends NoReading m' = tt
-    shown-ends (Of v) m' = tt
+    shown-ends None m' = tt
+    shown-ends (Some v) m' = tt
 
     -- read (2) where the version is found; 18
     found-ends : takes_step_in up m r ≡ true → (y : Purpose) (v : Content) → read_by x.doing ≡ read_as y
@@ -271,12 +271,12 @@ module _ (up : Bool) (m : Memory) (r : Record.Decoded) where
 
 module _ (up : Bool) (m : Memory) (given : Given) where
   -- by the decision
-  gate_ends : (r : Record.Decoded) (g : Gate) → GateNumbered r up m g → Ends up m r (obey_in m given g)
+  gate_ends : (r : Record.Decoded) (g : Decided) → GateNumbered r up m g → Ends up m r (obey_in m given g)
   unfolding obey_in
   gate_ends r (Refuse k) n = record { number = rw n.1 n.0; leaves = rw n.1 }
-  gate_ends r (Make p v k t) n = tt
-  gate_ends r (Start w f) n = tt
-  gate_ends r (Go w) n = step-ends up m r w n.0 n.1 n.2 (worker_in m.hub w).doing refl
+  gate_ends r (Grants (Make p v k t)) n = tt
+  gate_ends r (Grants (Start w f)) n = tt
+  gate_ends r (Grants (Go w)) n = step-ends up m r w n.0 n.1 n.2 (worker_in m.hub w).doing refl
 
   module _ (b : List ℕ) where
     ends-well : Ends up m (decode b) (done_as up m given b)

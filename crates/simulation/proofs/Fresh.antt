@@ -1,5 +1,6 @@
 -- What an accepted setup writes is the model's fresh store: each loop's result is the store's list at the front of the memory that it fills,
 -- by induction on how far the loop has come.
+use Rattle.std.specs.Prelude.{None}
 use mathlib.Core.Path.{◌≡◌, refl, sym, ap, ◌∙◌}
 use mathlib.Core.Bool.{Bool, true, false, cond}
 use mathlib.Core.List.{List, [], ◌∷◌, ◌++◌, map, reverse, reverse-cons}
@@ -22,8 +23,7 @@ use Rattle.model.proofs.Basic.{get_d_map, map_app, and_both}
 use Rattle.model.proofs.Totals.{few_rows}
 use Rattle.worker.specs.declared.Worker.{Worker}
 use Rattle.worker.specs.Rep.{times_read, worker_rep}
-use Rattle.values.specs.declared.Content.{Content}
-use Rattle.values.specs.declared.Content.TheVariants.{NoReading}
+use Rattle.values.specs.Meaning.{Content}
 use Rattle.slots.specs.declared.Slot.{Slot}
 use Rattle.slots.specs.Slots.{slot_rep, slot_of, vacant_slot, made_slot, made_to}
 use Rattle.state.specs.declared.Hub.{Hub}
@@ -91,7 +91,7 @@ same_made : (i v : ℕ) (y : Slot) → slot_rep (made_of i v (slot_of y)) ≡ ma
 same_made i v y = go (ltb i v)
   where
     go : (t : Bool) → slot_rep (cond t (record { value = none; low = 0; high = absent; older = absent; newer = absent }) (alone (slot_of y)))
-        ≡ cond t (record { value = NoReading; low = 0; high = absent; older = absent; newer = absent })
+        ≡ cond t (record { value = None; low = 0; high = absent; older = absent; newer = absent })
         (record { value = y.value; low = y.low; high = y.high; older = absent; newer = absent })
     go true = refl
     go false =

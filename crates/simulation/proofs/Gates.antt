@@ -31,8 +31,9 @@ use Rattle.state.specs.declared.Hub.{Hub}
 use Rattle.state.specs.State.{worker_in, table_kept}
 use Rattle.places.specs.About.{about_of}
 use Rattle.marks.specs.Marks.{refusal_in}
-use Rattle.gate.specs.declared.Gate.{Gate}
-use Rattle.gate.specs.declared.Gate.TheVariants.{Refuse, Make, Start, Go}
+use Rattle.gate.specs.Gate.{Decided}
+use Rattle.gate.specs.declared.Gate.TheVariants.{Make, Start, Go}
+use Rattle.std.specs.Prelude.{Ok as Grants, Err as Refuse}
 use Rattle.gate.specs.Gate.{has_time, mark_need_rep, seen_of, started_by, started, begin_gate}
 use Rattle.decision.specs.Decision.{gate_of}
 use Rattle.decision.proofs.Named.{Names}
@@ -45,7 +46,7 @@ use Rattle.simulation.proofs.Marks.{UnreadIn, refusal-same}
 
 -- the gate of a record that was read as r and has the byte u, by whether the memory is ready, the length of the row, the list that is lent, and the
 -- hub by value
-abbrev pub gate_by : Record.Decoded → ℕ → Bool → ℕ → Given → Hub → Gate
+abbrev pub gate_by : Record.Decoded → ℕ → Bool → ℕ → Given → Hub → Decided
 gate_by r u ready long given h =
     let x = worker_in h (u % 16) in
     gate_of r ready h.site.p h.site.v long (about_of x.doing).idle (has_time x.announced) given.totals (rows_kept h) h.marks (marks_read h) (table_kept h)
@@ -66,11 +67,11 @@ pub record Stepping (s : Store) (w : ℕ) (a : Applied) : Type 0 where
   pub is : a ≡ took (step_at s w (worker_at s w).doing)
 
 -- what a gate means: what the model makes of the record
-abbrev pub Means : Store → Gate → Applied → Type 0
+abbrev pub Means : Store → Decided → Applied → Type 0
 Means s (Refuse k) a = a ≡ refuse (up s) k
-Means s (Make p v n k) a = ⊥
-Means s (Start w d) a = (o : Record.Operation) × (d ≡ doing_rep (terms s.site.rows o).first) × Begun s w o a
-Means s (Go w) a = Stepping s w a
+Means s (Grants (Make p v n k)) a = ⊥
+Means s (Grants (Start w d)) a = (o : Record.Operation) × (d ≡ doing_rep (terms s.site.rows o).first) × Begun s w o a
+Means s (Grants (Go w)) a = Stepping s w a
 
 ------------------------------------------------------------------------
 -- The decision
@@ -164,7 +165,7 @@ module _ (s : Store) (S : Sound s) (k : Hub) (given : Given) where
       (λ e. (o, refl, record { inside = ltb-true w s.site.P i; idle = idle_is (worker_at s w).doing t.idle; is = refl })))))
       (λ n. refl)
     where
-      M : Gate → Applied → Type 0
+      M : Decided → Applied → Type 0
       M = Means s
 
       d : Doing
@@ -183,9 +184,9 @@ module _ (s : Store) (S : Sound s) (k : Hub) (given : Given) where
   gate_left (Record.Refuses k) u n long = refl
   gate_left (Record.Asks (Record.SetUp z)) u n long = refl
   gate_left (Record.Asks (Record.Begin w o)) u n long =
-      let by : List ℕ → List ℕ → List ℕ → Gate = λ l r t.
+      let by : List ℕ → List ℕ → List ℕ → Decided = λ l r t.
       begin_gate s.site.P (seen_of s.site.V' l t (about_of (x u).doing).idle (has_time (x u).announced) s.marks r) w o in
-      subst (λ (g : Gate). Means s g (begin (in_force given) s w o)) (λ i. by (sym kept_rows i) (sym kept_reading i) (sym kept_table i)) (begins w u n o)
+      subst (λ (g : Decided). Means s g (begin (in_force given) s w o)) (λ i. by (sym kept_rows i) (sym kept_reading i) (sym kept_table i)) (begins w u n o)
   gate_left (Record.Asks (Record.Step w)) u n long =
       both (Means s) (ltb w s.site.P) (ltb w s.site.P) _ _ _ _ refl
       (λ i. record { inside = ltb-true w s.site.P i; is = refl })

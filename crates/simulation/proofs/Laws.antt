@@ -12,7 +12,7 @@ use lib.Seq.{take_at, take-add, drop-drop, get_or_at, set-get_or}
 use borrow.Author.Tests.{lt-ltb}
 use Rattle.lists.specs.Over.{over, over_at}
 use Rattle.lists.proofs.Over.{over-push, get_d_over_in}
-use Rattle.queue.proofs.MemoryLaws.{over_at-over}
+use Rattle.lists.proofs.Parts.{over_at-over}
 use Rattle.model.proofs.Basic.{get_d_map}
 use Rattle.model.specs.Store as Model
 use Rattle.model.specs.Store.{Store, absent, slot₀, start_worker, worker_at, with_worker}

@@ -1,5 +1,6 @@
 -- What the code finds of marks in memory in which a sound store lies: the refusals 19, 20 and 21 and the time as of which a worker reads are the
 -- model's.
+use Rattle.std.specs.Prelude.{Option as Code-as-Option}
 use mathlib.Core.Path.{◌≡◌, refl, sym, ap, ◌∙◌, subst}
 use mathlib.Core.Bool.{Bool, true, false, cond, ◌||◌}
 use mathlib.Core.Logic.{⊎_elim}
@@ -17,7 +18,7 @@ use Rattle.model.specs.About.{about}
 use Rattle.model.specs.Marks.{MarkNeed, NoMark, EmptyMark, HeldMark, UnreadMark, as_of, reads, is_read, mark_refusal, number_of, need_for, time_for}
 use Rattle.model.proofs.Basic.{cond_both, eq_cases}
 use Rattle.theorem.proofs.View.{off_cases}
-use Rattle.places.specs.declared.Stance.{Stance}
+use Rattle.places.specs.declared.Stand.{Stand}
 use Rattle.worker.specs.Rep.{purpose_rep, doing_rep, announced_rep, time_of}
 use Rattle.marks.specs.Marks.{shown_as, read_as, read_from, read_by, read_in, refusal_in, time_in}
 use Rattle.gate.specs.Gate.{mark_need_rep}
@@ -48,7 +49,7 @@ place-reads s t d m a b =
     ⊎_elim
     (λ u. subst (λ (y : Model.Doing). PlaceIn s t y → eqb (read_by (doing_rep y)) (shown_as m) ≡ reads m (about y).stance) (sym u.2)
     (λ p. purpose_reads u.0.purpose m p.2 b) a)
-    (λ u. ap (λ (y : Stance). eqb (read_from y) (shown_as m)) ((same_facts d).1 ∙ ap stance_rep u.0) ∙ ne_eqb 0 (shown_as m) (λ z. omega (arith, z))
+    (λ u. ap (λ (y : Code-as-Option Stand). eqb (read_from y) (shown_as m)) ((same_facts d).1 ∙ ap stance_rep u.0) ∙ ne_eqb 0 (shown_as m) (λ z. omega (arith, z))
     ∙ sym (ap (reads m) u.0))
     (off_cases d)
 

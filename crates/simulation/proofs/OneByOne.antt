@@ -22,8 +22,9 @@ use Rattle.places.specs.About.{about_of}
 use Rattle.model.specs.Rights.{table_stands}
 use Rattle.state.specs.State.{worker_in, table_kept}
 use Rattle.simulation.proofs.Rights.{standing-stands}
-use Rattle.gate.specs.declared.Gate.{Gate}
-use Rattle.gate.specs.declared.Gate.TheVariants.{Refuse, Make}
+use Rattle.gate.specs.Gate.{Decided}
+use Rattle.gate.specs.declared.Gate.TheVariants.{Make}
+use Rattle.std.specs.Prelude.{Ok as Grants, Err as Refuse}
 use Rattle.gate.specs.Gate.{has_time}
 use Rattle.decision.specs.Decision.{setup_ok, gate_of}
 use Rattle.simulation.specs.Memory.{Memory}
@@ -52,7 +53,7 @@ answer_to m given bytes k = (state_at m given bytes (suc k)).last
 -- The flag after one record
 
 -- where the memory does not count as set up, nothing begins and no step is taken
-blank_gate : (P : Gate → Type 0) → ((k : ℕ) → P (Refuse k)) → ((p v n k : ℕ) → P (Make p v n k))
+blank_gate : (P : Decided → Type 0) → ((k : ℕ) → P (Refuse k)) → ((p v n k : ℕ) → P (Grants (Make p v n k)))
     → (r : Record.Decoded) (p v long : ℕ) (idle has : Bool) (list rows marks reading table : List ℕ)
     → P (gate_of r false p v long idle has list rows marks reading table)
 unfolding gate_of
@@ -83,18 +84,18 @@ module _ (steps : StepsSimulate) (m : Memory) (given : Given) (b : List ℕ) (Z 
     -- a refusal changes nothing
     flag-refused : (k : ℕ) → gate_in (ready m) m given b ≡ Refuse k → Flagged
     unfolding done_of done_as obey_in
-    flag-refused k g = ap (λ (x : Gate). ready (obey_in m given x).memory) g ∙ H.0 ∙ sym (λ i. H.0 i || makes (g i))
+    flag-refused k g = ap (λ (x : Decided). ready (obey_in m given x).memory) g ∙ H.0 ∙ sym (λ i. H.0 i || makes (g i))
 
     -- the table that stands is one that may be exchanged_at
     fits : table_stands row.table ≡ true
     fits = ap (λ (x : Model.Lent). table_stands x.table) H.1 ∙ standing-stands m.hub
 
     -- an accepted setup
-    flag-made : (p v n k : ℕ) → gate_in (ready m) m given b ≡ Make p v n k → Flagged
+    flag-made : (p v n k : ℕ) → gate_in (ready m) m given b ≡ Grants (Make p v n k) → Flagged
     unfolding done_of done_as obey_in
     flag-made p v n k g =
         let ok : (apply (in_force given) (blank row) b).answer ≡ Ok =
-        sym (one_answer (did (blank row) H)) ∙ ap (λ (x : Gate). answer_of (obey_in m given x).answer) g in
+        sym (one_answer (did (blank row) H)) ∙ ap (λ (x : Decided). answer_of (obey_in m given x).answer) g in
         now_ready (blank row) H (setup-left given row b fits ok) ∙ sym (λ i. H.0 i || makes (g i))
 
   flagged : (h : Model.Hub) → Holds h m → Flagged
@@ -102,7 +103,7 @@ module _ (steps : StepsSimulate) (m : Memory) (given : Given) (b : List ℕ) (Z 
       now_ready (up s) L (left_next L.store (under (in_force given) b)) ∙ sym (ap (λ (t : Bool). t || makes (gate_in (ready m) m given b)) (left_ready m L Z))
   flagged (blank row) H =
       let x : Worker = worker_in m.hub (get_or b 1 0 % 16) in
-      blank_gate (λ (g : Gate). gate_in (ready m) m given b ≡ g → Flagged) (flag-refused row H) (flag-made row H)
+      blank_gate (λ (g : Decided). gate_in (ready m) m given b ≡ g → Flagged) (flag-refused row H) (flag-made row H)
       (Record.decode b) m.hub.site.p m.hub.site.v (length m.slots) (about_of x.doing).idle (has_time x.announced) given.totals (rows_kept m.hub)
       m.hub.marks (marks_read m.hub) (table_kept m.hub)
       (ap (λ (t : Bool). gate_in t m given b) H.0)

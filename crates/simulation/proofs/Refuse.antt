@@ -6,14 +6,14 @@ use Rattle.model.specs.Store as Model
 use Rattle.model.specs.Answer.{Applied}
 use Rattle.model.specs.Apply.{refuse}
 use Rattle.values.specs.Meaning.{answer_of}
-use Rattle.gate.specs.declared.Gate.{Gate}
-use Rattle.gate.specs.declared.Gate.TheVariants.{Refuse}
+use Rattle.gate.specs.Gate.{Decided}
+use Rattle.std.specs.Prelude.{Err as Refuse}
 use Rattle.simulation.specs.Memory.{Memory, write_hub}
 use Rattle.simulation.specs.Shell.{obey_in}
 
 -- what the model makes of a record, a, on the hub h, is what the code leaves and answers that carries out the decision g on the memory m,
 -- with the list lent
-pub record Follows (given : Given) (h : Model.Hub) (m : Memory) (g : Gate) (a : Applied) : Type 0 where
+pub record Follows (given : Given) (h : Model.Hub) (m : Memory) (g : Decided) (a : Applied) : Type 0 where
   pub memory : (obey_in m given g).memory ≡ write_hub h a.hub m
   pub answer : answer_of (obey_in m given g).answer ≡ a.answer
 

@@ -1,4 +1,5 @@
 -- The scans of the test of lent memory (crate `ready`) pass where each entry that they look at is in range, and nowhere else.
+use Rattle.std.specs.Prelude.{Option, Some, None}
 use mathlib.Core.Path.{◌≡◌, refl, sym, ap, ◌∙◌, subst}
 use mathlib.Core.Bool.{Bool, true, false, cond, ◌&&◌, ◌||◌, true≢false}
 use mathlib.Core.Logic.{◌⊎◌, inl, inr, ⊎_elim}
@@ -20,8 +21,6 @@ use Rattle.slots.specs.declared.Slot.{Slot}
 use Rattle.slots.specs.Slots as Slots
 use Rattle.slots.specs.Slots.{vacant_slot, linked_to}
 use Rattle.worker.specs.declared.Pool.{Pool}
-use Rattle.places.specs.declared.Named.{Named}
-use Rattle.places.specs.declared.Named.TheVariants.{Nothing, Is}
 use Rattle.state.specs.declared.Hub.{Hub}
 use Rattle.state.specs.State.{worker_in}
 use Rattle.ranges.specs.Words.{flat}
@@ -99,12 +98,12 @@ module _ (words : List ℕ) (i n k : ℕ) where
   slots_tell e j h = ltb-true (get_or words (3 * (i + j)) 0) n (all_tell (slots_below words i n) test_slot (λ u. refl) k e j h)
 
 -- a number that a place names, if it names one
-pub named_yes : (y : Named) (n : ℕ) → ((i : ℕ) → y ≡ Is i → i < n) → named_below y n ≡ true
-named_yes Nothing n g = refl
-named_yes (Is i) n g = lt-ltb i n (g i refl)
+pub named_yes : (y : Option ℕ) (n : ℕ) → ((i : ℕ) → y ≡ Some i → i < n) → named_below y n ≡ true
+named_yes None n g = refl
+named_yes (Some i) n g = lt-ltb i n (g i refl)
 
-pub named_tells : (y : Named) (n : ℕ) → named_below y n ≡ true → (i : ℕ) → y ≡ Is i → i < n
-named_tells y n e i q = ltb-true i n (subst (λ (z : Named). named_below z n ≡ true) q e)
+pub named_tells : (y : Option ℕ) (n : ℕ) → named_below y n ≡ true → (i : ℕ) → y ≡ Some i → i < n
+named_tells y n e i q = ltb-true i n (subst (λ (z : Option ℕ). named_below z n ≡ true) q e)
 
 -- the slot of the j-th range in memory at whose front the ranges l lie
 flat-slot : (l : List Range) (j : ℕ) (z : Range) → j < length l → get_or (flat l) (3 * j) 0 ≡ (get_or l j z).slot
@@ -243,13 +242,13 @@ module _ (w : ℕ) (merged : List ℕ) (most n : ℕ) where
   pub list_yes : (k : ℕ) → k ≤ most → ((j : ℕ) → j < k → get_or merged (3 * (256 * w + j)) 0 < n) → list_fits k w merged most n ≡ true
   list_yes k h g = rw (le-ltb most k h) (slots_yes merged (256 * w) n k g)
 
-  pub ranges_yes : (y : Named) → ((k : ℕ) → y ≡ Is k → k ≤ most)
-      → ((k : ℕ) → y ≡ Is k → (j : ℕ) → j < k → get_or merged (3 * (256 * w + j)) 0 < n) → ranges_fit y w merged most n ≡ true
-  ranges_yes Nothing h g = refl
-  ranges_yes (Is k) h g = list_yes k (h k refl) (g k refl)
+  pub ranges_yes : (y : Option ℕ) → ((k : ℕ) → y ≡ Some k → k ≤ most)
+      → ((k : ℕ) → y ≡ Some k → (j : ℕ) → j < k → get_or merged (3 * (256 * w + j)) 0 < n) → ranges_fit y w merged most n ≡ true
+  ranges_yes None h g = refl
+  ranges_yes (Some k) h g = list_yes k (h k refl) (g k refl)
 
-  pub ranges_tell : (y : Named) → ranges_fit y w merged most n ≡ true → (k : ℕ) → y ≡ Is k
+  pub ranges_tell : (y : Option ℕ) → ranges_fit y w merged most n ≡ true → (k : ℕ) → y ≡ Some k
       → (k ≤ most) × ((j : ℕ) → j < k → get_or merged (3 * (256 * w + j)) 0 < n)
   ranges_tell y e k q =
-      let u = unless (ltb most k) (slots_below merged (256 * w) n k) (subst (λ (z : Named). ranges_fit z w merged most n ≡ true) q e) in
+      let u = unless (ltb most k) (slots_below merged (256 * w) n k) (subst (λ (z : Option ℕ). ranges_fit z w merged most n ≡ true) q e) in
       (ltb-false most k u.0, slots_tell merged (256 * w) n k u.1)

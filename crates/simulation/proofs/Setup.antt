@@ -20,7 +20,8 @@ use Rattle.model.specs.Apply.{in_ranges, fresh, set_up, obey, apply_decoded}
 use Rattle.model.proofs.Basic.{and_both}
 use Rattle.theorem.proofs.Setup.{InRanges, in_ranges_lem}
 use Rattle.slots.specs.Slots.{slot_of}
-use Rattle.gate.specs.declared.Gate.TheVariants.{Refuse, Make}
+use Rattle.gate.specs.declared.Gate.TheVariants.{Make}
+use Rattle.std.specs.Prelude.{Ok as Grants, Err as Refuse}
 use Rattle.decision.specs.Decision.{sizes_ok, gate_of}
 use Rattle.simulation.specs.Memory.{Memory, lent_in}
 use Rattle.simulation.specs.Left.{Sized}
@@ -42,7 +43,7 @@ module _ (m : Memory) (Z : Sized m) (given : Given) where
 
   -- an accepted setup
   made : (z : Sizes) → InRanges z → z.N ≤ length m.slots → list_fits z.V' given.totals ≡ true
-      → Follows given (blank lent) m (Make z.P z.V' z.N z.clock)
+      → Follows given (blank lent) m (Grants (Make z.P z.V' z.N z.clock))
       (record { hub = up (fresh (batch_of z.P) z (rows_of given.totals) lent.table row); answer = Answers.Ok })
   unfolding obey_in set_up_in fresh
   made z I long lf =
@@ -56,7 +57,7 @@ module _ (m : Memory) (Z : Sized m) (given : Given) where
       }
 
   set-up : (z : Sizes)
-      → Follows given (blank lent) m (cond (sizes_ok z.P z.V' z.N z.clock (length m.slots) && list_fits z.V' given.totals) (Make z.P z.V' z.N z.clock) (Refuse 5))
+      → Follows given (blank lent) m (cond (sizes_ok z.P z.V' z.N z.clock (length m.slots) && list_fits z.V' given.totals) (Grants (Make z.P z.V' z.N z.clock)) (Refuse 5))
       (set_up (in_force given) (blank lent) z)
   unfolding set_up
   set-up z =

@@ -9,3 +9,4 @@ pub mod Loop
 pub mod Buffer
 pub mod Tables
 pub mod Demands
+pub mod Lent

@@ -5,19 +5,20 @@ use Rattle.model.specs.Rules.{Given}
 use Rattle.values.specs.declared.Answer.{Answer}
 use Rattle.values.specs.declared.Answer.TheVariants.{Ok}
 use Rattle.answers.specs.Numbers.{kind_of, number_of}
-use Rattle.gate.specs.declared.Gate.{Gate}
-use Rattle.gate.specs.declared.Gate.TheVariants.{Refuse, Make, Start, Go}
+use Rattle.gate.specs.Gate.{Decided}
+use Rattle.gate.specs.declared.Gate.TheVariants.{Make, Start, Go}
+use Rattle.std.specs.Prelude.{Ok as Grants, Err as Refuse}
 use Rattle.simulation.specs.Memory.{Memory}
 use Rattle.simulation.specs.Left.{ready}
 use Rattle.simulation.specs.Shell.{gate_in, done_as}
 use Rattle.simulation.specs.Records.{record_at, count_of}
 
 -- a setup was accepted
-abbrev pub makes : Gate → Bool
+abbrev pub makes : Decided → Bool
 makes (Refuse k) = false
-makes (Make p v n k) = true
-makes (Start w d) = false
-makes (Go w) = false
+makes (Grants (Make p v n k)) = true
+makes (Grants (Start w d)) = false
+makes (Grants (Go w)) = false
 
 -- whether the memory counts as set up, the memory, the answers so far as two rows of numbers, the kind of answer k and its number, and the
 -- last of them, `Ok` before the first

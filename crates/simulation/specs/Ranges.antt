@@ -1,6 +1,6 @@
 -- When lent memory counts as set up (H8.3): every slot, register, place and count in it is in its range. The test that the code makes (`ready`)
 -- is passed exactly there.
-use Rattle.std.specs.Prelude.{◌≡◌, true, ◌⊎◌, ◌↔◌, ℕ, ◌+◌, ◌*◌, ◌-◌, ◌≤◌, ◌<◌, length, get_or}
+use Rattle.std.specs.Prelude.{Some, ◌≡◌, true, ◌⊎◌, ◌↔◌, ℕ, ◌+◌, ◌*◌, ◌-◌, ◌≤◌, ◌<◌, length, get_or}
 use Rattle.model.specs.Store.{absent, mark_count}
 use Rattle.model.specs.Totals.{register_of, row_at}
 use Rattle.model.specs.Rules.{twelve_digits}
@@ -8,7 +8,6 @@ use Rattle.model.specs.Rights.{worker_of, rights_of, first_register, last_regist
 use Rattle.worker.specs.declared.Purpose.{Purpose}
 use Rattle.worker.specs.declared.Purpose.TheVariants.{Single, Marked, Totaling}
 use Rattle.places.specs.declared.Facts.{Facts}
-use Rattle.places.specs.declared.Named.TheVariants.{Is}
 use Rattle.worker.specs.declared.Worker.{Worker}
 use Rattle.places.specs.About.{about_of}
 use Rattle.slots.specs.Slots.{vacant_slot}
@@ -44,19 +43,19 @@ PurposeInRange h (Totaling g i k plus minus) = (i < h.site.listed) × (plus ≤ 
 -- what worker w's place names: a register, a slot, a list in hand of so many ranges, a count of times read, a total, a mark
 pub record PlaceInRange (m : Memory) (w : ℕ) (y : Facts) : Type 0 where
   -- its register is one of the V (H8.18)
-  pub register : (r : ℕ) → y.register ≡ Is r → r < m.hub.site.v
+  pub register : (r : ℕ) → y.register ≡ Some r → r < m.hub.site.v
   -- its slot is one of the N (H8.17)
-  pub slot : (c : ℕ) → y.slot ≡ Is c → c < m.hub.site.n
+  pub slot : (c : ℕ) → y.slot ≡ Some c → c < m.hub.site.n
   -- it has read so many times (H8.18)
   pub read : TimesRead m.hub y.read
   -- its list in hand has at most 4B ranges (H8.16)
-  pub list : (k : ℕ) → y.ranges ≡ Is k → FewRanges m.hub k (4 * m.hub.site.batch)
+  pub list : (k : ℕ) → y.ranges ≡ Some k → FewRanges m.hub k (4 * m.hub.site.batch)
   -- their slots are below N (H8.17); worker w's list starts at range 256 w, and a range has three words, the slot first
-  pub list_slots : (k : ℕ) → y.ranges ≡ Is k → (j : ℕ) → j < k → get_or m.merged (3 * (256 * w + j)) 0 < m.hub.site.n
+  pub list_slots : (k : ℕ) → y.ranges ≡ Some k → (j : ℕ) → j < k → get_or m.merged (3 * (256 * w + j)) 0 < m.hub.site.n
   -- and what it reads for (H8.24)
   pub purpose : PurposeInRange m.hub y.purpose
   -- its mark is one of the twelve (H8.25)
-  pub mark : (i : ℕ) → y.mark ≡ Is i → i < mark_count
+  pub mark : (i : ℕ) → y.mark ≡ Some i → i < mark_count
 
 -- worker w's record
 pub record WorkerInRange (m : Memory) (w : ℕ) (x : Worker) : Type 0 where

@@ -19,8 +19,9 @@ use Rattle.state.specs.declared.Hub.{Hub}
 use Rattle.state.specs.State.{site_made, fresh_hub, worker_in, at_place, with_workers_in, with_worker_in, with_clock_in, with_free_in, with_window_in, with_times_in}
 use Rattle.state.specs.State.{with_marks_in, with_reading_in, table_kept}
 use Rattle.arrays.specs.Arrays.{short, fill_to}
-use Rattle.gate.specs.declared.Gate.{Gate}
-use Rattle.gate.specs.declared.Gate.TheVariants.{Refuse, Make, Start, Go}
+use Rattle.gate.specs.Gate.{Decided}
+use Rattle.gate.specs.declared.Gate.TheVariants.{Make, Start, Go}
+use Rattle.std.specs.Prelude.{Ok as Grants, Err as Refuse}
 use Rattle.gate.specs.Gate.{has_time}
 use Rattle.decision.specs.Decision.{gate_of}
 use Rattle.announcing.specs.declared.Outcome.{Outcome}
@@ -209,14 +210,14 @@ set_up_in m given p v n k =
     }
 
 -- by the decision on it
-unfoldable pub obey_in : Memory → Given → Gate → Result
+unfoldable pub obey_in : Memory → Given → Decided → Result
 obey_in m given (Refuse k) = answered m (No k)
-obey_in m given (Make p v n k) = answered (set_up_in m given p v n k) Ok
-obey_in m given (Start w d) = answered (with_record m w (at_place (worker_in m.hub w) d)) Ok
-obey_in m given (Go w) = go_in m w (worker_in m.hub w) (worker_in m.hub w).doing
+obey_in m given (Grants (Make p v n k)) = answered (set_up_in m given p v n k) Ok
+obey_in m given (Grants (Start w d)) = answered (with_record m w (at_place (worker_in m.hub w) d)) Ok
+obey_in m given (Grants (Go w)) = go_in m w (worker_in m.hub w) (worker_in m.hub w).doing
 
 -- the decision, where `up` says that the memory counts as set up; the worker's record is looked at by byte 1, modulo the sixteen that there are
-abbrev pub gate_in : Bool → Memory → Given → List ℕ → Gate
+abbrev pub gate_in : Bool → Memory → Given → List ℕ → Decided
 gate_in up m given b =
     let x = worker_in m.hub (get_or b 1 0 % 16) in
     gate_of (decode b) up m.hub.site.p m.hub.site.v (length m.slots) (about_of x.doing).idle (has_time x.announced) given.totals (rows_kept m.hub)

@@ -1,8 +1,7 @@
 -- The row of version slots: what is loaded past its end, the test of its neighbours, and what a setup leaves in it.
-use Rattle.std.specs.Prelude.{Bool, true, cond, ◌&&◌, ◌||◌, List, ℕ, zero, suc, ltb, eqb, get_or, set}
+use Rattle.std.specs.Prelude.{None, Bool, true, cond, ◌&&◌, ◌||◌, List, ℕ, zero, suc, ltb, eqb, get_or, set}
 use Rattle.model.specs.Store.{absent}
 use Rattle.model.specs.Store as Model
-use Rattle.values.specs.declared.Content.TheVariants.{NoReading}
 use Rattle.values.specs.Meaning.{content_of, content_rep}
 use Rattle.slots.specs.declared.Slot.{Slot}
 
@@ -15,7 +14,7 @@ slot_of s = record { value = content_of s.value; low = s.low; high = s.high; old
 
 -- what is loaded past the end of the row
 abbrev pub vacant_slot : Slot
-vacant_slot = record { value = NoReading; low = 0; high = 0; older = 0; newer = 0 }
+vacant_slot = record { value = None; low = 0; high = 0; older = 0; newer = 0 }
 
 -- a neighbour is a slot below n or absent
 abbrev pub near : ℕ → ℕ → Bool
@@ -32,7 +31,7 @@ linked_to l n (suc k) = linked_and (linked_to l n k) (get_or l k vacant_slot) n
 -- what a setup of v registers makes of slot i: the one version of register i, or a free slot, which has no neighbours
 abbrev pub made_slot : ℕ → ℕ → Slot → Slot
 made_slot i v s =
-    cond (ltb i v) (record { value = NoReading; low = 0; high = absent; older = absent; newer = absent })
+    cond (ltb i v) (record { value = None; low = 0; high = absent; older = absent; newer = absent })
     (record { value = s.value; low = s.low; high = s.high; older = absent; newer = absent })
 
 -- the first n slots made

@@ -21,7 +21,7 @@ pub fn vacant() -> Slot
     ensures { result ≡ vacant_slot }
 {
     Slot {
-        value: Content::NoReading,
+        value: None,
         low: 0,
         high: 0,
         older: 0,

@@ -11,29 +11,23 @@ ghost use Rattle.flush.specs.Flush.{part_of, with_part, times_of};
 ghost use Rattle.splitting.specs.Splitting.{requeued, joined_after, may_cut, split_left, split_queue, split_merged, split_needed};
 ghost use Rattle.splitting.specs.Splitting.{split_local, split_joined};
 
+use ranges::Range;
 use values::Window;
 use worker::Pool;
-
-fn wide(x: u16) -> u32
-    ensures { result ≡ x }
-{
-    x as u32
-}
 
 // The ranges of a local pool as words, the first len.
 fn pool_words(q: Pool, out: &mut [u32])
     requires { (q.len ≤ 64) × (length out.old ≡ 192) }
     ensures { out.new ≡ over (flat (ranges_in q)) out.old }
 {
-    let n = q.len;
-    let slots = q.slots;
-    let lows = q.lows;
-    let highs = q.highs;
-    for i in 0..n {
-        let at = 3 * i;
-        out[at] = wide(slots[i]);
-        out[at + 1] = lows[i];
-        out[at + 2] = highs[i];
+    // by index, since a pool keeps its slots, lows and highs in three arrays, as its definition has them
+    for i in 0..q.len {
+        let range = Range {
+            slot: u32::from(q.slots[i]),
+            low: q.lows[i],
+            high: q.highs[i],
+        };
+        ranges::put_range(out, i, range);
     }
 }
 
@@ -60,10 +54,8 @@ fn requeue(
     pool_words(q, local);
     if 2 * size < stay {
         let h = (stay + 1) / 2;
-        let at = 3 * h;
-        let all = &needed[..];
-        let first = queue::push(queue, lens, window, all, h);
-        let second = queue::push(queue, lens, first, &all[at..], stay - h);
+        let first = queue::push(queue, lens, window, needed, h);
+        let second = queue::push(queue, lens, first, &needed[3 * h..], stay - h);
         return queue::push(queue, lens, second, local, n);
     }
     if size < stay {
@@ -93,18 +85,21 @@ fn split_part(
     ensures needed_after { needed.new ≡ over (flat (needed_of (take read (times_of times.now w)) (ranges_at (part_of merged.old w) 0 m))) needed.old }
 {
     let at = 768 * w;
-    let e = at + 768;
-    let all = &times[..];
     let from = 28 * w;
-    let to = from + 28;
-    range_split::split(&mut merged[at..e], m, &all[from..to], read, needed)
+    range_split::split(
+        &mut merged[at..at + 768],
+        m,
+        &times[from..from + 28],
+        read,
+        needed,
+    )
 }
 
 // Whether the counts allow a split.
 fn may_split(w: usize, m: usize, read: usize, len: usize) -> bool
     ensures { result ≡ may_cut w m read len }
 {
-    ((w < 16) & (m <= 256)) & ((read <= 28) & (len <= 64))
+    w < 16 && m <= 256 && read <= 28 && len <= 64
 }
 
 // How many needless ranges are left to free, and the queue's window.

@@ -4,7 +4,7 @@
 ghost use Rattle.std.specs.Prelude.{◌≡◌};
 ghost use Rattle.standing.specs.Standing.{off_doing, stands_on};
 
-use places::Stance;
+use places::Stand;
 use worker::Doing;
 
 // Whether a read stands on slot c.
@@ -14,8 +14,8 @@ pub fn stands_on(d: Doing, c: u16) -> bool
     let y = places::about(d);
     let on = y.stance;
     match on {
-        Stance::Nowhere => false,
-        Stance::StandsOn { goal: _, slot } => slot == c,
+        None => false,
+        Some(Stand { goal: _, slot }) => slot == c,
     }
 }
 
@@ -26,8 +26,8 @@ pub fn off(d: Doing, c: u16, o: u16) -> Doing
     let y = places::about(d);
     let on = y.stance;
     match on {
-        Stance::Nowhere => d,
-        Stance::StandsOn { goal, slot } => {
+        None => d,
+        Some(Stand { goal, slot }) => {
             if slot == c {
                 return Doing::ReadStand { goal, slot: o };
             }

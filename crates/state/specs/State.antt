@@ -1,5 +1,5 @@
 -- The hub by value: what setup makes of it, a worker's record taken and replaced.
-use Rattle.std.specs.Prelude.{Bool, cond, ◌&&◌, List, [], ℕ, ◌-◌, ◌/◌, leb, length, get_or, set, take, replicate}
+use Rattle.std.specs.Prelude.{None, Bool, cond, ◌&&◌, List, [], ℕ, ◌-◌, ◌/◌, leb, length, get_or, set, take, replicate}
 use Rattle.lists.specs.Over.{over}
 use Rattle.model.specs.Batch.{batch_of}
 use Rattle.model.specs.Record.{rows_of}
@@ -10,7 +10,6 @@ use Rattle.worker.specs.Rep.{worker_rep}
 use Rattle.worker.specs.declared.Worker.{Worker}
 use Rattle.worker.specs.declared.Doing.{Doing}
 use Rattle.worker.specs.declared.Doing.TheVariants.{Idle}
-use Rattle.worker.specs.declared.Announced.TheVariants.{Nothing}
 use Rattle.state.specs.declared.Site.{Site}
 use Rattle.state.specs.declared.Hub.{Hub}
 
@@ -88,7 +87,7 @@ site_made h list p v n =
 
 -- what stands where a list of workers has no entry
 abbrev pub nobody : Worker
-nobody = record { doing = Idle; announced = Nothing; pool = record { slots = []; lows = []; highs = []; len = 0 } }
+nobody = record { doing = Idle; announced = None; pool = record { slots = []; lows = []; highs = []; len = 0 } }
 
 -- worker w's record
 abbrev pub worker_in : Hub → ℕ → Worker

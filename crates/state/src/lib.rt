@@ -1,8 +1,9 @@
-// The hub by value: what its setup fixed, its clock and counts, and up to sixteen workers side by side, each with its own record.
+// The hub by value: what its setup fixed, its clock and counts, and up to sixteen workers side by side, each with its own record; and what is lent beside it.
 #![tactic(auto)]
 
 ghost use Rattle.std.specs.Prelude.{◌≡◌};
 ghost use Rattle.state.specs.State.{fresh_hub, tabled_hub, empty_hub};
+ghost use Rattle.state.specs.Lent.{blank_lent};
 
 use values::Window;
 use worker::Worker;
@@ -22,6 +23,36 @@ pub struct Site {
     // H15: how many rows the table of rights has, and the rows; those beyond the count are nobody's.
     pub granted: usize,
     pub rights: [u64; 64],
+}
+
+// What is lent beside the hub and the row of slots. The hub says how much of each array is in use.
+#[derive(Clone, Copy)]
+pub struct Lent {
+    // For each register the slot of its newest version.
+    pub newest: [u16; 256],
+    // The free slots, the one that is taken first last.
+    pub free: [u16; 2048],
+    // The ranges of the queued pools, three words each, one pool after the other, from where the hub's window begins.
+    pub queue: [u32; 12288],
+    // How many ranges each queued pool has, from where the window begins.
+    pub lens: [u32; 4096],
+    // For each worker 256 ranges for the list that its flush has in hand.
+    pub merged: [u32; 12288],
+}
+
+impl Lent {
+    // All zeros: a hub that is not set up looks at none of it.
+    pub fn blank() -> Lent
+        ensures { result ≡ blank_lent }
+    {
+        Lent {
+            newest: [0u16; 256],
+            free: [0u16; 2048],
+            queue: [0u32; 12288],
+            lens: [0u32; 4096],
+            merged: [0u32; 12288],
+        }
+    }
 }
 
 #[derive(Clone, Copy)]

@@ -13,7 +13,7 @@ use Rattle.values.specs.declared.Answer.TheVariants.{Going, No}
 use Rattle.slots.specs.declared.Slot.{Slot}
 use Rattle.arrays.specs.Arrays.{short}
 use Rattle.versions.specs.Versions.{slot_at_in, stamped_in, linked_in}
-use Rattle.worker.specs.declared.Announced.{Announced}
+use Rattle.worker.specs.Rep.{Announced}
 use Rattle.worker.specs.declared.Goal.{Goal}
 use Rattle.worker.specs.declared.Doing.TheVariants.{Idle, PutStamp, PutHandIn, ReadStand}
 use Rattle.marks.specs.declared.MarkNeed.{MarkNeed}

@@ -8,11 +8,11 @@ use lib.Dec.{leb}
 use Rattle.model.specs.Rules.{twelve_digits}
 use Rattle.model.specs.Totals.{row_at, goes_on}
 use Rattle.model.specs.Store.{count_of}
-use Rattle.values.specs.declared.Content.{Content}
+use Rattle.values.specs.Meaning.{Content}
 use Rattle.values.specs.Meaning.{content_of}
 use Rattle.values.specs.declared.Answer.{Answer}
 use Rattle.values.specs.declared.Answer.TheVariants.{Going, No}
-use Rattle.worker.specs.declared.Announced.{Announced}
+use Rattle.worker.specs.Rep.{Announced}
 use Rattle.worker.specs.declared.Sum.{Sum}
 use Rattle.worker.specs.declared.Goal.{Goal}
 use Rattle.worker.specs.declared.Doing.TheVariants.{Idle, ReadEnter}

@@ -7,13 +7,13 @@ use Rattle.model.specs.Store.{absent, count_of}
 use Rattle.model.specs.Rules.{twelve_digits}
 use Rattle.model.specs.Totals.{row_at, goes_on}
 use Rattle.values.specs.declared.Reading.{Reading}
-use Rattle.values.specs.declared.Content.{Content}
+use Rattle.values.specs.Meaning.{Content}
 use Rattle.values.specs.declared.Answer.TheVariants.{Going, Done, No}
 use Rattle.values.specs.Meaning.{content_of}
 use Rattle.slots.specs.declared.Slot.{Slot}
 use Rattle.arrays.specs.Arrays.{short}
 use Rattle.versions.specs.Versions.{slot_at_in, stamped_in, linked_in}
-use Rattle.worker.specs.declared.Announced.{Announced}
+use Rattle.worker.specs.Rep.{Announced}
 use Rattle.worker.specs.declared.Doing.{Doing}
 use Rattle.worker.specs.declared.Doing.TheVariants.{Idle, PutPublish, PutStamp, PutHandIn, FlushTake, FlushRead, FlushFree, OnTime}
 use Rattle.worker.specs.declared.Doing.TheVariants.{ReadEnter, ReadStand, GetShow}

@@ -1,5 +1,5 @@
 -- A table that is given: what is left and answered where the memory counts as set up, and where it does not, by what is taken of the table then.
-use mathlib.Core.Path.{◌≡◌, refl, sym, ap, ◌∙◌}
+use mathlib.Core.Path.{◌≡◌, refl, sym, ap, subst, ◌∙◌}
 use mathlib.Core.Bool.{Bool, true, false, cond}
 use mathlib.Core.List.{List}
 use Prim.Native.Nat.{ℕ}
@@ -8,11 +8,13 @@ use Rattle.model.specs.Rights.{table_fits}
 use Rattle.values.specs.declared.Answer.{Answer}
 use Rattle.values.specs.declared.Answer.TheVariants.{Ok, No}
 use Rattle.state.specs.declared.Hub.{Hub}
+use Rattle.state.specs.declared.Lent.{Lent}
 use Rattle.slots.specs.Slots.{linked_to}
 use Rattle.versions.specs.Versions.{slot_in, row_of}
 use Rattle.ready.specs.Ready.{ready_of}
 use Rattle.called.specs.declared.Called.{Called}
-use Rattle.simulation.specs.Memory.{Memory, memory, with_hub, Result, answered}
+use Rattle.simulation.specs.Memory.{Memory, with_hub, Result, answered}
+use Rattle.simulation.specs.Lent.{lent_memory}
 use Rattle.simulation.specs.Left.{ready}
 use Rattle.simulation.specs.Tables.{with_table, table_given, Gives}
 use Rattle.simulation.proofs.Laid.{cond_yes, cond_no}
@@ -22,12 +24,12 @@ use Rattle.tables.specs.Tables.{GivesTable}
 use Rattle.tables.specs.Taken.{RightsTaken}
 
 -- what the test says of the memory
-pub tested : (h : Hub) (row : List (List ℕ)) (newest free queue lens merged : List ℕ) (up linked : Bool)
-    → linked ≡ linked_to (row_of row) h.site.n h.site.n → up ≡ ready_of h newest free queue lens merged linked (length row)
-    → up ≡ ready (memory h (row_of row) newest free queue lens merged)
+pub tested : (h : Hub) (row : List (List ℕ)) (l : Lent) (up linked : Bool)
+    → linked ≡ linked_to (row_of row) h.site.n h.site.n → up ≡ ready_of h l.newest l.free l.queue l.lens l.merged linked (length row)
+    → up ≡ ready (lent_memory h (row_of row) l)
 unfolding ready
-tested h row newest free queue lens merged up linked is e =
-    e ∙ (λ i. ready_of h newest free queue lens merged (is i) (sym (length-map row slot_in) i))
+tested h row l up linked is e =
+    e ∙ (λ i. ready_of h l.newest l.free l.queue l.lens l.merged (is i) (sym (length-map row slot_in) i))
 
 module _ (m : Memory) (bytes : List ℕ) where
   -- what is left and answered where the memory does not count as set up, by whether the table is one
@@ -46,9 +48,12 @@ module _ (m : Memory) (bytes : List ℕ) where
   answered-by true = refl
   answered-by false = refl
 
-  pub late : (up : Bool) → up ≡ ready m → up ≡ true → Gives m bytes (No 9) m
+  -- k is the number of that refusal
+  pub late : (up : Bool) (k : ℕ) → up ≡ ready m → up ≡ true → k ≡ 9 → Gives m bytes (No k) m
   unfolding table_given
-  late up e t = gives (answered m (No 9)) (sym (cond_yes (ready m) (answered m (No 9)) (unless-up (table_fits bytes)) (sym e ∙ t)))
+  late up k e t is =
+      subst (λ (i : ℕ). Gives m bytes (No i) m) (sym is)
+      (gives (answered m (No 9)) (sym (cond_yes (ready m) (answered m (No 9)) (unless-up (table_fits bytes)) (sym e ∙ t))))
 
   pub taken : (up : Bool) (r : Called) → up ≡ ready m → up ≡ false → RightsTaken m.hub bytes r → Gives m bytes r.answer (with_hub m r.hub)
   unfolding table_given

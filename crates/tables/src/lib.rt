@@ -2,13 +2,13 @@
 #![tactic(auto)]
 
 ghost use Rattle.versions.specs.Versions.{row_of};
-ghost use Rattle.simulation.specs.Memory.{memory};
+ghost use Rattle.simulation.specs.Lent.{lent_memory};
 ghost use Rattle.tables.specs.Tables.{TableGiven};
 ghost use Rattle.tables.specs.Taken.{RightsTaken};
 
 use called::Called;
-use state::Hub;
-use values::Answer;
+use state::{Hub, Lent};
+use values::{Answer, Refusal};
 
 // Which table is given.
 #[derive(Clone, Copy)]
@@ -33,7 +33,7 @@ fn give_rights(hub: Hub, bytes: &[u8]) -> Called
     }
     Called {
         hub,
-        answer: Answer::No(24),
+        answer: Answer::No(Refusal::TableNotAccepted.number()),
         count: 0,
     }
 }
@@ -45,24 +45,18 @@ pub fn give<'a>(
     hub: Hub,
     table: Table,
     bytes: &'a [u8],
-    newest: &'a [u16; 256],
-    free: &'a [u16; 2048],
-    queue: &'a [u32; 12288],
-    lens: &'a [u32; 4096],
-    merged: &'a [u32; 12288],
+    lent: &'a Lent,
 ) -> Called
     ensures { TableGiven table
-        (memory hub (row_of row.now)
-        newest.now free.now queue.now lens.now merged.now)
+        (lent_memory hub (row_of row.now) lent.now)
         bytes.now result
-        (memory result.hub (row_of row.now)
-        newest.now free.now queue.now lens.now merged.now) }
+        (lent_memory result.hub (row_of row.now) lent.now) }
 {
     let linked = all_versions::all_linked(row, hub.site.n);
-    if ready::ready(hub, newest, free, queue, lens, merged, linked, row.len()) {
+    if ready::ready(hub, lent, linked, row.len()) {
         return Called {
             hub,
-            answer: Answer::No(9),
+            answer: Answer::No(Refusal::AlreadySetUp.number()),
             count: 0,
         };
     }

@@ -37,16 +37,15 @@ pub fn list_ok(list: &[u8], v: u16) -> bool
     }
     let mut group: u16 = 0;
     let mut last: u16 = 0;
-    let rows = list.len() / 4;
-    for i in 0..rows {
+    // By index: `le` knows how the bytes of a number lie, from an index on.
+    for i in 0..list.len() / 4 {
         let row = le::four(list, 4 * i);
         let stand = rows_before(group, last, row);
-        if may_follow(v, group, stand, row) {
-            group = total_row::group_of(row);
-            last = stand + 1;
-        } else {
+        if !may_follow(v, group, stand, row) {
             return false;
         }
+        group = total_row::group_of(row);
+        last = stand + 1;
     }
     true
 }
@@ -55,9 +54,8 @@ pub fn list_ok(list: &[u8], v: u16) -> bool
 pub fn fill_rows(rows: &mut [u32; 1024], list: &[u8])
     ensures { rows.new ≡ over (take 1024 (rows_of list.now)) rows.old }
 {
-    let to: &mut [u32] = rows;
-    let room = total_row::counted(to, list.len() / 4);
-    for i in 0..room {
-        to[i] = le::four(list, 4 * i);
+    // By index: row i is made of the bytes from 4 i on.
+    for i in 0..rows.len().min(list.len() / 4) {
+        rows[i] = le::four(list, 4 * i);
     }
 }

@@ -3,7 +3,7 @@ use Rattle.std.specs.Prelude.{cond, ℕ, ◌+◌, ◌*◌, max, leb, eqb}
 use Rattle.model.specs.Rules.{twelve_digits}
 use Rattle.model.specs.Totals.{sign_of, sum₀}
 use Rattle.model.specs.Store.{count_of, status_of}
-use Rattle.values.specs.declared.Content.{Content}
+use Rattle.values.specs.Meaning.{Content}
 use Rattle.values.specs.Meaning.{content_of}
 use Rattle.worker.specs.declared.Sum.{Sum}
 use Rattle.worker.specs.Rep.{sum_rep}

@@ -26,8 +26,8 @@ pub fn count_of(x: Content) -> u64
     ensures { result ≡ count_of (content_of x) }
 {
     match x {
-        Content::NoReading => 0,
-        Content::Of(reading) => reading.count,
+        None => 0,
+        Some(reading) => reading.count,
     }
 }
 
@@ -35,18 +35,9 @@ fn status_of(x: Content) -> u8
     ensures { result ≡ status_of (content_of x) }
 {
     match x {
-        Content::NoReading => 0,
-        Content::Of(reading) => reading.status,
+        None => 0,
+        Some(reading) => reading.status,
     }
-}
-
-fn larger(a: u8, b: u8) -> u8
-    ensures { result ≡ max a b }
-{
-    if a < b {
-        return b;
-    }
-    a
 }
 
 // Whether the row's register is added; else it is subtracted.
@@ -56,24 +47,12 @@ fn is_plus(row: u32) -> bool
     row / 256 % 256 == 0
 }
 
-// The first number, or else the second.
-fn either(first: bool, x: u64, y: u64) -> u64
-    ensures { result ≡ cond first x y }
-{
-    if first {
-        return x;
-    }
-    y
-}
-
 // A sum with one value more. No value of more than twelve digits is added, and nothing to a sum of more than 31 of them.
 fn added(sum: u64, x: u64) -> u64
     ensures { result ≡ added_to sum x }
 {
-    if sum <= 30999999999969 {
-        if x <= 999999999999 {
-            return sum + x;
-        }
+    if sum <= 30999999999969 && x <= 999999999999 {
+        return sum + x;
     }
     sum
 }
@@ -82,14 +61,11 @@ fn added(sum: u64, x: u64) -> u64
 pub fn sum_with(sum: Sum, row: u32, x: Content) -> Sum
     ensures { result ≡ sum_with sum row x }
 {
-    let adds = is_plus(row);
     let count = count_of(x);
-    let plus = added(sum.plus, either(adds, count, 0));
-    let minus = added(sum.minus, either(adds, 0, count));
-    let status = larger(sum.status, status_of(x));
+    let (more, less) = if is_plus(row) { (count, 0) } else { (0, count) };
     Sum {
-        plus,
-        minus,
-        status,
+        plus: added(sum.plus, more),
+        minus: added(sum.minus, less),
+        status: sum.status.max(status_of(x)),
     }
 }

@@ -2,29 +2,52 @@
 // numbers is changed here; the worker's place, its announced time and its pool are the loop's.
 #![tactic(auto)]
 
-ghost use Rattle.std.specs.Prelude.{◌≡◌, ◌+◌, ◌<◌, ◌%◌, length, get_or, set};
+ghost use Rattle.std.specs.Prelude.{◌≡◌, ◌+◌, ◌<◌, ◌≤◌, ◌%◌, length, set, take};
 ghost use Rattle.values.specs.declared.Answer.TheVariants.{Going, Done};
 ghost use Rattle.arrays.specs.Arrays.{short};
 ghost use Rattle.queue.specs.State.{pools_in, taken, rest};
 ghost use Rattle.worker.specs.declared.Doing.TheVariants.{Idle, FlushRead};
-ghost use Rattle.marks.specs.Marks.{read_next};
 ghost use Rattle.flush.specs.Flush.{handed_on};
 ghost use Rattle.freeing.specs.Freeing.{freed_step, freed_row, freed_free};
 ghost use Rattle.turns.specs.declared.Arm.TheVariants.{Sets};
 ghost use Rattle.versions.specs.Versions.{row_of};
-ghost use Rattle.counts.specs.Counts.{clock_as, free_in, window_in, counts_as};
-ghost use Rattle.turns.specs.Parts.{parts};
-ghost use Rattle.turns.specs.Turns.{left_to, taken_turn, hand_turn, read_turn, split_turn, free_turn, made_turn, took_merged, marks_read, go_turn, turn_of};
+ghost use Rattle.turns.specs.Parts.{parts, with_free, with_window, with_count, with_times, with_marks};
+ghost use Rattle.turns.specs.Turns.{left_to, taken_turn, hand_turn, read_turn, split_turn, free_turn, made_turn, ran_on, took_merged, marks_read, go_turn, turn_of};
 
 use announcing::Outcome;
 use answers::Said;
-use gate::Gate;
+use gate::{Gate, Known};
+use rights::Tables;
+use state::Lent;
 use step::Next;
-use values::Answer;
-use worker::{Announced, Doing};
+use values::{Answer, Window};
+use worker::{Announced, Doing, Worker};
+
+// What changes of the hub by value while records are applied, but for the workers: a turn changes it where it lies.
+#[derive(Clone, Copy)]
+pub struct Running {
+    pub clock: u32,
+    // How many slots are free.
+    pub free: usize,
+    // Where the queue lies in its memory.
+    pub window: Window,
+    pub times: [u64; 448],
+    pub marks: [u64; 12],
+    pub reading: [u8; 16],
+}
+
+// The sizes and the clock of a setup that is accepted.
+#[derive(Clone, Copy)]
+pub struct Sizes {
+    pub p: u8,
+    pub v: u16,
+    pub n: u16,
+    pub clock: u32,
+}
 
 // What the loop does once the answer is put: nothing; the worker's place is set; its place and announced time; flush (2), the place, and another
 // worker's time is read; a setup; put (3), the place, and a range more in the pool; flush (3); flush (4), the place, and reads move off a slot.
+// No data in its cases: with it a record took 51 instructions more, 501 for 450, since the cases lie over each other.
 #[derive(Clone, Copy)]
 pub enum Arm {
     Says,
@@ -35,15 +58,6 @@ pub enum Arm {
     HandsIn,
     Splits,
     Moves,
-}
-
-// The sizes and the clock of a setup that is accepted.
-#[derive(Clone, Copy)]
-pub struct Sizes {
-    pub p: u8,
-    pub v: u16,
-    pub n: u16,
-    pub clock: u32,
 }
 
 const NO_SIZES: Sizes = Sizes {
@@ -91,7 +105,7 @@ fn left_to(arm: Arm, doing: Doing, answer: Answer) -> Turn
     Turn {
         arm,
         doing,
-        announced: Announced::Nothing,
+        announced: None,
         said,
         slot: 0,
         older: 0,
@@ -116,29 +130,20 @@ fn made(p: u8, v: u16, n: u16, clock: u32) -> Turn
 // ---- steps
 
 // A step that is done at once.
-fn taken(
-    clock: &mut [u32; 1],
-    counts: &mut [usize; 5],
-    reading: &mut [u8; 16],
-    w: usize,
-    d: Doing,
-    o: Outcome,
-) -> Turn
+fn taken(running: &mut Running, w: usize, d: Doing, o: Outcome) -> Turn
     requires { w < 16 }
     ensures value { result ≡ taken_turn o }
-    ensures clock_after { clock.new ≡ clock_as o.clock }
-    ensures counts_after { counts.new ≡ counts_as o.free (window_in counts.old) }
-    ensures reading_after { reading.new ≡ set reading.old w (read_next d o.doing (get_or reading.old w 0)) }
+    ensures running_after { running.new ≡ ran_on running.old w d o }
 {
-    counts::set_clock(clock, o.clock);
-    counts::set_free(counts, o.free);
-    let doing = o.doing;
-    let old = reading[w];
-    reading[w] = marks::read_next(d, doing, old);
-    let answer = o.answer;
-    let announced = o.announced;
-    let t = left_to(Arm::Times, doing, answer);
-    Turn { announced, ..t }
+    running.clock = o.clock;
+    running.free = o.free;
+    let old = running.reading[w];
+    running.reading[w] = marks::read_next(d, o.doing, old);
+    let t = left_to(Arm::Times, o.doing, o.answer);
+    Turn {
+        announced: o.announced,
+        ..t
+    }
 }
 
 // Put (3), of a pool of n ranges.
@@ -159,30 +164,24 @@ fn hand_in(row: &[[u64; 6]], n: usize, covered: u16, size: u8) -> Turn
 }
 
 // Flush (1).
-fn take(
-    queue: &mut [u32; 12288],
-    lens: &mut [u32; 4096],
-    merged: &mut [u32; 12288],
-    counts: &mut [usize; 5],
-    w: usize,
-) -> Turn
+fn take(lent: &mut Lent, running: &mut Running, w: usize) -> Turn
     requires { w < 16 }
-    ensures value { result ≡ left_to Sets (FlushRead (short (length (taken (pools_in queue.old lens.old (window_in counts.old))))) 0) Going }
-    ensures counts_after { pools_in queue.new lens.new (window_in counts.new)
-        ≡ rest (pools_in queue.old lens.old (window_in counts.old)) }
-    ensures counts_after_2 { counts.new ≡ counts_as (free_in counts.old) (window_in counts.new) }
-    ensures merged_after { merged.new
-        ≡ took_merged (pools_in queue.old lens.old (window_in counts.old)) merged.old w }
+    ensures value { result
+        ≡ left_to Sets (FlushRead (short (length (taken (pools_in lent.old.queue lent.old.lens running.old.window)))) 0) Going }
+    ensures pools_after { pools_in lent.new.queue lent.new.lens running.new.window
+        ≡ rest (pools_in lent.old.queue lent.old.lens running.old.window) }
+    ensures running_after { running.new ≡ with_window running.old running.new.window }
+    ensures merged_after { lent.new.merged
+        ≡ took_merged (pools_in lent.old.queue lent.old.lens running.old.window) lent.old.merged w }
+    ensures lent_kept { (lent.new.newest ≡ lent.old.newest) × (lent.new.free ≡ lent.old.free) }
 {
-    let f = flush::flush_take(queue, lens, counts::window_of(counts), merged, w);
-    let window = f.window;
-    counts::set_window(counts, window);
+    let met = running.window;
+    let f = flush::flush_take(&mut lent.queue, &mut lent.lens, met, &mut lent.merged, w);
+    running.window = f.window;
+    let merged = (f.count % 65536) as u16;
     left_to(
         Arm::Sets,
-        Doing::FlushRead {
-            merged: (f.count % 65536) as u16,
-            read: 0,
-        },
+        Doing::FlushRead { merged, read: 0 },
         Answer::Going,
     )
 }
@@ -206,31 +205,21 @@ fn read_time(m: u16, read: u8) -> Turn
     }
 }
 
-// Flush (2), once the times of p workers and of all marks are read.
-fn marks_read(m: u16, p: usize) -> Turn
-    ensures { result ≡ left_to Sets (FlushRead m ((p % 256 + 12) % 256)) Going }
-{
-    left_to(
-        Arm::Sets,
-        Doing::FlushRead {
-            merged: m,
-            read: ((p % 256 + 12) % 256) as u8,
-        },
-        Answer::Going,
-    )
-}
-
-// Flush (2), behind the last of p workers.
-fn read_marks(times: &mut [u64; 448], marks: &[u64; 12], w: usize, p: usize, m: u16) -> Turn
+// Flush (2), behind the last of p workers: the times of all marks.
+fn read_marks(running: &mut Running, w: usize, p: usize, m: u16) -> Turn
     requires { w < 16 }
     ensures value { result ≡ left_to Sets (FlushRead m ((p % 256 + 12) % 256)) Going }
-    ensures times_after { times.new ≡ marks_read times.old w p marks.now }
+    ensures running_after { running.new ≡ with_times running.old (marks_read running.old.times w p running.old.marks) }
 {
     if p <= 16 {
-        mark_times::read_all(times, w, p, marks);
-        return marks_read(m, p);
+        mark_times::read_all(&mut running.times, w, p, &running.marks);
     }
-    marks_read(m, p)
+    let read = ((p % 256 + 12) % 256) as u8;
+    left_to(
+        Arm::Sets,
+        Doing::FlushRead { merged: m, read },
+        Answer::Going,
+    )
 }
 
 // Flush (3), by so many times: the loop has the pool.
@@ -248,22 +237,21 @@ fn split(m: u16, read: u8) -> Turn
 // Flush (4), with so many ranges left.
 fn free_one(
     row: &mut [[u64; 6]],
-    free: &mut [u16; 2048],
-    merged: &[u32; 12288],
-    counts: &mut [usize; 5],
+    lent: &mut Lent,
+    running: &mut Running,
     w: usize,
     left: u16,
 ) -> Turn
     requires { (w < 16) × (0 < left) }
-    ensures value { result ≡ free_turn left (freed_step (row_of row.old) merged.now w left (free_in counts.old)) }
-    ensures row_after { row_of row.new ≡ freed_row (row_of row.old) merged.now w left }
-    ensures free_after { free.new ≡ freed_free free.old merged.now w left (free_in counts.old) }
-    ensures counts_after { counts.new
-        ≡ counts_as (freed_step (row_of row.old) merged.now w left (free_in counts.old)).free
-        (window_in counts.old) }
+    ensures value { result ≡ free_turn left (freed_step (row_of row.old) lent.old.merged w left running.old.free) }
+    ensures row_after { row_of row.new ≡ freed_row (row_of row.old) lent.old.merged w left }
+    ensures lent_after { lent.new
+        ≡ with_free lent.old (freed_free lent.old.free lent.old.merged w left running.old.free) }
+    ensures running_after { running.new
+        ≡ with_count running.old (freed_step (row_of row.old) lent.old.merged w left running.old.free).free }
 {
-    let f = freeing::flush_free(row, free, merged, w, left, counts[0]);
-    counts::set_free(counts, f.free);
+    let f = freeing::flush_free(row, &mut lent.free, &lent.merged, w, left, running.free);
+    running.free = f.free;
     let t = left_to(
         Arm::Moves,
         Doing::FlushFree { left: left - 1 },
@@ -277,147 +265,99 @@ fn free_one(
 }
 
 // Mark and release: the mark holds this time, or none (4294967296).
-fn set_mark(marks: &mut [u64; 12], mark: u16, time: u64) -> Turn
+fn set_mark(running: &mut Running, mark: u16, time: u64) -> Turn
     ensures value { result ≡ left_to Sets Idle Done }
-    ensures marks_after { marks.new ≡ set marks.old (mark % 12) time }
+    ensures running_after { running.new ≡ with_marks running.old (set running.old.marks (mark % 12) time) }
 {
     let i = (mark % 12) as usize;
-    marks[i] = time;
+    running.marks[i] = time;
     left_to(Arm::Sets, Doing::Idle, Answer::Done)
 }
 
-// A step of worker w at the place d, with the announced time t and n ranges in its pool.
+// The first n of them, which count; all where there are fewer.
+fn counting<T>(all: &[T], n: usize) -> &[T]
+    ensures same { result.now ≡ take n all.now }
+    ensures few { length result.now ≤ length all.now }
+{
+    &all[..n.min(all.len())]
+}
+
+// A step of worker w, whose record is x.
 fn go(
     row: &mut [[u64; 6]],
-    newest: &mut [u16; 256],
-    free: &mut [u16; 2048],
-    queue: &mut [u32; 12288],
-    lens: &mut [u32; 4096],
-    merged: &mut [u32; 12288],
-    clock: &mut [u32; 1],
-    counts: &mut [usize; 5],
-    times: &mut [u64; 448],
-    marks: &mut [u64; 12],
-    reading: &mut [u8; 16],
+    lent: &mut Lent,
+    running: &mut Running,
     w: usize,
-    d: Doing,
-    t: Announced,
-    n: usize,
+    x: &Worker,
     fixed: Fixed,
     rows: &[u32; 1024],
 ) -> Turn
     requires { w < 16 }
-    ensures { record {
-      turn = result;
-      parts = parts (row_of row.new) newest.new free.new queue.new lens.new merged.new
-          clock.new counts.new times.new marks.new reading.new;
-    }
-        ≡ go_turn fixed w d t n rows.now
-        (parts (row_of row.old) newest.old free.old queue.old lens.old merged.old
-        clock.old counts.old times.old marks.old reading.old) }
+    ensures { record { turn = result; parts = parts (row_of row.new) lent.new running.new }
+        ≡ go_turn fixed w x.now.doing x.now.announced x.now.pool.len rows.now (parts (row_of row.old) lent.old running.old) }
 {
+    let d = x.doing;
     let s = step::step(
         row,
-        newest,
-        free,
+        &mut lent.newest,
+        &lent.free,
         d,
-        t,
-        clock[0],
-        counts[0],
+        x.announced,
+        running.clock,
+        running.free,
         fixed.p,
-        rows,
-        fixed.listed,
-        marks,
-        reading,
+        counting(rows, fixed.listed),
+        &running.marks,
+        counting(&running.reading, fixed.p),
     );
     match s {
-        Next::Taken(o) => taken(clock, counts, reading, w, d, o),
-        Next::HandIn { covered } => hand_in(row, n, covered, fixed.batch),
-        Next::Take => take(queue, lens, merged, counts, w),
+        Next::Taken(o) => taken(running, w, d, o),
+        Next::HandIn { covered } => hand_in(row, x.pool.len, covered, fixed.batch),
+        Next::Take => take(lent, running, w),
         Next::Read { merged: m, read } => read_time(m, read),
-        Next::ReadMarks { merged: m } => read_marks(times, marks, w, fixed.p, m),
-        Next::Split { merged: m, read } => split(m, read),
-        Next::Free { left } => free_one(row, free, merged, counts, w, left),
-        Next::Mark { mark, time } => set_mark(marks, mark, time),
+        Next::ReadMarks { merged: m } => read_marks(running, w, fixed.p, m),
+        Next::Split { merged, read } => split(merged, read),
+        Next::Free { left } => free_one(row, lent, running, w, left),
+        Next::Mark { mark, time } => set_mark(running, mark, time),
     }
 }
 
-// A turn of worker w, modulo sixteen, which is at the place d with the announced time t and n ranges in its pool: what is done with the record.
+// A turn of worker w, modulo sixteen, whose record is x: what is done with the record of the input.
 pub fn take_turn<'a>(
     row: &mut [[u64; 6]],
-    newest: &mut [u16; 256],
-    free: &mut [u16; 2048],
-    queue: &mut [u32; 12288],
-    lens: &mut [u32; 4096],
-    merged: &mut [u32; 12288],
-    clock: &mut [u32; 1],
-    counts: &mut [usize; 5],
-    times: &mut [u64; 448],
-    marks: &mut [u64; 12],
-    reading: &mut [u8; 16],
-    rec: &[u8],
+    lent: &mut Lent,
+    running: &mut Running,
+    rec: &'a [u8],
     w: usize,
-    d: Doing,
-    t: Announced,
-    n: usize,
+    x: &'a Worker,
     fixed: Fixed,
-    list: &[u8],
+    list: &'a [u8],
     rows: &'a [u32; 1024],
     rights: &'a [u64; 64],
 ) -> Turn
-    ensures { record {
-      turn = result;
-      parts = parts (row_of row.new) newest.new free.new queue.new lens.new merged.new
-          clock.new counts.new times.new marks.new reading.new;
-    }
-        ≡ turn_of fixed (w % 16) d t n list.now rows.now rights.now rec.now
-        (parts (row_of row.old) newest.old free.old queue.old lens.old merged.old
-        clock.old counts.old times.old marks.old reading.old) }
+    ensures { record { turn = result; parts = parts (row_of row.new) lent.new running.new }
+        ≡ turn_of fixed (w % 16) x.now.doing x.now.announced x.now.pool.len list.now rows.now rights.now rec.now
+        (parts (row_of row.old) lent.old running.old) }
 {
+    let tables = Tables {
+        v: fixed.v,
+        rows: counting(rows, fixed.listed),
+        rights: counting(rights, fixed.granted),
+    };
+    let known = Known {
+        tables,
+        doing: x.doing,
+        announced: x.announced,
+        marks: &running.marks,
+        reading: counting(&running.reading, fixed.p),
+    };
     let r = record::decode(rec);
-    let g = decision::gate_for(
-        r,
-        fixed.up,
-        fixed.p,
-        fixed.v,
-        row.len(),
-        d,
-        t,
-        list,
-        rows,
-        fixed.listed,
-        marks,
-        reading,
-        rights,
-        fixed.granted,
-    );
-    match g {
-        Gate::Refuse(k) => left_to(Arm::Says, Doing::Idle, Answer::No(k)),
-        Gate::Make {
-            p,
-            v,
-            n: m,
-            clock: k,
-        } => made(p, v, m, k),
-        Gate::Start { worker: _, doing } => left_to(Arm::Sets, doing, Answer::Ok),
-        Gate::Go { worker: _ } => go(
-            row,
-            newest,
-            free,
-            queue,
-            lens,
-            merged,
-            clock,
-            counts,
-            times,
-            marks,
-            reading,
-            w % 16,
-            d,
-            t,
-            n,
-            fixed,
-            rows,
-        ),
+    match decision::gate_for(r, fixed.up, fixed.p, row.len(), list, known) {
+        Err(k) => left_to(Arm::Says, Doing::Idle, Answer::No(k.number())),
+        Ok(gate) => match gate {
+            Gate::Make { p, v, n, clock } => made(p, v, n, clock),
+            Gate::Start { worker: _, doing } => left_to(Arm::Sets, doing, Answer::Ok),
+            Gate::Go { worker: _ } => go(row, lent, running, w % 16, x, fixed, rows),
+        },
     }
 }

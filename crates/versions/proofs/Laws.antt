@@ -1,4 +1,5 @@
 -- Laws of a row of words as the slots that it means: what is loaded and stored.
+use Rattle.std.specs.Prelude.{Some, None}
 use mathlib.Core.Path.{◌≡◌, refl, sym, ap, ap₂, ◌∙◌, subst}
 use mathlib.Core.List.{List, [], ◌∷◌}
 use Prim.Native.Nat.{ℕ, zero, suc, ◌≤◌, ◌+◌, ◌%◌}
@@ -7,8 +8,7 @@ use native.Mathlib.Omega.{arith}
 use lib.ListN.{length, get_or, set, length-map, get_or-map, get_or-eq_default}
 use lib.Seq.{set_out}
 use borrow.Author.Tests.{ne_eqb}
-use Rattle.values.specs.declared.Content.{Content}
-use Rattle.values.specs.declared.Content.TheVariants.{NoReading, Of}
+use Rattle.values.specs.Meaning.{Content}
 use Rattle.slots.specs.declared.Slot.{Slot}
 use Rattle.slots.specs.Slots.{vacant_slot}
 use Rattle.versions.specs.Versions.{content_in, count_word, held_word, slot_in, row_of, slot_at_in, change_in}
@@ -30,10 +30,10 @@ row_set (y ∷ l) (suc i) x = ap (λ (z : List Slot). slot_in y ∷ z) (row_set 
 
 -- the two words of what a version holds mean that
 content_words : (c : Content) → held_word c ≤ 256 → content_in (count_word c) (held_word c) ≡ c
-content_words NoReading h = refl
-content_words (Of x) h =
+content_words None h = refl
+content_words (Some x) h =
     rw (ne_eqb (x.status + 1) 0 (omega arith))
-    (ap (λ (k : ℕ). Of (record { count = x.count; status = k })) (ap (λ (k : ℕ). k % 256) (omega arith) ∙ mod-eq_of_lt (omega (arith, h))))
+    (ap (λ (k : ℕ). Some (record { count = x.count; status = k })) (ap (λ (k : ℕ). k % 256) (omega arith) ∙ mod-eq_of_lt (omega (arith, h))))
 
 -- the words of a slot, stored
 pub row_stored : (l : List (List ℕ)) (i : ℕ) (s : Slot) (x k : ℕ) → x ≡ count_word s.value → (k ≡ held_word s.value) × (k ≤ 256)

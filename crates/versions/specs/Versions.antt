@@ -1,10 +1,9 @@
 -- The version lists in a row of words, six a slot: the same changes as the model's (model/specs/Versions.antt), on the slots that the
 -- words mean.
-use Rattle.std.specs.Prelude.{cond, List, map, ℕ, ◌+◌, ◌-◌, ◌%◌, eqb, get_or, set}
+use Rattle.std.specs.Prelude.{Some, None, cond, List, map, ℕ, ◌+◌, ◌-◌, ◌%◌, eqb, get_or, set}
 use Rattle.model.specs.Store.{absent}
 use Rattle.values.specs.declared.Reading.{Reading}
-use Rattle.values.specs.declared.Content.{Content}
-use Rattle.values.specs.declared.Content.TheVariants.{NoReading, Of}
+use Rattle.values.specs.Meaning.{Content}
 use Rattle.slots.specs.declared.Slot.{Slot}
 use Rattle.slots.specs.Slots.{vacant_slot}
 
@@ -13,16 +12,16 @@ use Rattle.slots.specs.Slots.{vacant_slot}
 
 -- what a version holds, of the word that has its count and the word that has its status plus one, 0 where there is no reading
 abbrev pub content_in : ℕ → ℕ → Content
-content_in x k = cond (eqb k 0) NoReading (Of (record { count = x; status = (k - 1) % 256 }))
+content_in x k = cond (eqb k 0) None (Some (record { count = x; status = (k - 1) % 256 }))
 
 -- the two words of what a version holds: its count, and its status plus one; both 0 where there is no reading
 abbrev pub count_word : Content → ℕ
-count_word NoReading = 0
-count_word (Of x) = x.count
+count_word None = 0
+count_word (Some x) = x.count
 
 abbrev pub held_word : Content → ℕ
-held_word NoReading = 0
-held_word (Of x) = x.status + 1
+held_word None = 0
+held_word (Some x) = x.status + 1
 
 -- H1.7, H16.1: the count, low and high time, older and newer neighbour, and the status
 abbrev pub slot_in : List ℕ → Slot
@@ -52,7 +51,7 @@ alone_slot s = with_older (with_newer s absent) absent
 
 -- H5.7: the version that a put publishes above slot i
 abbrev pub published_slot : Reading → ℕ → Slot
-published_slot x i = record { value = Of x; low = absent; high = absent; older = i; newer = absent }
+published_slot x i = record { value = Some x; low = absent; high = absent; older = i; newer = absent }
 
 ------------------------------------------------------------------------
 -- A row with some slots changed

@@ -14,10 +14,10 @@ fn content(x: u64, held: u64) -> Content
     ensures { result ≡ content_in x held }
 {
     if held == 0 {
-        return Content::NoReading;
+        return None;
     }
     let status = ((held - 1) % 256) as u8;
-    Content::Of(Reading { count: x, status })
+    Some(Reading { count: x, status })
 }
 
 // The two words of what a version holds.
@@ -25,23 +25,17 @@ fn count(c: Content) -> u64
     ensures { result ≡ count_word c }
 {
     match c {
-        Content::NoReading => 0,
-        Content::Of(x) => x.count,
+        None => 0,
+        Some(x) => x.count,
     }
-}
-
-fn wide(x: u8) -> u64
-    ensures { (result ≡ x) × (result ≤ 255) }
-{
-    x as u64
 }
 
 fn held(c: Content) -> u64
     ensures { (result ≡ held_word c) × (result ≤ 256) }
 {
     match c {
-        Content::NoReading => 0,
-        Content::Of(x) => wide(x.status) + 1,
+        None => 0,
+        Some(x) => u64::from(x.status) + 1,
     }
 }
 

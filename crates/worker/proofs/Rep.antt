@@ -1,4 +1,5 @@
 -- Laws of a list in an array: its entries are the array's first, and one more entry is one store. They are those of `over`.
+use Rattle.std.specs.Prelude.{Some}
 use mathlib.Core.Path.{◌≡◌}
 use mathlib.Core.List.{List, [], ◌∷◌, ◌++◌}
 use Prim.Native.Nat.{ℕ, ◌≤◌, ◌<◌}
@@ -6,7 +7,6 @@ use lib.ListN.{length, get_or, set, replicate, length-replicate}
 use borrow.Author.Tests.{lt-ltb}
 use Rattle.lists.proofs.Over.{over-nil, over-push, length_over, get_d_over_in}
 use Rattle.model.specs.Store.{absent}
-use Rattle.worker.specs.declared.Announced.TheVariants.{At}
 use Rattle.worker.specs.Rep.{padded, announced_rep}
 
 pub padded-nil : (n : ℕ) → padded n [] ≡ replicate n 0
@@ -27,5 +27,5 @@ unfolding padded
 padded-push n l k x e h = over-push l (replicate n 0) k x e (rw (length-replicate {A = ℕ} n 0) h)
 
 -- a time that is there
-pub announced_at : (t : ℕ) → t < absent → announced_rep t ≡ At t
+pub announced_at : (t : ℕ) → t < absent → announced_rep t ≡ Some t
 announced_at t h = rw (lt-ltb t absent h)

@@ -1,5 +1,5 @@
 -- How the model's worker stands in the types of this crate.
-use Rattle.std.specs.Prelude.{cond, List, [], map, ℕ, ltb, length, replicate}
+use Rattle.std.specs.Prelude.{Option, Some, None, cond, List, [], map, ℕ, ltb, length, replicate}
 use Rattle.lists.specs.Over.{over}
 use Rattle.model.specs.Totals.{Sum as Model-as-Sum}
 use Rattle.model.specs.Store as Model
@@ -7,8 +7,6 @@ use Rattle.model.specs.Store.{Range, absent}
 use Rattle.model.specs.About.{Hand, Empty, Covered, Merged, Needless, about}
 use Rattle.values.specs.declared.Reading.{Reading}
 use Rattle.worker.specs.declared.Pool.{Pool}
-use Rattle.worker.specs.declared.Announced.{Announced}
-use Rattle.worker.specs.declared.Announced.TheVariants.{Nothing, At}
 use Rattle.worker.specs.declared.Doing.{Doing}
 use Rattle.worker.specs.declared.Doing.TheVariants.{
   Idle,
@@ -46,13 +44,16 @@ pool_rep l =
     }
 
 -- an announced time or none
+abbrev pub Announced : Type 0
+Announced = Option ℕ
+
 abbrev pub announced_rep : ℕ → Announced
-announced_rep t = cond (ltb t absent) (At t) Nothing
+announced_rep t = cond (ltb t absent) (Some t) None
 
 -- the time of it, absent where there is none
 abbrev pub time_of : Announced → ℕ
-time_of Nothing = absent
-time_of (At a) = a
+time_of None = absent
+time_of (Some a) = a
 
 abbrev pub reading_rep : Model.Reading → Reading
 reading_rep x = record { count = x.count; status = x.status }

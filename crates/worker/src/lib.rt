@@ -24,11 +24,7 @@ pub const EMPTY: Pool = Pool {
 };
 
 // The announced time or none.
-#[derive(Clone, Copy)]
-pub enum Announced {
-    Nothing,
-    At(u32),
-}
+pub type Announced = Option<u32>;
 
 // A step that moves a time and no version: open (1) and (2), close; mark and release (H13.3, H13.4), of a mark.
 #[derive(Clone, Copy)]
@@ -103,7 +99,7 @@ impl Worker {
     {
         Worker {
             doing: Doing::Idle,
-            announced: Announced::Nothing,
+            announced: None,
             pool: EMPTY,
         }
     }
@@ -114,7 +110,7 @@ pub fn time_of(t: Announced) -> u64
     ensures { result ≡ time_of t }
 {
     match t {
-        Announced::Nothing => 4294967296,
-        Announced::At(a) => a as u64,
+        None => 4294967296,
+        Some(a) => a as u64,
     }
 }

@@ -18,5 +18,5 @@ pub returns : goal.returns
 returns c =
     let a = c.args in
     let l = row_of a.row.now in
-    let e : c.loop-i.i ≡ min a.n (length l) = omega (arith, c.at_most-most.ensures, length-map a.row.now slot_in) in
+    let e : c.loop-i.i ≡ min a.n (length l) = omega (arith, c.min-most.ensures, length-map a.row.now slot_in) in
     c.loop-i.invariant ∙ ap (linked_to l a.n) e ∙ linked_min l a.n

@@ -7,15 +7,15 @@ use Rattle.calls.proofs.perform.Goals as goal
 pub returns-in-Record : goal.returns-in-Record
 returns-in-Record c =
     let a = c.args in (
-      rest-kept a.n c.at_most-k.result a.row.now c.apply_one.new.row c.at_most-k.ensures.0 c.apply_one.auto.row,
-      performed a.n c.at_most-k.result a.row.now c.apply_one.new.row c.at_most-k.ensures.0 c.apply_one.auto.row
+      rest-kept a.n c.min-k.result a.row.now c.apply_one.new.row c.min-k.ensures c.apply_one.auto.row,
+      performed a.n c.min-k.result a.row.now c.apply_one.new.row c.min-k.ensures c.apply_one.auto.row
           a.what Record c.in-Record.is (record { done = (c.apply_one.ensures, refl, refl) }),
     )
 
 pub returns-in-Records : goal.returns-in-Records
 returns-in-Records c =
     let a = c.args in (
-      rest-kept a.n c.at_most-k.result a.row.now c.apply_all.new.row c.at_most-k.ensures.0 c.apply_all.auto.row,
-      performed a.n c.at_most-k.result a.row.now c.apply_all.new.row c.at_most-k.ensures.0 c.apply_all.auto.row
+      rest-kept a.n c.min-k.result a.row.now c.apply_all.new.row c.min-k.ensures c.apply_all.auto.row,
+      performed a.n c.min-k.result a.row.now c.apply_all.new.row c.min-k.ensures c.apply_all.auto.row
           a.what Records c.in-Records.is (record { done = c.apply_all.ensures }),
     )

@@ -20,6 +20,6 @@ unfolding in_ranges
 returns c =
     let a = c.args in
     let last : a.clock ≤ last_clock = omega (arith, c.ranges) in
-    rw (c.wide16.ensures, le-leb a.clock last_clock last)
+    rw (c.from.ensures, le-leb a.clock last_clock last)
     (regroup (leb 1 a.p && leb a.p 16 && (leb 1 a.v && leb a.v 256)) (leb a.v a.n && leb a.n 2048) (leb 1 a.clock)
     (leb a.n a.long))

@@ -1,22 +1,12 @@
--- `all_may_be` meets its contract: the loop keeps `Testing`, by which the test of the rows that are left is that of all.
-use mathlib.Core.Path.{◌∙◌, sym}
-use borrow.Author.Tests.{eq-eqb}
-use Rattle.digits.proofs.Rows.{lent-long, testing_turn, testing_no, testing_end}
+-- `all_may_be`: the rows are tested one by one.
+use Rattle.std.proofs.Common.{◌∙◌, ◌/◌, length, arith, rules, tests}
+use Rattle.std.proofs.lemmas.Iterator.Search.{all_from_yields_List}
+use Rattle.row_form.specs.Meaning.{form_of}
+use Rattle.digits.proofs.Rows.{rows_yielded, is_row_for, all_rows}
 use Rattle.digits.proofs.all_may_be.Goals as goal
 
-pub returns-then-not-may_be : goal.returns-then-not-may_be
-returns-then-not-may_be c =
-    let s = c.args in
-    let l = lent-long s.rows.now c.loop-i.i s.n c.requires c.loop-i-test.true in
-    let e = rw (eq-eqb _ _ l) at c.may_be.ensures in
-    testing_no _ _ _ _ c.loop-i.invariant c.loop-i-test.true (sym e ∙ c.if-not-may_be.true)
-
-pub loop-i-preserved : goal.loop-i-preserved
-loop-i-preserved c =
-    let s = c.args in
-    let l = lent-long s.rows.now c.loop-i.i s.n c.requires c.loop-i-test.true in
-    let e = rw (eq-eqb _ _ l) at c.may_be.ensures in
-    testing_turn _ _ _ _ c.loop-i.invariant c.loop-i-test.true (sym e ∙ c.if-not-may_be.false)
-
 pub returns : goal.returns
-returns c = testing_end _ _ _ _ c.loop-i.invariant c.loop-i-test.false
+returns c =
+    let rows = c.args.rows.now in
+    all_from_yields_List (is_row_for (form_of c.args.to)) _ _ c.all.result c.all.ensures.ran (rows_yielded _ rows (search rules) (search rules)) (λ x b q k. search (rules, tests))
+    ∙ all_rows (form_of c.args.to) (length rows / 16) rows (omega arith)

@@ -8,7 +8,7 @@ use lib.Seq.{length-take-le, take_all, take-append_seam, drop-append_seam}
 use borrow.Author.Rules.{rules}
 use Rattle.model.specs.Rules.{of_totals}
 use Rattle.slots.specs.declared.Slot.{Slot}
-use Rattle.simulation.specs.Memory.{memory}
+use Rattle.simulation.specs.Lent.{lent_memory}
 use Rattle.calls.specs.Calls.{Performed}
 use Rattle.hub.proofs.call_owned.Goals as goal
 
@@ -33,7 +33,7 @@ returns c =
     let a = c.args in
     let d = c.call-called in
     front
-    (λ (l l' : List Slot). Performed a.what (memory a.hub l a.newest.now a.free.now a.queue.now a.lens.now a.merged.now) (of_totals a.given.now)
+    (λ (l l' : List Slot). Performed a.what (lent_memory a.hub l a.lent.now) (of_totals a.given.now)
     a.bytes.now a.kinds.now a.numbers.now d.result
-    (memory d.result.hub l' d.new.newest d.new.free d.new.queue d.new.lens d.new.merged) d.new.kinds d.new.numbers)
-    a.row d.new.slots (c.at_most-n.result - 0) _ (search rules) (search rules) (search rules) (search rules) d.ensures.performed
+    (lent_memory d.result.hub l' d.new.lent) d.new.kinds d.new.numbers)
+    a.row d.new.slots (c.min-n.result - 0) _ (search rules) (search rules) (search rules) (search rules) d.ensures.performed

@@ -21,27 +21,27 @@ loop-k-init c =
 pub run_stretch-e-requires : goal.run_stretch-e-requires
 run_stretch-e-requires c =
     let i = c.loop-k.invariant in
-    let h = c.at_most-whole.ensures in
-    let e = c.at_most-most.ensures in
-    let r = c.at_most-room.ensures in (
+    let h = c.min-whole.ensures in
+    let e = c.min-most.ensures in
+    let r = c.min-room.ensures in (
       i.few,
-      omega (arith, h.1, e.1, r.0, r.1),
-      omega (arith, h.1, e.1, r.0, r.1),
+      omega (arith, h, e, r),
+      omega (arith, h, e, r),
       i.inside,
-      whole_fits _ _ _ h.0,
+      whole_fits _ _ _ h,
     )
 
-pub loop-k-smaller-then-e : goal.loop-k-smaller-then-e
-loop-k-smaller-then-e c =
+pub loop-k-smaller-in-Some : goal.loop-k-smaller-in-Some
+loop-k-smaller-in-Some c =
     let t = c.loop-k-test.true in
     let W = c.run_stretch-e.ensures.went in
     omega (arith, t, W.inside, W.onward t)
 
-pub loop-k-preserved-then-e : goal.loop-k-preserved-then-e
-loop-k-preserved-then-e c =
+pub loop-k-preserved-in-Some : goal.loop-k-preserved-in-Some
+loop-k-preserved-in-Some c =
     let u = c.set_up-hub.ensures in
     let i = c.loop-k.invariant in
-    went_up i _ c.run_stretch-e.ensures.went c.if-e.true _ _ _ _ u.value u.row_after u.newest_after u.free_after
+    went_up i _ c.run_stretch-e.ensures.went _ c.in-Some.is _ _ _ u.value u.row_after u.newest_after u.free_after u.rest_kept
 
 pub loop-k-smaller : goal.loop-k-smaller
 loop-k-smaller c =
@@ -52,15 +52,15 @@ loop-k-smaller c =
 pub loop-k-preserved : goal.loop-k-preserved
 loop-k-preserved c =
     let i = c.loop-k.invariant in
-    went_on i _ c.run_stretch-e.ensures.went c.if-e.false refl c.run_stretch-e.ensures.site_value
+    went_on i _ c.run_stretch-e.ensures.went c.in-None.is refl c.run_stretch-e.ensures.site_value
 
 pub refuse_rest-answer-requires : goal.refuse_rest-answer-requires
 refuse_rest-answer-requires c =
     let i = c.loop-k.invariant in
-    let h = c.at_most-whole.ensures in
-    let e = c.at_most-most.ensures in
-    let r = c.at_most-room.ensures in
-    (h.1, omega (arith, e.1, r.0, r.1), omega (arith, e.1, r.0, r.1))
+    let h = c.min-whole.ensures in
+    let e = c.min-most.ensures in
+    let r = c.min-room.ensures in
+    (omega (arith, h), omega (arith, e, r), omega (arith, e, r))
 
 pub returns : goal.returns
 returns c =
@@ -80,7 +80,7 @@ returns c =
       };
       ran =
           finished _ _ _ _ _ _ _ _ _ _ _ _ _ _ c.loop-k.invariant c.loop-k-test.false c.refuse_rest-answer.ensures
-          (whole_short c.args.bytes.now _ _ c.at_most-whole.ensures.0)
-          (c.at_most-most.ensures.0 ∙ ap (min _) c.at_most-room.ensures.0)
-          (ready-is _ c.args.row.now _ _ _ _ _ _ _ c.all_linked-linked.ensures c.ready-up.ensures);
+          (whole_short c.args.bytes.now _ _ c.min-whole.ensures)
+          (c.min-most.ensures ∙ ap (min _) c.min-room.ensures)
+          (ready-is _ c.args.row.now _ _ _ c.all_linked-linked.ensures c.ready-up.ensures);
     }

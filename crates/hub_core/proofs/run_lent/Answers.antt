@@ -1,14 +1,14 @@
 -- `run_lent` meets its contract. The invariant is `SoFar` (Loop.antt): the records so far have done what the definition says. Each arm of the loop is
--- a law there. The inner loop moves the reads of the first j workers.
-use Rattle.std.specs.Prelude.{ℕ, ◌%◌}
-use mathlib.Core.Path.{refl, sym, ap, ◌∙◌}
+-- a law there.
+use Rattle.std.specs.Prelude.{ℕ, ◌%◌, length}
+use mathlib.Core.Path.{refl, ap, ◌∙◌}
 use native.Mathlib.Omega.{arith}
 use borrow.Author.Rules.{rules}
+use lib.ListN.{length-map}
 use Rattle.lists.proofs.Mapped.{length-mapped}
 use Rattle.versions.specs.Versions.{row_of}
 use Rattle.turns.specs.declared.Arm.TheVariants.{Says, Sets, Times}
 use Rattle.turns.specs.Parts.{parts}
-use Rattle.hub_core.proofs.Moving.{move_one, move_none, moved, moved_long}
 use Rattle.hub_core.proofs.Loop.{begun, ended, on_arm, on_makes, on_reads, on_hands_in, on_splits, on_moves, replaced}
 use Rattle.hub_core.proofs.run_lent.Goals as goal
 
@@ -35,9 +35,9 @@ loop-k-preserved-in-Says c =
     let l = c.loop-k in
     let e = c.put_answer-last.ensures in (
       on_arm c.args.fixed c.requires.0 c.args.list.now c.args.rows.now c.args.rights.now refl l.workers
-          (parts (row_of l.row) l.newest l.free l.queue l.lens l.merged l.clock l.counts l.times l.marks l.reading) l.kinds
+          (parts (row_of l.row) l.lent l.running) l.kinds
           l.numbers l.last l.invariant.0 c.loop-k-test.true _ c.record_at-rec.ensures.0 _
-          (ap (λ (j : ℕ). j % 16) c.wide-w.ensures.0) _ _ c.take_turn-t.ensures _ _ _
+          (ap (λ (j : ℕ). j % 16) c.from-w.ensures) _ _ c.take_turn-t.ensures _ _ _
           (e.value, (e.kinds_after, e.numbers_after)) Says refl c.in-Says.is,
       l.invariant.1,
     )
@@ -47,9 +47,9 @@ loop-k-preserved-in-Sets c =
     let l = c.loop-k in
     let e = c.put_answer-last.ensures in (
       on_arm c.args.fixed c.requires.0 c.args.list.now c.args.rows.now c.args.rights.now refl l.workers
-          (parts (row_of l.row) l.newest l.free l.queue l.lens l.merged l.clock l.counts l.times l.marks l.reading) l.kinds
+          (parts (row_of l.row) l.lent l.running) l.kinds
           l.numbers l.last l.invariant.0 c.loop-k-test.true _ c.record_at-rec.ensures.0 _
-          (ap (λ (j : ℕ). j % 16) c.wide-w.ensures.0) _ _ c.take_turn-t.ensures _ _ _
+          (ap (λ (j : ℕ). j % 16) c.from-w.ensures) _ _ c.take_turn-t.ensures _ _ _
           (e.value, (e.kinds_after, e.numbers_after)) Sets refl c.in-Sets.is,
       replaced l.workers _ _ l.invariant.1,
     )
@@ -59,9 +59,9 @@ loop-k-preserved-in-Times c =
     let l = c.loop-k in
     let e = c.put_answer-last.ensures in (
       on_arm c.args.fixed c.requires.0 c.args.list.now c.args.rows.now c.args.rights.now refl l.workers
-          (parts (row_of l.row) l.newest l.free l.queue l.lens l.merged l.clock l.counts l.times l.marks l.reading) l.kinds
+          (parts (row_of l.row) l.lent l.running) l.kinds
           l.numbers l.last l.invariant.0 c.loop-k-test.true _ c.record_at-rec.ensures.0 _
-          (ap (λ (j : ℕ). j % 16) c.wide-w.ensures.0) _ _ c.take_turn-t.ensures _ _ _
+          (ap (λ (j : ℕ). j % 16) c.from-w.ensures) _ _ c.take_turn-t.ensures _ _ _
           (e.value, (e.kinds_after, e.numbers_after)) Times refl c.in-Times.is,
       replaced l.workers _ _ l.invariant.1,
     )
@@ -74,12 +74,11 @@ loop-k-preserved-in-Reads c =
     let l = c.loop-k in
     let e = c.put_answer-last.ensures in (
       on_reads c.args.fixed c.requires.0 c.args.list.now c.args.rows.now c.args.rights.now refl l.workers
-          (parts (row_of l.row) l.newest l.free l.queue l.lens l.merged l.clock l.counts l.times l.marks l.reading) l.kinds
+          (parts (row_of l.row) l.lent l.running) l.kinds
           l.numbers l.last l.invariant.0 c.loop-k-test.true _ c.record_at-rec.ensures.0 _
-          (ap (λ (j : ℕ). j % 16) c.wide-w.ensures.0) _ _ c.take_turn-t.ensures _ _ _
+          (ap (λ (j : ℕ). j % 16) c.from-w.ensures) _ _ c.take_turn-t.ensures _ _ _
           (e.value, (e.kinds_after, e.numbers_after)) _ _ _
-          c.in-Reads.is
-          c.wide-j.ensures.0 refl c.keep_time.ensures,
+          c.in-Reads.is c.from-j.ensures refl c.keep_time.ensures,
       replaced l.workers _ _ l.invariant.1,
     )
 
@@ -88,9 +87,9 @@ returns-in-Makes c =
     let l = c.loop-k in
     let e = c.put_answer-last.ensures in
     on_makes c.args.fixed c.requires.0 c.args.list.now c.args.rows.now c.args.rights.now refl l.workers
-    (parts (row_of l.row) l.newest l.free l.queue l.lens l.merged l.clock l.counts l.times l.marks l.reading) l.kinds
+    (parts (row_of l.row) l.lent l.running) l.kinds
     l.numbers l.last l.invariant.0 c.loop-k-test.true _ c.record_at-rec.ensures.0 _
-    (ap (λ (j : ℕ). j % 16) c.wide-w.ensures.0) _ _ c.take_turn-t.ensures _ _ _
+    (ap (λ (j : ℕ). j % 16) c.from-w.ensures) _ _ c.take_turn-t.ensures _ _ _
     (e.value, (e.kinds_after, e.numbers_after)) c.in-Makes.is
 
 pub loop-k-preserved-in-HandsIn : goal.loop-k-preserved-in-HandsIn
@@ -98,9 +97,9 @@ loop-k-preserved-in-HandsIn c =
     let l = c.loop-k in
     let e = c.put_answer-last.ensures in (
       on_hands_in c.args.fixed c.requires.0 c.args.list.now c.args.rows.now c.args.rights.now refl l.workers
-          (parts (row_of l.row) l.newest l.free l.queue l.lens l.merged l.clock l.counts l.times l.marks l.reading) l.kinds
+          (parts (row_of l.row) l.lent l.running) l.kinds
           l.numbers l.last l.invariant.0 c.loop-k-test.true _ c.record_at-rec.ensures.0 _
-          (ap (λ (j : ℕ). j % 16) c.wide-w.ensures.0) _ _ c.take_turn-t.ensures _ _ _
+          (ap (λ (j : ℕ). j % 16) c.from-w.ensures) _ _ c.take_turn-t.ensures _ _ _
           (e.value, (e.kinds_after, e.numbers_after)) _ c.in-HandsIn.is c.handed.ensures,
       replaced l.workers _ _ l.invariant.1,
     )
@@ -111,44 +110,25 @@ loop-k-preserved-in-Splits c =
     let e = c.put_answer-last.ensures in
     let f = c.flush_split-f in (
       on_splits c.args.fixed c.requires.0 c.args.list.now c.args.rows.now c.args.rights.now refl l.workers
-          (parts (row_of l.row) l.newest l.free l.queue l.lens l.merged l.clock l.counts l.times l.marks l.reading) l.kinds
+          (parts (row_of l.row) l.lent l.running) l.kinds
           l.numbers l.last l.invariant.0 c.loop-k-test.true _ c.record_at-rec.ensures.0 _
-          (ap (λ (j : ℕ). j % 16) c.wide-w.ensures.0) _ _ c.take_turn-t.ensures _ _ _
-          (e.value, (e.kinds_after, e.numbers_after)) _ _ _ _ _ _ _ _
-          c.in-Splits.is
-          c.wide.ensures.0
-          c.window_of.ensures f.ensures.left_value f.ensures.window_after f.ensures.merged_after
-          c.set_window.ensures,
+          (ap (λ (j : ℕ). j % 16) c.from-w.ensures) _ _ c.take_turn-t.ensures _ _ _
+          (e.value, (e.kinds_after, e.numbers_after)) _ _ _ _ _ _
+          c.in-Splits.is c.from.ensures f.ensures.left_value f.ensures.window_after f.ensures.merged_after,
       replaced l.workers _ _ l.invariant.1,
     )
-
-pub loop-j-init : goal.loop-j-init
-loop-j-init c = let l = c.loop-k in (omega arith, refl, replaced l.workers _ _ l.invariant.1)
 
 pub loop-k-preserved : goal.loop-k-preserved
 loop-k-preserved c =
     let l = c.loop-k in
-    let e = c.put_answer-last.ensures in
-    let q = c.loop-j in (
+    let e = c.put_answer-last.ensures in (
       on_moves c.args.fixed c.requires.0 c.args.list.now c.args.rows.now c.args.rights.now refl l.workers
-          (parts (row_of l.row) l.newest l.free l.queue l.lens l.merged l.clock l.counts l.times l.marks l.reading) l.kinds
+          (parts (row_of l.row) l.lent l.running) l.kinds
           l.numbers l.last l.invariant.0 c.loop-k-test.true _ c.record_at-rec.ensures.0 _
-          (ap (λ (j : ℕ). j % 16) c.wide-w.ensures.0) _ _ c.take_turn-t.ensures _ _ _
-          (e.value, (e.kinds_after, e.numbers_after)) _ c.in-Moves.is
-          (moved _ _ _ _ _ q.invariant.1 q.invariant.2 q.invariant.0 c.loop-j-test.false),
-      moved_long _ _ _ _ _ q.invariant.1 q.invariant.2 q.invariant.0 c.loop-j-test.false,
+          (ap (λ (j : ℕ). j % 16) c.from-w.ensures) _ _ c.take_turn-t.ensures _ _ _
+          (e.value, (e.kinds_after, e.numbers_after)) _ c.in-Moves.is c.move_off.ensures,
+      ap length c.move_off.ensures ∙ length-map _ _ ∙ replaced l.workers _ _ l.invariant.1,
     )
-
-pub loop-j-preserved-then-stands_on : goal.loop-j-preserved-then-stands_on
-loop-j-preserved-then-stands_on c =
-    let i = c.loop-j.invariant in
-    (omega (arith, c.loop-j-test.true), move_one _ _ _ _ _ i.1 i.2 c.loop-j-test.true _ c.off-doing.ensures, i.2)
-
-pub loop-j-preserved : goal.loop-j-preserved
-loop-j-preserved c =
-    let i = c.loop-j.invariant in
-    let o = c.stands_on in
-    (omega (arith, c.loop-j-test.true), move_none _ _ _ _ _ i.1 i.2 c.loop-j-test.true (sym o.ensures ∙ c.if-stands_on.false), i.2)
 
 pub returns : goal.returns
 returns c = ended c.loop-k.invariant.0 c.loop-k-test.false

@@ -1,33 +1,22 @@
 -- `run_lent` meets its contract. The invariant is `SoFar` (Loop.antt): the records so far have done what the definition says. Each arm of the loop is
--- a law there. The inner loop moves the reads of the first j workers.
-use Rattle.std.specs.Prelude.{◌≡◌, ◌-◌, ◌≤◌, length}
-use Rattle.lists.proofs.Mapped.{mapped}
+-- a law there.
+use Rattle.std.specs.Prelude.{◌≡◌, ◌-◌, length}
 use Rattle.model.specs.Rules.{of_totals}
 use Rattle.versions.specs.Versions.{row_of}
 use Rattle.turns.specs.Parts.{parts}
-use Rattle.simulation.specs.Shell.{off_worker}
 use Rattle.hub_core.specs.Stretch.{site_of, memory_of, state_with}
 use Rattle.hub_core.proofs.Loop.{SoFar}
 use Rattle.hub_core.proofs.run_lent.Given as goal
-
-abbrev pub invariant-loop-j : goal.invariant-loop-j
-invariant-loop-j l =
-    (l.j ≤ 16) × (l.workers ≡ mapped (off_worker l.t.slot l.t.older) l.j l.initial.workers) × (length l.initial.workers ≡ 16)
-
-abbrev pub decreases-loop-j : goal.decreases-loop-j
-decreases-loop-j l =
-    16 - l.j
 
 abbrev pub invariant-loop-k : goal.invariant-loop-k
 invariant-loop-k l =
     SoFar (of_totals l.list) l.bytes l.from l.count l.k
     (λ n. state_with l.fixed.up
     (memory_of (site_of l.fixed n l.rows l.rights) l.initial.workers
-    (parts (row_of l.initial.row) l.initial.newest l.initial.free l.initial.queue l.initial.lens l.initial.merged l.initial.clock l.initial.counts l.initial.times l.initial.marks l.initial.reading)) l.initial.kinds l.initial.numbers l.initial.last)
+    (parts (row_of l.initial.row) l.initial.lent l.initial.running)) l.initial.kinds l.initial.numbers l.initial.last)
     (λ n. state_with l.fixed.up
-    (memory_of (site_of l.fixed n l.rows l.rights) l.workers (parts (row_of l.row) l.newest l.free l.queue l.lens l.merged l.clock l.counts l.times l.marks l.reading)) l.kinds l.numbers l.last)
+    (memory_of (site_of l.fixed n l.rows l.rights) l.workers (parts (row_of l.row) l.lent l.running)) l.kinds l.numbers l.last)
     × (length l.workers ≡ 16)
 
 abbrev pub decreases-loop-k : goal.decreases-loop-k
-decreases-loop-k l =
-    l.count - l.k
+decreases-loop-k l = l.count - l.k

@@ -1,22 +1,14 @@
-use Rattle.std.proofs.Common.{arith, refl, sym, ◌∙◌}
-use Rattle.marks.proofs.Reading.{passed-more, passed-found, passed-all}
+-- `is_read` meets its contract: what `contains` answers is `read_in` of the mark as it is shown.
+use Rattle.std.proofs.Common.{◌≡◌, ◌∙◌, refl, ap, Bool, ◌||◌, ℕ, List, [], ◌∷◌}
+use lib.Dec.{eqb}
+use Rattle.std.specs.List.{list_any}
+use Rattle.marks.specs.Marks.{shown_as, read_in}
 use Rattle.marks.proofs.is_read.Goals as goal
 
-pub loop-w-init : goal.loop-w-init
-loop-w-init c = refl
-
-pub returns-then-list-w : goal.returns-then-list-w
-returns-then-list-w c =
-    let s = c.args in
-    passed-found s.p s.reading.now s.m c.loop-w.w (omega arith) (c.if-list-w.true ∙ c.shown_as-shown.ensures) c.loop-w.invariant
-
-pub loop-w-preserved : goal.loop-w-preserved
-loop-w-preserved c =
-    let s = c.args in
-    let e = c.shown_as-shown.ensures in
-    passed-more s.p s.reading.now s.m c.loop-w.w (omega arith) (λ q. c.if-list-w.false (q ∙ sym e)) c.loop-w.invariant
+any-read_is : (m : ℕ) (l : List ℕ) → list_any (λ x. eqb x (shown_as m)) l ≡ read_in l m
+unfolding read_in
+any-read_is m [] = refl
+any-read_is m (x ∷ l) = ap (λ (b : Bool). eqb x (shown_as m) || b) (any-read_is m l)
 
 pub returns : goal.returns
-returns c =
-    let s = c.args in
-    passed-all s.p s.reading.now s.m c.loop-w.w (omega arith) c.loop-w.invariant
+returns c = rw c.shown_as.ensures at c.contains.ensures.value ∙ any-read_is c.args.m c.args.reading.now

@@ -1,25 +1,24 @@
 -- `follow` meets its contract: the finger stays where the high is between the times beside it, and else the times beside it are read anew.
 use native.Mathlib.Omega.{arith}
-use Rattle.times.proofs.FingerLaws.{moved_within, moved_behind}
-use Rattle.range_split.proofs.Fingers.{stays}
+use Rattle.range_split.proofs.Fingers.{stays, moved_to, moved_in, moved_past}
 use Rattle.range_split.proofs.follow.Goals as goal
 
-pub returns-then-finger-high : goal.returns-then-finger-high
-returns-then-finger-high c =
-    let a = c.args in
-    (c.requires.2, stays a.times.now a.t c.requires.0 c.requires.1 a.finger c.requires.2 a.high c.if-finger-high.true)
+pub returns-then-high-finger : goal.returns-then-high-finger
+returns-then-high-finger c = (c.requires.1, stays c.args.times.now c.requires.0 c.args.finger c.requires.1 c.args.high (omega arith) (omega arith))
 
 pub behind-requires : goal.behind-requires
 behind-requires c =
     let a = c.args in
     let e = c.move_finger-at.ensures in (
-      omega (arith, moved_within a.times.now a.t c.requires.0 a.high e, c.requires.0),
-      λ h. omega (arith, moved_behind a.times.now a.t c.requires.0 a.high e h, c.ranges),
+      moved_in a.times.now c.requires.0 a.high e,
+      λ h. omega (arith, moved_past a.times.now c.requires.0 a.high e h, c.ranges),
     )
 
 pub returns : goal.returns
 returns c =
-    let a = c.args in
+    let ts = c.args.times.now in
+    let up = c.requires.0 in
     let e = c.move_finger-at.ensures in
     let b = c.behind.ensures in
-    (record { within = moved_within a.times.now a.t c.requires.0 a.high e; none = b.0; last = b.1; next = c.next.ensures }, e)
+    let high = c.args.high in
+    (record { within = moved_in ts up high e; none = b.0; last = b.1; next = c.next.ensures }, moved_to ts up high e)

@@ -35,13 +35,13 @@ overflow_sub-most c = (sizes_tell _ _ (sym c.if-sizes_fit.ensures)).n.0
 pub workers_fit-d-requires : goal.workers_fit-d-requires
 workers_fit-d-requires c =
     let z = sizes_tell c.args.hub c.args.long (sym c.if-sizes_fit.ensures) in
-    let l = c.wide8-size.ensures in (
+    let l = c.from-size.ensures in (
       z.p.1,
       z.v.1,
       z.n.1,
       z.listed,
-      omega (arith, l.0, z.batch.1, c.at_most.ensures.0),
-      omega (arith, l.0, z.batch.1, c.at_most-then-sizes_fit.ensures.0),
+      omega (arith, l, z.batch.1, c.min.ensures),
+      omega (arith, l, z.batch.1, c.min-then-sizes_fit.ensures),
     )
 
 pub overflow_cast-hub : goal.overflow_cast-hub
@@ -54,30 +54,30 @@ returns-then-sizes_fit c =
     let a = c.args in
     let h = a.hub in
     let w = h.window in
-    let l : length a.newest.now ≡ 256 = search rules in
-    let m : length a.free.now ≡ 2048 = search rules in
-    let n : h.site.v ≤ length a.newest.now = omega (arith, l, z.v.1) in
-    let f : h.free ≤ length a.free.now = omega (arith, m, z.free, z.n.1) in
+    let l : length a.lent.now.newest ≡ 256 = search rules in
+    let m : length a.lent.now.free ≡ 2048 = search rules in
+    let n : h.site.v ≤ length a.lent.now.newest = omega (arith, l, z.v.1) in
+    let f : h.free ≤ length a.lent.now.free = omega (arith, m, z.free, z.n.1) in
     rw (
       ← c.if-sizes_fit.ensures,
       c.all_below-a.ensures,
       c.all_below-b.ensures,
       c.pools_fit-c.ensures,
-      pools-in w a.queue.now a.lens.now h.site.batch h.site.n (besides h) z.window (omega (arith, z.n.1)),
+      pools-in w a.lent.now.queue a.lent.now.lens h.site.batch h.site.n (besides h) z.window (omega (arith, z.n.1)),
       c.workers_fit-d.ensures,
       c.rows_below-e.ensures,
-      c.at_most.ensures.0,
-      c.at_most-then-sizes_fit.ensures.0,
-      c.wide8-size.ensures.0,
+      c.min.ensures,
+      c.min-then-sizes_fit.ensures,
+      c.from-size.ensures,
       le-leb _ _ n,
       le-leb _ _ f,
       le-leb _ _ z.listed,
     )
     (regroup
-    (below_to a.newest.now h.site.n h.site.v && below_to a.free.now h.site.n h.free)
-    (slots_below a.queue.now w.from h.site.n w.queued && lens_fit a.lens.now w.first (2 * h.site.batch) w.pools)
-    (eqb (lens_sum a.lens.now w.first w.pools) w.queued)
-    (workers_fit h a.merged.now (min h.site.batch (besides h)) (min (4 * h.site.batch) (besides h)) h.site.p)
+    (below_to a.lent.now.newest h.site.n h.site.v && below_to a.lent.now.free h.site.n h.free)
+    (slots_below a.lent.now.queue w.from h.site.n w.queued && lens_fit a.lent.now.lens w.first (2 * h.site.batch) w.pools)
+    (eqb (lens_sum a.lent.now.lens w.first w.pools) w.queued)
+    (workers_fit h a.lent.now.merged (min h.site.batch (besides h)) (min (4 * h.site.batch) (besides h)) h.site.p)
     (rows_below h.site.rows h.site.v h.site.listed && a.linked))
 
 pub returns : goal.returns

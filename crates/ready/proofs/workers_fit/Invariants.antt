@@ -4,4 +4,4 @@ use Rattle.ready.specs.Ready.{workers_fit}
 use Rattle.ready.proofs.workers_fit.Given as goal
 
 abbrev pub invariant-loop-w : goal.invariant-loop-w
-invariant-loop-w l = l.ok ≡ workers_fit l.hub l.merged l.local l.list l.w
+invariant-loop-w l = l.ok ≡ workers_fit l.fn.hub l.merged l.local l.list l.w

@@ -3,5 +3,5 @@ use mathlib.Core.Path.{◌≡◌}
 use Rattle.ready_queue.specs.Queue.{lens_fit}
 use Rattle.ready_queue.proofs.lens_fit.Given as goal
 
-abbrev pub invariant-loop-j : goal.invariant-loop-j
-invariant-loop-j l = l.ok ≡ lens_fit l.lens l.i l.most l.j
+abbrev pub invariant-loop-x : goal.invariant-loop-x
+invariant-loop-x l = l.ok ≡ lens_fit l.lens l.i l.most l.x-index

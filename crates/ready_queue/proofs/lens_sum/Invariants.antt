@@ -4,5 +4,5 @@ use Prim.Native.Nat.{◌*◌, ◌≤◌}
 use Rattle.ready_queue.specs.Queue.{lens_sum}
 use Rattle.ready_queue.proofs.lens_sum.Given as goal
 
-abbrev pub invariant-loop-j : goal.invariant-loop-j
-invariant-loop-j l = (l.sum ≡ lens_sum l.lens l.i l.j) × (l.sum ≤ 4294967296 * l.j)
+abbrev pub invariant-loop-x : goal.invariant-loop-x
+invariant-loop-x l = (l.sum ≡ lens_sum l.lens l.i l.x-index) × (l.sum ≤ 4294967296 * l.x-index)

@@ -4,4 +4,4 @@ use Rattle.ready_sizes.proofs.sizes_fit.Goals as goal
 
 pub returns : goal.returns
 unfolding sizes_fit
-returns c = rw (c.window_fits.ensures, c.besides-most.ensures)
+returns c = rw (c.window_fits.ensures, c.saturating_sub-most.ensures)

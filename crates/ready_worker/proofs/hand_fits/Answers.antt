@@ -7,10 +7,10 @@ pub returns-then-w-ge16 : goal.returns-then-w-ge16
 unfolding hand_fits
 returns-then-w-ge16 c = rw (le-leb _ _ c.if-w-ge16.true)
 
-pub returns-in-Nothing : goal.returns-in-Nothing
+pub returns-in-None : goal.returns-in-None
 unfolding hand_fits
-returns-in-Nothing c = rw (lt-leb _ _ c.if-w-ge16.false, c.in-Nothing.is)
+returns-in-None c = rw (lt-leb _ _ c.if-w-ge16.false, c.in-None.is)
 
-pub returns-in-Is : goal.returns-in-Is
+pub returns-in-Some : goal.returns-in-Some
 unfolding hand_fits
-returns-in-Is c = rw (lt-leb _ _ c.if-w-ge16.false, c.in-Is.is, c.list_fits.ensures)
+returns-in-Some c = rw (lt-leb _ _ c.if-w-ge16.false, c.in-Some.is, c.list_fits.ensures)

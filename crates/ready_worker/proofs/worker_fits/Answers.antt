@@ -13,4 +13,5 @@ returns c =
       c.place_fits.ensures,
       c.pool_fits.ensures,
       c.hand_fits.ensures,
+      c.from.ensures,
     )

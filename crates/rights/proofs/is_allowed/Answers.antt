@@ -3,7 +3,8 @@ use mathlib.Core.Path.{◌≡◌, sym, ◌∙◌}
 use mathlib.Core.List.{List}
 use Prim.Native.Nat.{ℕ, ◌<◌}
 use native.Mathlib.Omega.{arith}
-use lib.ListN.{length, take, length-take}
+use lib.ListN.{length}
+use Rattle.std.proofs.Common.{rules}
 use Rattle.model.specs.Rights.{has, allowed}
 use Rattle.rights.specs.declared.Needed.{Needed}
 use Rattle.rights.specs.Needs.{permission_of, needed_in}
@@ -17,7 +18,7 @@ asked t rows v w x q h e = rw e (with_rows t v w _ h)
 
 pub returns-in-On : goal.returns-in-On
 returns-in-On c =
-    let s = c.args in
-    let p = permission_of c.in-On.permission in
-    c.may.ensures
-    ∙ sym (asked (take c.args.n c.args.rights.now) _ _ _ _ _ (omega (arith, length-take c.args.n c.args.rights.now)) c.in-On.is ∙ on_one (take s.n s.rights.now) s.w p c.in-On.register)
+    let t = c.args.tables in
+    let some : 0 < length t.rights.now = grind (arith, rules) in
+    rw c.from.ensures at c.may.ensures
+    ∙ sym (asked t.rights.now _ _ _ _ _ some c.in-On.is ∙ on_one t.rights.now c.args.w (permission_of c.in-On.permission) c.in-On.register)

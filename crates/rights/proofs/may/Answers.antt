@@ -1,35 +1,21 @@
--- `may` meets its contract. The invariant: no row before i gives the right.
-use mathlib.Core.Path.{◌≡◌, sym, ◌∙◌}
-use mathlib.Core.Bool.{Bool}
-use mathlib.Core.List.{List, ◌∷◌}
-use Prim.Native.Nat.{ℕ, ◌+◌, ◌<◌}
-use native.Mathlib.Omega.{arith}
-use lib.ListN.{length, get_or, take, drop, length-take}
-use lib.Seq.{get_or-take}
+-- `may` meets its contract: what `any` answers is the model's `any_of` of the same test.
+use Rattle.std.proofs.Common.{◌≡◌, ◌∙◌, refl, ap, Bool, ◌||◌, ℕ, List, [], ◌∷◌, rules, tests}
+use Rattle.std.specs.List.{list_any}
+use Rattle.std.proofs.lemmas.Iterator.{YieldsList-from_slice}
+use Rattle.std.proofs.lemmas.Iterator.Search.{any_from_yields_List}
 use Rattle.model.specs.Rights.{any_of}
 use Rattle.rights.specs.Needs.{permission_of}
 use Rattle.rights.specs.Places.{gives_in}
-use Rattle.rights_table.proofs.Scan.{Passed, turn, passed-all, any_none, any_here, any-behind}
 use Rattle.rights.proofs.may.Goals as goal
 
--- the row that was read decides, or the rows behind it
-looked : (f : ℕ → Bool) (n i : ℕ) (rows : List ℕ) → i < length (take n rows) → i < n → Passed (any_of f) (take n rows) i
-    → any_of f (take n rows) ≡ any_of f (get_or rows i 0 ∷ drop (i + 1) (take n rows))
-looked f n i rows h k p = turn (any_of f) (take n rows) i _ h (sym (get_or-take n rows i 0 k)) p
-
-pub returns-then-gives : goal.returns-then-gives
-returns-then-gives c = sym (looked _ c.args.n c.loop-i.i c.args.rights.now (omega (arith, length-take c.args.n c.args.rights.now)) (omega arith) c.loop-i.invariant.1
-    ∙ any_here _ _ _ (sym c.gives.ensures ∙ c.if-gives.true))
-
-pub loop-i-preserved : goal.loop-i-preserved
-loop-i-preserved c = (
-  omega arith,
-  looked _ c.args.n c.loop-i.i c.args.rights.now (omega (arith, length-take c.args.n c.args.rights.now)) (omega arith) c.loop-i.invariant.1
-      ∙ any-behind _ _ _ (sym c.gives.ensures ∙ c.if-gives.false),
-)
+any-of_is : (f : ℕ → Bool) (l : List ℕ) → list_any f l ≡ any_of f l
+unfolding any_of
+any-of_is f [] = refl
+any-of_is f (x ∷ l) = ap (λ (b : Bool). f x || b) (any-of_is f l)
 
 pub returns : goal.returns
 returns c =
     let s = c.args in
-    let f = gives_in s.w (permission_of s.p) s.place in
-    sym (passed-all (any_of f) (take s.n s.rights.now) c.loop-i.i (omega (arith, length-take s.n s.rights.now)) c.loop-i.invariant.1 ∙ any_none f)
+    let f = gives_in s.w (permission_of s.p) s.register in
+    any_from_yields_List f _ _ _ c.any.ensures.ran (YieldsList-from_slice s.rights.now cc) (λ x b q k. search (rules, tests))
+    ∙ any-of_is f s.rights.now

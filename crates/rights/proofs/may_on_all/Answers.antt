@@ -5,7 +5,7 @@ use mathlib.Core.List.{List, ◌∷◌}
 use Prim.Native.Nat.{ℕ, ◌+◌, ◌≤◌, ◌<◌}
 use native.Mathlib.Nat.{zero-add}
 use native.Mathlib.Omega.{arith}
-use lib.ListN.{length, take, drop}
+use lib.ListN.{length, drop}
 use Rattle.model.specs.Store.{up_from}
 use Rattle.model.specs.Rights.{may_on, may_on_each}
 use Rattle.rights.specs.Needs.{permission_of}
@@ -20,18 +20,18 @@ looked F v r h p = turn F (up_from 0 v) r _ (omega (arith, length_up 0 v)) (sym 
 pub returns-then-not-may : goal.returns-then-not-may
 returns-then-not-may c =
     let s = c.args in
-    let f = may_on (take s.n s.rights.now) s.w (permission_of s.p) in
-    sym (looked (may_on_each (take s.n s.rights.now) s.w (permission_of s.p)) c.args.v c.loop-r.r (omega arith) c.loop-r.invariant.1 ∙ each-fails f _ _ (sym c.may.ensures ∙ c.if-not-may.true))
+    let f = may_on s.rights.now s.w (permission_of s.p) in
+    sym (looked (may_on_each s.rights.now s.w (permission_of s.p)) c.args.v c.loop-r.r (omega arith) c.loop-r.invariant.1 ∙ each-fails f _ _ (sym c.may.ensures ∙ c.if-not-may.true))
 
 pub loop-r-preserved : goal.loop-r-preserved
 loop-r-preserved c =
     let s = c.args in
-    let f = may_on (take s.n s.rights.now) s.w (permission_of s.p) in
-    (omega arith, looked (may_on_each (take s.n s.rights.now) s.w (permission_of s.p)) c.args.v c.loop-r.r (omega arith) c.loop-r.invariant.1 ∙ each-behind f _ _ (sym c.may.ensures ∙ c.if-not-may.false))
+    let f = may_on s.rights.now s.w (permission_of s.p) in
+    (omega arith, looked (may_on_each s.rights.now s.w (permission_of s.p)) c.args.v c.loop-r.r (omega arith) c.loop-r.invariant.1 ∙ each-behind f _ _ (sym c.may.ensures ∙ c.if-not-may.false))
 
 pub returns : goal.returns
 returns c =
     let s = c.args in
-    let t = take s.n s.rights.now in
+    let t = s.rights.now in
     let e : length (up_from 0 s.v) ≤ c.loop-r.r = omega (arith, length_up 0 s.v) in
     sym (passed-all (may_on_each t s.w (permission_of s.p)) (up_from 0 s.v) c.loop-r.r e c.loop-r.invariant.1 ∙ each_none _)

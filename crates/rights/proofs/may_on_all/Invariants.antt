@@ -1,6 +1,5 @@
 -- `may_on_all` meets its contract. The invariant: the worker has the right on each register before r.
 use Prim.Native.Nat.{◌≤◌}
-use lib.ListN.{take}
 use Rattle.model.specs.Store.{up_from}
 use Rattle.model.specs.Rights.{may_on_each}
 use Rattle.rights.specs.Needs.{permission_of}
@@ -8,4 +7,4 @@ use Rattle.rights_table.proofs.Scan.{Passed}
 use Rattle.rights.proofs.may_on_all.Given as goal
 
 abbrev pub invariant-loop-r : goal.invariant-loop-r
-invariant-loop-r l = (l.r ≤ l.v) × Passed (may_on_each (take l.n l.rights) l.w (permission_of l.p)) (up_from 0 l.v) l.r
+invariant-loop-r l = (l.r ≤ l.v) × Passed (may_on_each l.rights l.w (permission_of l.p)) (up_from 0 l.v) l.r

@@ -9,7 +9,7 @@ use Rattle.lists.specs.Over.{over}
 use Rattle.le.proofs.Numbers.{number-there}
 use Rattle.lists.proofs.Over.{over-nil}
 use Rattle.model.specs.Rights.{table_of}
-use Rattle.bounds.proofs.Room.{take-room}
+use Rattle.std.proofs.lemmas.List.{take_min}
 use Rattle.rights_table.proofs.Given.{length-table, filled_more}
 use Rattle.rights_table.proofs.fill_table.Goals as goal
 
@@ -27,7 +27,6 @@ returns c =
     let a = c.args in
     let d = a.rights.now in
     let rows = table_of a.table.now in
-    let long : length d ≡ 64 = omega arith in
-    let e : c.loop-i.i ≡ min (length rows) (length d) = rw (length-table a.table.now) (omega arith) in
+    let e : c.loop-i.i ≡ min 64 (length rows) = rw (length-table a.table.now) (omega arith) in
     c.loop-i.invariant.1
-    ∙ ap (λ (q : List ℕ). over q d) (take-room rows d _ e ∙ ap (λ (k : ℕ). take k rows) long)
+    ∙ ap (λ (q : List ℕ). over q d) (ap (λ (k : ℕ). take k rows) e ∙ take_min 64 rows)

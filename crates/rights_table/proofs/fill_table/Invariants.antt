@@ -7,4 +7,4 @@ use Rattle.model.specs.Rights.{table_of}
 use Rattle.rights_table.proofs.fill_table.Given as goal
 
 abbrev pub invariant-loop-i : goal.invariant-loop-i
-invariant-loop-i l = (l.i ≤ l.room) × (l.to ≡ over (take l.i (table_of l.table)) l.initial.to) × (length l.to ≡ length l.initial.to)
+invariant-loop-i l = (l.i ≤ l.i-end) × (l.rights ≡ over (take l.i (table_of l.table)) l.initial.rights) × (length l.rights ≡ length l.initial.rights)

@@ -4,4 +4,4 @@ use Rattle.std.proofs.lemmas.List.{length-replicate}
 use Rattle.rows.proofs.with_buffer.Goals as goal
 
 pub slice_bounds-run-end : goal.slice_bounds-run-end
-slice_bounds-run-end c = sym (length-replicate {A = ℕ} 4194305 0)
+slice_bounds-run-end g c = sym (length-replicate {A = ℕ} 4194305 0)

@@ -10,4 +10,4 @@ pub loop-i-preserved : goal.loop-i-preserved
 loop-i-preserved c =
     let l = c.loop-i in
     let a = c.args in
-    rw c.wide.ensures (one_range a.q a.out.now l.out l.i l.invariant (omega arith))
+    rw (c.put_range.ensures, c.from.ensures) (one_range a.q a.out.now l.out l.i l.invariant (omega arith))

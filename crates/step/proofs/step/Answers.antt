@@ -5,7 +5,7 @@ use Rattle.step.proofs.step.Goals as goal
 
 pub returns-in-Idle : goal.returns-in-Idle
 unfolding step_of
-returns-in-Idle c = rw (c.outcome_of.ensures, c.in-Idle.is)
+returns-in-Idle c = rw (c.stopped.ensures, c.in-Idle.is)
 
 pub returns-in-PutPublish : goal.returns-in-PutPublish
 unfolding step_of

@@ -4,7 +4,6 @@
 use mathlib.Core.Path.{◌≡◌}
 use mathlib.Core.Bool.{true}
 use lib.Dec.{leb}
-use lib.ListN.{take}
 use borrow.Author.Tests.{le-leb, lt-leb}
 use Rattle.model.specs.Rules.{twelve_digits}
 use Rattle.model.specs.Totals.{row_at}
@@ -14,7 +13,7 @@ use Rattle.total_sums.specs.Sums.{sum_with}
 use Rattle.step.proofs.Totals.{total_refused, total_next, total_answered}
 use mathlib.Core.List.{List}
 use Prim.Native.Nat.{ℕ, ◌≤◌}
-use Rattle.values.specs.declared.Content.{Content}
+use Rattle.values.specs.Meaning.{Content}
 use Rattle.worker.specs.declared.Sum.{Sum}
 use Rattle.step.proofs.total_found.Goals as goal
 
@@ -29,14 +28,14 @@ sums sum rows i w x y more e f g = rw (e, f, g)
 pub returns-then-goes_on : goal.returns-then-goes_on
 returns-then-goes_on c =
     total_next _ _ _ _ (fits c.args.x _ c.count_of.ensures c.if-count_of-le999999999999.true)
-    (sums c.args.sum (take c.args.listed c.args.rows.now) c.args.i _ c.args.x _ _ c.sum_with-more.ensures c.row_at.ensures c.wide.ensures) c.goes_on.ensures c.if-goes_on.true c.wide-then-goes_on.ensures
+    (sums c.args.sum c.args.rows.now c.args.i _ c.args.x _ _ c.sum_with-more.ensures c.row_at.ensures c.from.ensures) c.goes_on.ensures c.if-goes_on.true c.from-then-goes_on.ensures
     c.goal_at-goal.ensures c.outcome_of.ensures
 
 pub returns-then-count_of-le999999999999 : goal.returns-then-count_of-le999999999999
 returns-then-count_of-le999999999999 c =
     total_answered _ _ _ _ _ (fits c.args.x _ c.count_of.ensures c.if-count_of-le999999999999.true)
-    (sums c.args.sum (take c.args.listed c.args.rows.now) c.args.i _ c.args.x _ _ c.sum_with-more.ensures c.row_at.ensures c.wide.ensures) c.goes_on.ensures c.if-goes_on.false c.signed-answer.ensures
+    (sums c.args.sum c.args.rows.now c.args.i _ c.args.x _ _ c.sum_with-more.ensures c.row_at.ensures c.from.ensures) c.goes_on.ensures c.if-goes_on.false c.signed-answer.ensures
     c.outcome_of-then-count_of-le999999999999.ensures
 
 pub returns : goal.returns
-returns c = total_refused _ _ _ _ _ (rw (← c.count_of.ensures) (lt-leb _ _ c.if-count_of-le999999999999.false)) c.outcome_of-2.ensures
+returns c = total_refused _ _ _ _ _ (rw (← c.count_of.ensures) (lt-leb _ _ c.if-count_of-le999999999999.false)) c.stopped.ensures

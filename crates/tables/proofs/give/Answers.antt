@@ -2,7 +2,7 @@
 use mathlib.Core.Path.{refl}
 use mathlib.Core.Bool.{true, false}
 use Rattle.versions.specs.Versions.{row_of}
-use Rattle.simulation.specs.Memory.{memory}
+use Rattle.simulation.specs.Lent.{lent_memory}
 use Rattle.tables.proofs.Given.{tested, late, taken, of_table}
 use Rattle.tables.proofs.give.Goals as goal
 
@@ -10,11 +10,11 @@ use Rattle.tables.proofs.give.Goals as goal
 pub returns-then-ready : goal.returns-then-ready
 returns-then-ready c =
     let a = c.args in
-    let up = tested a.hub a.row.now a.newest.now a.free.now a.queue.now a.lens.now a.merged.now true _
+    let up = tested a.hub a.row.now a.lent.now true _
     c.all_linked-linked.ensures c.if-ready.ensures in
     record {
       gives = of_table a.table _ _ _ _
-          (late (memory a.hub (row_of a.row.now) a.newest.now a.free.now a.queue.now a.lens.now a.merged.now) a.bytes.now true up refl);
+          (late (lent_memory a.hub (row_of a.row.now) a.lent.now) a.bytes.now true _ up refl c.number.ensures);
       count = refl;
     }
 
@@ -22,11 +22,11 @@ pub returns : goal.returns
 returns c =
     let a = c.args in
     let r = c.give_rights in
-    let up = tested a.hub a.row.now a.newest.now a.free.now a.queue.now a.lens.now a.merged.now false _
+    let up = tested a.hub a.row.now a.lent.now false _
     c.all_linked-linked.ensures c.if-ready.ensures in
     record {
       gives = of_table a.table _ _ _ _
-          (taken (memory a.hub (row_of a.row.now) a.newest.now a.free.now a.queue.now a.lens.now a.merged.now) a.bytes.now false r.result up refl
+          (taken (lent_memory a.hub (row_of a.row.now) a.lent.now) a.bytes.now false r.result up refl
           r.ensures);
       count = r.ensures.count;
     }

@@ -1,7 +1,7 @@
 -- `fill_rows` meets its contract. The invariant: the first i rows of the list have replaced the first i entries.
 use mathlib.Core.Path.{◌≡◌, sym, ap, ◌∙◌}
 use mathlib.Core.List.{List}
-use Prim.Native.Nat.{ℕ, ◌*◌}
+use Prim.Native.Nat.{ℕ, ◌*◌, min}
 use native.Mathlib.Omega.{arith}
 use lib.ListN.{length, take}
 use borrow.Author.Rules.{rules}
@@ -10,7 +10,7 @@ use Rattle.le.proofs.Numbers.{number-there}
 use Rattle.lists.proofs.Over.{over-nil}
 use Rattle.model.specs.Record.{rows_of}
 use Rattle.total_list.proofs.Listed.{length-rows, filled_more}
-use Rattle.total_row.proofs.Kept.{take-room}
+use Rattle.std.proofs.lemmas.List.{take_min}
 use Rattle.total_list.proofs.fill_rows.Goals as goal
 
 pub loop-i-init : goal.loop-i-init
@@ -27,7 +27,6 @@ returns c =
     let a = c.args in
     let d = a.rows.now in
     let rows = rows_of a.list.now in
-    let long : length d ≡ 1024 = omega arith in
-    let e : c.loop-i.i ≡ length (take (length rows) d) = rw (length-rows a.list.now) (omega arith) in
+    let e : c.loop-i.i ≡ min 1024 (length rows) = rw (length-rows a.list.now) (omega arith) in
     c.loop-i.invariant.1
-    ∙ ap (λ (q : List ℕ). over q d) (ap (λ (k : ℕ). take k rows) e ∙ take-room rows d ∙ ap (λ (k : ℕ). take k rows) long)
+    ∙ ap (λ (q : List ℕ). over q d) (ap (λ (k : ℕ). take k rows) e ∙ take_min 1024 rows)

@@ -7,4 +7,4 @@ use Rattle.model.specs.Record.{rows_of}
 use Rattle.total_list.proofs.fill_rows.Given as goal
 
 abbrev pub invariant-loop-i : goal.invariant-loop-i
-invariant-loop-i l = (l.i ≤ l.room) × (l.to ≡ over (take l.i (rows_of l.list)) l.initial.to) × (length l.to ≡ length l.initial.to)
+invariant-loop-i l = (l.i ≤ l.i-end) × (l.rows ≡ over (take l.i (rows_of l.list)) l.initial.rows) × (length l.rows ≡ length l.initial.rows)

@@ -22,9 +22,9 @@ returns-then-list-ne0 c =
     let s = c.args in
     rw (ne_eqb (length s.list.now % 4) 0 (λ e. absurd (omega (arith, e))))
 
-pub returns-else-may_follow : goal.returns-else-may_follow
+pub returns-then-not-may_follow : goal.returns-then-not-may_follow
 unfolding list_fits
-returns-else-may_follow c =
+returns-then-not-may_follow c =
     let s = c.args in
     let l = c.loop-i in
     let inside : l.i < length s.list.now / 4 = omega arith in
@@ -35,7 +35,7 @@ returns-else-may_follow c =
       stand = c.rows_before-stand.ensures.0;
       test = c.may_follow.ensures;
     } in
-    rw (failed _ _ t c.if-may_follow.false, and-false)
+    rw (failed _ _ t c.if-not-may_follow.true, and-false)
 
 pub loop-i-preserved : goal.loop-i-preserved
 loop-i-preserved c =
@@ -49,7 +49,7 @@ loop-i-preserved c =
       stand = c.rows_before-stand.ensures.0;
       test = c.may_follow.ensures;
     } in
-    (omega arith, omega arith, passed-more _ _ t _ c.group_of-group.ensures c.if-may_follow.true)
+    (omega arith, omega arith, passed-more _ _ t _ c.group_of-group.ensures c.if-not-may_follow.false)
 
 pub returns : goal.returns
 unfolding list_fits

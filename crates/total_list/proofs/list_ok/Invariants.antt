@@ -5,4 +5,4 @@ use Rattle.total_list.proofs.Follow.{Passed}
 use Rattle.total_list.proofs.list_ok.Given as goal
 
 abbrev pub invariant-loop-i : goal.invariant-loop-i
-invariant-loop-i l = (l.i ≤ l.rows) × (l.last ≤ l.i) × Passed l.v (rows_of l.list) l.group l.last l.i
+invariant-loop-i l = (l.i ≤ l.i-end) × (l.last ≤ l.i) × Passed l.v (rows_of l.list) l.group l.last l.i

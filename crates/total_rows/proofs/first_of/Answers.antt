@@ -1,25 +1,23 @@
-use mathlib.Core.Path.{◌≡◌, sym, ◌∙◌}
-use native.Mathlib.Omega.{arith}
-use Rattle.total_rows.proofs.First.{passed_none, passed-more, passed-found, passed-all}
+-- `first_of` meets its contract: what `position` answers is the model's `first_of` of the same test.
+use Rattle.std.proofs.Common.{◌≡◌, ◌∙◌, refl, ap, cond, ltb, length, ℕ, suc, ◌+◌, arith, Bool, true, false, not, Some, None, List, [], ◌∷◌, rules, tests}
+use Rattle.std.specs.List.{position_or_len}
+use Rattle.std.proofs.lemmas.Iterator.{YieldsList-from_slice}
+use Rattle.std.proofs.lemmas.Iterator.Search.{position_from_yields_List}
+use lib.Dec.{eqb}
+use Rattle.model.specs.Totals.{group_of, first_of}
 use Rattle.total_rows.proofs.first_of.Goals as goal
 
-pub loop-i-init : goal.loop-i-init
-loop-i-init c = let s = c.args in passed_none s.n s.rows.now s.group
+one-more : (b : Bool) {n m : ℕ} → n ≡ m → cond (not b) (1 + n) 0 ≡ cond b 0 (suc m)
+one-more true e = refl
+one-more false e = omega (arith, e)
 
-pub returns-then-group_of-group : goal.returns-then-group_of-group
-returns-then-group_of-group c =
-    let s = c.args in
-    let own = sym c.group_of.ensures ∙ c.if-group_of-group.true in
-    (passed-found s.n s.rows.now s.group c.loop-i.i (omega arith) own c.loop-i.invariant, omega arith)
-
-pub loop-i-preserved : goal.loop-i-preserved
-loop-i-preserved c =
-    let s = c.args in
-    let p = c.loop-i.invariant in
-    passed-more s.n s.rows.now s.group c.loop-i.i (omega arith) (λ e. c.if-group_of-group.false (c.group_of.ensures ∙ e)) p
+first-of_is : (g : ℕ) (l : List ℕ) → position_or_len (λ x. eqb (group_of x) g) l ≡ first_of g l
+unfolding first_of
+first-of_is g [] = refl
+first-of_is g (x ∷ l) = one-more (eqb (group_of x) g) (first-of_is g l)
 
 pub returns : goal.returns
 returns c =
     let s = c.args in
-    let e : c.loop-i.i ≡ c.counted-most.result = omega arith in
-    (sym e ∙ passed-all s.n s.rows.now s.group c.loop-i.i (omega arith) c.loop-i.invariant, omega arith)
+    position_from_yields_List (λ x. eqb (group_of x) s.group) _ _ _ c.position.ensures.ran (YieldsList-from_slice s.rows.now cc) (λ x b q k. search (rules, tests))
+    ∙ ap (λ (n : ℕ). cond (ltb n (length s.rows.now)) (Some n) None) (first-of_is s.group s.rows.now)
