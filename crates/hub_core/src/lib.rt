@@ -153,6 +153,7 @@ fn run_lent<'a>(
         last = put_answer(kinds, numbers, k, t.said);
         k += 1;
         let doing = t.doing;
+        // By a match and not by closures: each arm changes another part of what is lent.
         match t.arm {
             Arm::Says => {}
             Arm::Sets => {
@@ -338,6 +339,7 @@ fn refuse_rest(
 {
     let said = answers::say(Answer::No(Refusal::CutOff.number()));
     let mut last = first;
+    // By index: an answer goes into two rows.
     for k in from..count {
         last = put_answer(kinds, numbers, k, said);
     }
@@ -384,6 +386,7 @@ pub fn run(
     let mut hub = start;
     let mut last = Answer::Ok;
     let mut k: usize = 0;
+    // No `for`: a stretch says where it ends.
     while k < whole {
         let e = run_stretch(
             row, hub, up, last, list, bytes, k, whole, kinds, numbers, lent,

@@ -34,7 +34,7 @@ fn has_room(w: Window, n: usize) -> bool
 }
 
 // Queues src's first n ranges as a pool; an empty pool is not queued, nor one without room. The queue comes in three parameters: two are pieces
-// of the caller's fixed lent memory, and the window is kept among its counts.
+// of the caller's fixed lent memory, and the window is a part of the hub.
 #[tactic(auto, unfolding(crate::specs::State::lies, crate::specs::State::room, crate::specs::State::pushed))]
 pub fn push(
     queue: &mut [u32; 12288],

@@ -333,6 +333,7 @@ pub fn step<'a>(
         marks.now
         reading.now }
 {
+    // By a match and not by closures: a place is a value in lent memory, of which the theorem speaks.
     match d {
         Doing::Idle => Next::Taken(stopped(Refusal::Idle, t, clock, n)),
         Doing::PutPublish { register, reading } => {

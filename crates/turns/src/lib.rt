@@ -1,5 +1,5 @@
-// A turn: what one record does to lent memory, and what it leaves to the loop, which holds the workers' records. Everything that lies in arrays of
-// numbers is changed here; the worker's place, its announced time and its pool are the loop's.
+// A turn: what one record does to lent memory, and what it leaves to the loop, which holds the workers' records. What is lent and what runs of
+// the hub are changed here; the worker's place, its announced time and its pool are the loop's.
 #![tactic(auto)]
 
 ghost use Rattle.std.specs.Prelude.{◌≡◌, ◌+◌, ◌<◌, ◌≤◌, ◌%◌, length, set, take};
@@ -310,6 +310,7 @@ fn go(
         &running.marks,
         counting(&running.reading, fixed.p),
     );
+    // By a match and not by closures: what is left of a step is a value, of which the contract speaks.
     match s {
         Next::Taken(o) => taken(running, w, d, o),
         Next::HandIn { covered } => hand_in(row, x.pool.len, covered, fixed.batch),
