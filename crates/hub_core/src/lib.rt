@@ -395,7 +395,17 @@ pub fn run(
         last = e.last;
         match e.made {
             Some(z) => {
-                hub = setup::set_up(e.hub, row, lent, list, z.p, z.v, z.n, z.clock);
+                hub = setup::set_up(
+                    e.hub,
+                    row,
+                    &mut lent.newest,
+                    &mut lent.free,
+                    list,
+                    z.p,
+                    z.v,
+                    z.n,
+                    z.clock,
+                );
                 up = true;
             }
             None => {

@@ -18,7 +18,7 @@ pub struct Logged {
 }
 
 // Applies the records of a part of the input, the first of which has the number `first`, and writes their lines from the start of the text. The
-// slots are a lent row of words. Each row that is lent is a parameter of its own, as in `records::apply_all`: memory is fixed and lent.
+// slots are a lent row of words. Rows that are lent with any length are parameters of their own, as in `records::apply_all`: memory is fixed.
 // No line is lost: as many records are applied as there is room for, with 70 bytes of text, a kind and a number for each.
 pub fn log_part(
     row: &mut [[u64; 6]],

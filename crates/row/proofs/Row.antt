@@ -1,14 +1,19 @@
 -- Sixteen bytes that are written into the lent buffer.
-use mathlib.Core.Path.{◌≡◌, refl}
+use mathlib.Core.Path.{◌≡◌, refl, ap}
 use mathlib.Core.List.{List, ◌++◌, append_assoc}
-use Prim.Native.Nat.{ℕ, ◌+◌, ◌-◌, ◌<◌}
+use Prim.Native.Nat.{ℕ, zero, suc, ◌+◌, ◌-◌, ◌/◌, ◌<◌}
 use native.Mathlib.Nat.{mod-eq_of_lt}
 use native.Mathlib.Omega.{arith}
-use lib.ListN.{take, drop, set, replicate}
+use lib.ListN.{length, take, drop, set, replicate}
 use lib.Seq.{drop-drop}
 use borrow.Rule.Slice.PartMut.{put_mid}
 use Rattle.model.specs.Store.{Reading}
 use Rattle.model.specs.Row.{bytes_of, row_bytes}
+
+-- a number in n bytes has n of them
+pub length-bytes_of : (n x : ℕ) → length (bytes_of n x) ≡ n
+length-bytes_of zero x = refl
+length-bytes_of (suc n) x = ap suc (length-bytes_of n (x / 256))
 
 -- sixteen bytes that were lent on from place i come back
 pub row_back : (buf part row : List ℕ) (i : ℕ) → part ≡ row

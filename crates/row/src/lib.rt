@@ -1,7 +1,7 @@
 // The read-out row: H9 of docs/HUB.md.
 #![tactic(auto)]
 
-ghost use Rattle.std.specs.Prelude.{◌≡◌};
+ghost use Rattle.std.specs.Prelude.{◌≡◌, length};
 ghost use Rattle.model.specs.Row.{row_bytes, write_row};
 ghost use Rattle.values.specs.Meaning.{content_of, reading_of};
 ghost use Rattle.row.specs.Meaning.{row_answer_of};
@@ -26,6 +26,14 @@ fn row_bytes(register: u16, time: u32, reading: Reading) -> [u8; 16]
     row[4..8].copy_from_slice(&time.to_le_bytes());
     row[8..].copy_from_slice(&reading.count.to_le_bytes());
     row
+}
+
+// Fills the sixteen bytes of a row, which are lent on to it as a part of the buffer.
+fn put_row(row: &mut [u8], register: u16, time: u32, reading: Reading)
+    requires { length row.old ≡ 16 }
+    ensures { row.new ≡ row_bytes register time (reading_of reading) }
+{
+    row.copy_from_slice(&row_bytes(register, time, reading));
 }
 
 // Writes the row of a register into the lent buffer. A refusal, or no reading, leaves the buffer untouched.
@@ -53,6 +61,6 @@ pub fn write_row(
     if reading.status > 2 {
         return Err(Refusal::UnknownStatus);
     }
-    out[at..e].copy_from_slice(&row_bytes(register, time, reading));
+    put_row(&mut out[at..e], register, time, reading);
     Ok(Outcome::Written)
 }

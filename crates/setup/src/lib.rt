@@ -8,7 +8,7 @@ ghost use Rattle.state.specs.State.{fresh_hub, site_made};
 ghost use Rattle.arrays.specs.Arrays.{short, fill_to};
 ghost use Rattle.versions.specs.Versions.{row_of};
 
-use state::{Hub, Lent, Site};
+use state::{Hub, Site};
 
 // H15.9: how many rows of rights a setup keeps: those that count, where they are a table.
 fn kept_rows(rights: &[u64; 64], granted: usize) -> usize
@@ -21,11 +21,12 @@ fn kept_rows(rights: &[u64; 64], granted: usize) -> usize
 }
 
 // A setup that is accepted: the hub with the batch size for p workers, the rows of the list of totals and the table of rights that stands in the old
-// one, its newest versions, free slots and slots.
+// one, its newest versions, free slots and slots. It is lent these two arrays alone, since it leaves the others as they are.
 pub fn set_up(
     old: Hub,
     row: &mut [[u64; 6]],
-    lent: &mut Lent,
+    newest: &mut [u16; 256],
+    free: &mut [u16; 2048],
     list: &[u8],
     p: u8,
     v: u16,
@@ -34,9 +35,8 @@ pub fn set_up(
 ) -> Hub
     ensures value { result ≡ fresh_hub (site_made old list.now p v n) clock }
     ensures row_after { row_of row.new ≡ made_to (row_of row.old) v n }
-    ensures newest_after { lent.new.newest ≡ fill_to lent.old.newest short v }
-    ensures free_after { lent.new.free ≡ fill_to lent.old.free (λ j. short (n - 1 - j)) result.free }
-    ensures rest_kept { (lent.new.queue ≡ lent.old.queue) × (lent.new.lens ≡ lent.old.lens) × (lent.new.merged ≡ lent.old.merged) }
+    ensures newest_after { newest.new ≡ fill_to newest.old short v }
+    ensures free_after { free.new ≡ fill_to free.old (λ j. short (n - 1 - j)) result.free }
 {
     let mut rows = [0u32; 1024];
     total_list::fill_rows(&mut rows, list);
@@ -56,8 +56,8 @@ pub fn set_up(
         rights,
     };
     let hub = Hub::fresh(site, clock);
-    arrays::fill_newest(&mut lent.newest, v as usize);
-    arrays::fill_free(&mut lent.free, n as usize, hub.free);
+    arrays::fill_newest(newest, v as usize);
+    arrays::fill_free(free, n as usize, hub.free);
     all_versions::set_up(row, v as usize, n as usize);
     hub
 }

@@ -41,7 +41,7 @@ pub loop-k-preserved-in-Some : goal.loop-k-preserved-in-Some
 loop-k-preserved-in-Some c =
     let u = c.set_up-hub.ensures in
     let i = c.loop-k.invariant in
-    went_up i _ c.run_stretch-e.ensures.went _ c.in-Some.is _ _ _ u.value u.row_after u.newest_after u.free_after u.rest_kept
+    went_up i _ c.run_stretch-e.ensures.went _ c.in-Some.is _ _ _ u.value u.row_after u.newest_after u.free_after (refl, refl, refl)
 
 pub loop-k-smaller : goal.loop-k-smaller
 loop-k-smaller c =
